@@ -1,0 +1,4 @@
+pub mod Arithmetic
+pub mod Content
+pub mod FaultNames
+pub mod TrapNames
