@@ -1,7 +1,7 @@
--- What a storage unit holds.
+-- What a storage unit holds: nothing, an integer or a truth value.
 use Rattle.std.specs.Prelude.{ℤ, Bool}
 
 pub data Content : Type 0 where
-  Undefined : Content
+  Nothing : Content
   Whole : ℤ → Content
   Truth : Bool → Content

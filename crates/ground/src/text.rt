@@ -1,14 +1,13 @@
 // Texts and lists.
-ghost use Rattle.std.specs.Prelude.{◌≡◌, IfOk};
+ghost use Rattle.std.specs.Prelude.{◌≡◌};
 
-use std::alloc::{AllocError, Global};
 use std::marker::Model;
 
 /// A list, which contracts read as its items.
 pub type List<T> = Vec<T>;
 
 /// A text, which contracts see as the list of its bytes.
-#[derive(Debug, Drop)]
+#[derive(Clone, Debug, Drop)]
 pub struct Text {
     bytes: Vec<u8>,
 }
@@ -27,14 +26,6 @@ impl Text {
         ensures { result ≡ bytes.items }
     {
         Text { bytes }
-    }
-
-    /// A text of its own with the same bytes.
-    pub fn copied(&self, alloc: Global) -> Result<Text, AllocError>
-        ensures { IfOk result (λ copy. copy ≡ self.now) }
-    {
-        let bytes = Vec::from_slice(alloc, &self.bytes)?;
-        Ok(Text { bytes })
     }
 
     pub fn as_bytes(&self) -> &[u8]

@@ -10,14 +10,14 @@ pub enum Dialect {
 }
 
 /// A token, with the place of its first byte; one that came from a macro has the place of the use.
-#[derive(Debug, Drop)]
+#[derive(Clone, Debug, Drop)]
 pub struct Token {
     pub kind: TokenKind,
     pub place: Place,
 }
 
 /// What a token is.
-#[derive(Debug, Drop)]
+#[derive(Clone, Debug, Drop)]
 pub enum TokenKind {
     /// A letter followed by letters and digits, as written but for its underscores.
     Word(Text),

@@ -8,5 +8,5 @@ returns c =
     let a_fits : FitsSigned w64 c.args.a = c.ranges.a in
     let b_fits : FitsSigned w64 c.args.b = c.ranges.b in
     let fits : FitsSigned w64 (c.args.a *ℤ c.args.b) =
-        fits_signed_mul w64 c.args.a c.args.b 2147483647 2147483647 c.requires.first.magnitude c.requires.second.magnitude (lit< tt) in
+    fits_signed_mul w64 c.args.a c.args.b 2147483647 2147483647 c.requires.first.magnitude c.requires.second.magnitude (lit< tt) in
     simp to_z-of_z at c.in_range.ensures
