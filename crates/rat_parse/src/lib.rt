@@ -1,6 +1,7 @@
 //! Ratfor's first texts: one main program of assignments, writes and stops, read from its bytes.
 #![tactic(auto)]
 
+mod line;
 mod piece;
 mod program;
 
