@@ -1,2 +1,4 @@
+pub mod RangeLemmas
 pub mod PieceLemmas
 pub mod LineLemmas
+pub mod TextLemmas

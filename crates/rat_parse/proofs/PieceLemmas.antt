@@ -1,8 +1,8 @@
 -- Facts on the pieces of a line.
 use Rattle.std.proofs.Common.{◌≡◌, ℕ, ◌+◌, ◌-◌, ◌*◌, ◌<◌, ◌≤◌, true, false, List, [], ◌∷◌, ◌++◌, length, take, drop, get_or, sym, ◌∙◌, ap, arith, nat_le, append_assoc, length-drop}
 use Rattle.std.proofs.lemmas.Bool.Decides.{nat_tests}
-use Rattle.std.proofs.lemmas.List.{take_more, get_or-drop}
 use Rattle.std.proofs.lemmas.List.{drop_more}
+use Rattle.rat_parse.proofs.RangeLemmas.{range_grows}
 use Rattle.ground.specs.Arithmetic.{greatest}
 use Rattle.rat_parse.specs.declared.piece.Piece.{Piece}
 use Rattle.rat_parse.specs.declared.piece.Piece.TheVariants.{Number, TooLarge}
@@ -31,13 +31,7 @@ module _ (line : List ℕ) (start i : ℕ) (behind : start ≤ i) (within : i < 
   here = drop_more line i 0 within
 
   longer : run_to (i + 1) ≡ run_to i ++ get_or line i 0 ∷ []
-  longer =
-      let behind_more : i + 1 - start ≡ (i - start) + 1 = omega arith in
-      let inside : i - start < length (drop start line) = omega (arith, length-drop start line) in
-      let at : start + (i - start) ≡ i = omega arith in
-      ap (λ (n : ℕ). take n (drop start line)) behind_more
-      ∙ take_more (drop start line) (i - start) 0 inside
-      ∙ ap (λ (c : ℕ). take (i - start) (drop start line) ++ c ∷ []) (get_or-drop start line (i - start) 0 ∙ ap (λ (n : ℕ). get_or line n 0) at)
+  longer = range_grows line start i behind within
 
   -- a character of the run
   pub run_goes_on : (done all : List Piece) → in_run (get_or line i 0) ≡ true → done ++ pieces_from (run_to i) (drop i line) ≡ all → done ++ pieces_from (run_to (i + 1)) (drop (i + 1) line) ≡ all

@@ -1,3 +1,4 @@
 pub mod Program
 pub mod Pieces
 pub mod Lines
+pub mod Texts

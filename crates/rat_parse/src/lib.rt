@@ -4,5 +4,7 @@
 mod line;
 mod piece;
 mod program;
+mod text;
 
 pub use program::{Act, Join, Operand, Program, Statement, Term};
+pub use text::parse;
