@@ -5,3 +5,6 @@ pub mod Editing
 pub mod World
 pub mod Records
 pub mod FirstLaws
+pub mod Forms
+pub mod Constants
+pub mod Views
