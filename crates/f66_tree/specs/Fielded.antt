@@ -1,4 +1,4 @@
--- The text of a content, and the content of a field (X3.9-1966, section 7.2.3.4 and on).
+-- The text of a content, and the content of a field (X3.9-1966, sections 7.2.3.6 to 7.2.3.9).
 use Rattle.std.specs.Prelude.{ℕ, ◌+◌, ◌-◌, ◌*◌, Bool, true, false, ◌&&◌, List, [], ◌∷◌, ◌++◌, replicate, length, take, ℤ, pos, negsuc, neg_ℤ, Result, Ok, Err, Option, Some, None, nat_eq, nat_le, if◌then◌else◌}
 use Rattle.std.specs.Fmt.{signed_decimal}
 use Rattle.ground.specs.declared.trap.Trap.{Trap}

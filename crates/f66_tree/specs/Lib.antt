@@ -8,3 +8,8 @@ pub mod FirstLaws
 pub mod Forms
 pub mod Constants
 pub mod Views
+pub mod Units
+pub mod Evaluation
+pub mod Statements
+pub mod Execution
+pub mod Agreement

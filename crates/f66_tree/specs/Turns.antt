@@ -1,4 +1,4 @@
--- The turns of a READ or WRITE: what comes for each item, and at the end (X3.9-1966, sections 7.1.3 and 7.2.3).
+-- The turns of a READ or WRITE: what comes for each item, and at the end (X3.9-1966, section 7.2.3.4).
 use Rattle.std.specs.Prelude.{ℕ, ◌+◌, Bool, true, false, List, [], ◌∷◌, ◌++◌, replicate, length, drop, ℤ, Result, Ok, Err, Option, Some, None, nat_le, if◌then◌else◌}
 use Rattle.ground.specs.declared.trap.Trap.{Trap}
 use Rattle.ground.specs.declared.trap.Trap.TheVariants.{FormatMismatch, LongRecord}
