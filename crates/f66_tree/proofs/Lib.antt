@@ -1,0 +1,4 @@
+pub mod Prefixes
+pub mod Stores
+pub mod EditingLemmas
+pub mod Rows

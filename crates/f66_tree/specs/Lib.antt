@@ -1,0 +1,15 @@
+pub mod Fields
+pub mod Fielded
+pub mod Turns
+pub mod Editing
+pub mod World
+pub mod Records
+pub mod FirstLaws
+pub mod Forms
+pub mod Constants
+pub mod Views
+pub mod Units
+pub mod Evaluation
+pub mod Statements
+pub mod Execution
+pub mod Agreement

@@ -1,0 +1,63 @@
+// Programs of Ratfor.
+
+use f66_tree::{Expr, Header, Name, Par, StmtKind};
+use ground::{List, Place};
+
+/// A program (Kernighan, Ratfor: A Preprocessor for a Rational Fortran, 1975).
+#[derive(Debug, Drop)]
+pub struct RatProgram {
+    pub units: List<RatUnit>,
+    /// Where the text ends.
+    pub finish: Place,
+}
+
+/// A unit: its header, and its statements, declarations among them.
+#[derive(Debug, Drop)]
+pub struct RatUnit {
+    pub header: Header,
+    pub body: List<RatStmt>,
+    pub place: Place,
+}
+
+/// A statement with its label.
+#[cycle(tree)]
+#[derive(Debug, Drop)]
+pub struct RatStmt {
+    pub label: Option<u32>,
+    pub place: Place,
+    pub kind: RatKind,
+}
+
+/// What a statement is.
+#[cycle(tree)]
+#[derive(Debug, Drop)]
+pub enum RatKind {
+    Empty,
+    Block(List<RatStmt>),
+    If(Expr, Box<RatStmt>, Option<Box<RatStmt>>),
+    While(Expr, Box<RatStmt>),
+    /// The first part, the condition, the step, and the body.
+    For(Option<StmtKind>, Option<Expr>, Option<StmtKind>, Box<RatStmt>),
+    /// The body, and the condition of `until` with the place of that word.
+    Repeat(Box<RatStmt>, Option<(Expr, Place)>),
+    /// The variable, the three parameters, and the body.
+    Do(Name, Par, Par, Par, Box<RatStmt>),
+    Switch(Expr, List<RatCase>),
+    /// How many loops are left.
+    Break(u32),
+    /// Which loop goes on, counted from the inside.
+    Next(u32),
+    Return(Option<Expr>),
+    /// A statement of FORTRAN that is none of the above.
+    Plain(StmtKind),
+}
+
+/// A clause of a switch: its case expressions, whether it is the default, and its statements.
+#[cycle(tree)]
+#[derive(Debug, Drop)]
+pub struct RatCase {
+    pub tests: List<Expr>,
+    pub fallback: bool,
+    pub body: List<RatStmt>,
+    pub place: Place,
+}
