@@ -8,3 +8,4 @@ pub mod SinkContent
 pub mod SourceContent
 pub mod Tally
 pub mod Failing
+pub mod Records

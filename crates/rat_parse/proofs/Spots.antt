@@ -4,6 +4,7 @@ use Rattle.std.proofs.lemmas.Bool.Decides.{nat_tests}
 use Rattle.std.proofs.Math.Nat.{pow-suc}
 use Rattle.std.proofs.lemmas.Bool.Decides.{same_from_decides, Decides-eqb, Decides-like}
 use Rattle.std.proofs.lemmas.Slice.Eq.{bytes_eq-Decides}
+use Rattle.std.specs.Bool.{Decides}
 use Rattle.std.specs.Str.{bytes_eq}
 use Rattle.rat_parse.specs.Meaning.{spot_of}
 
@@ -36,6 +37,8 @@ spots_differ (c ∷ cs) (d ∷ ds) is =
     cc (same.0, tails)
 
 -- the test of two spots is that of their names
-pub same_spot : (xs ys : List ℕ) → nat_eq (spot_of xs) (spot_of ys) ≡ bytes_eq xs ys
+pub same_spot : (xs ys : List ℕ) → nat_eq (spot_of xs) (spot_of ys) ≡ bytes_eq ys xs
 same_spot xs ys =
-    same_from_decides (nat_eq (spot_of xs) (spot_of ys)) (bytes_eq xs ys) (Decides-like (nat_eq (spot_of xs) (spot_of ys)) (spots_differ xs ys) (ap spot_of) (Decides-eqb (spot_of xs) (spot_of ys))) (bytes_eq-Decides xs ys)
+    let spots : Decides (nat_eq (spot_of xs) (spot_of ys)) (ys ≡ xs) =
+        Decides-like (nat_eq (spot_of xs) (spot_of ys)) (λ is. sym (spots_differ xs ys is)) (λ is. ap spot_of (sym is)) (Decides-eqb (spot_of xs) (spot_of ys)) in
+    same_from_decides (nat_eq (spot_of xs) (spot_of ys)) (bytes_eq ys xs) spots (bytes_eq-Decides ys xs)

@@ -37,6 +37,9 @@ abbrev pub sum_from : Place → ℤ → List Term → World → Out ℤ
 sum_from p a [] w = Gives a w
 sum_from p a (t ∷ ts) w = bind (value_of p t.operand (counted w)) (λ b w1. bind (settle p (lifted (joined t.join a b)) w1) (λ c w2. sum_from p c ts w2))
 
+abbrev pub sum_of : Place → Operand → List Term → World → Out ℤ
+sum_of p first terms w = bind (value_of p first w) (λ a w1. sum_from p a terms w1)
+
 abbrev pub stored : List ℕ → ℤ → World → World
 stored name z w = holding (put_in (spot_of name) (Whole z) w.state.store) w
 
@@ -45,8 +48,7 @@ recorded r w = taping (record w.state.tape { written = w.state.tape.written ++ r
 
 -- one statement; to begin it adds one to the work, and so does each part of it. A format does nothing.
 abbrev pub does : Place → Command → World → Out ⊤
-does p (Assigns name first terms) w =
-    bind (value_of p first (counted (counted w))) (λ a w1. bind (sum_from p a terms w1) (λ z w2. Gives tt (stored name z w2)))
+does p (Assigns name first terms) w = bind (sum_of p first terms (counted (counted w))) (λ z w1. Gives tt (stored name z w1))
 does p Stops w = Halts (Ended Done) (counted w)
 does p (Writes name) w = bind (value_of p (Variable name) (counted w)) (λ z w1. Gives tt (recorded (whole_text 11 z) w1))
 does p Formats w = Gives tt w

@@ -6,5 +6,5 @@ mod piece;
 mod program;
 mod text;
 
-pub use program::{Act, Join, Operand, Program, Statement, Term};
+pub use program::{Act, Join, Number, Operand, Program, Statement, Term};
 pub use text::parse;

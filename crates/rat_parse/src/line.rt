@@ -25,7 +25,7 @@ pub fn said_by(alloc: Global, pieces: &[Piece]) -> Result<Said, AllocError>
     match pieces {
         [] => Ok(Said::Blank),
         [Piece::Word(word), rest @ ..] => said_by_word(alloc, word, rest),
-        [Piece::Number(9), rest @ ..] => Ok(format(rest)),
+        [first, rest @ ..] if is_number(first, 9) => Ok(format(rest)),
         _ => Ok(Said::Other),
     }
 }
@@ -163,7 +163,7 @@ fn is_number(piece: &Piece, other: u32) -> bool
     ensures { result ≡ number_is other piece.now }
 {
     match piece {
-        Piece::Number(number) => *number == other,
+        Piece::Number(number) => number.value() == other,
         _ => false,
     }
 }

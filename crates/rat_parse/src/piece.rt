@@ -2,6 +2,7 @@
 ghost use Rattle.std.specs.Prelude.{◌≡◌, ◌++◌, OnOk, IfOk, map};
 ghost use Rattle.rat_parse.specs.Pieces.{in_run, is_digit as digit, capital as capital_of, digits_before as digits_in, number_of, number_piece, pieces_of_run, pieces_of_mark, pieces_of_line};
 
+use crate::program::Number;
 use ground::Text;
 use std::alloc::{AllocError, Global};
 
@@ -12,9 +13,8 @@ const GREATEST: u32 = 2_147_483_647;
 pub enum Piece {
     /// A letter followed by letters and digits, in capitals.
     Word(Text),
-    /// A number of at most 2147483647.
-    Number(u32),
-    /// A greater number.
+    Number(Number),
+    /// A number above 2147483647.
     TooLarge,
     /// A character that is no letter, no digit and no blank.
     Mark(u8),
@@ -77,7 +77,7 @@ fn number(digits: &[u8]) -> Piece
         }
         number = value as u32;
     }
-    Piece::Number(number)
+    Piece::Number(Number::new(number))
 }
 
 fn capitals(alloc: Global, word: &[u8]) -> Result<Text, AllocError>

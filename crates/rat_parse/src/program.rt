@@ -1,6 +1,43 @@
 // The tree of a program of the first texts.
 
+ghost use Rattle.std.specs.Prelude.{◌≡◌, ◌≤◌};
+
 use ground::{List, Place, Text};
+use std::marker::Model;
+
+/// A number that an integer can be: at most 2147483647.
+#[derive(Clone, Copy, Debug)]
+pub struct Number {
+    value: u32,
+}
+
+impl Model for Number {
+    ghost use Rattle.std.specs.Prelude.{ℕ, ◌≤◌};
+
+    ghost Value = { ℕ };
+
+    ghost view = { λ n. n.value };
+
+    ghost invariant = { λ n. n.value ≤ 2147483647 };
+
+    ghost inverse = { λ value. record { value = value } };
+}
+
+impl Number {
+    pub fn new(value: u32) -> Self
+        requires { value ≤ 2147483647 }
+        ensures { result ≡ value }
+    {
+        Number { value }
+    }
+
+    pub fn value(self) -> u32
+        ensures value { result ≡ self }
+        ensures range { result ≤ 2147483647 }
+    {
+        self.value
+    }
+}
 
 /// How an operand joins the sum before it.
 #[derive(Clone, Copy, Debug, PartialEq, Eq)]
@@ -9,10 +46,10 @@ pub enum Join {
     Minus,
 }
 
-/// A part of a sum: a number of at most 2147483647, or a name in capitals.
+/// A part of a sum: a number, or a name in capitals.
 #[derive(Debug, Drop)]
 pub enum Operand {
-    Constant(u32),
+    Constant(Number),
     Variable(Text),
 }
 

@@ -1,0 +1,4 @@
+//! The whole program as one call.
+#![tactic(auto)]
+
+mod walk;
