@@ -1,1 +1,2 @@
 mod WalkLemmas
+mod Statuses

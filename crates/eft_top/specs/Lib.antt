@@ -1,2 +1,9 @@
+pub mod Codes
+pub mod Lines
 pub mod Variables
 pub mod Walk
+pub mod Words
+pub mod Outcome
+pub mod Causes
+pub mod Story
+pub mod Report

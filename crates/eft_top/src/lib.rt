@@ -1,4 +1,12 @@
-//! The whole program as one call.
+//! The whole program as one call: from the words of the command line to what out and diag get and the exit code.
 #![tactic(auto)]
 
+mod answer;
+mod deliver;
+mod status;
+mod top;
 mod walk;
+mod words;
+
+pub use status::Status;
+pub use top::eft;

@@ -1,0 +1,65 @@
+// The one public call: the words, the library, and the streams.
+ghost use Rattle.std.specs.Prelude.{◌≡◌, ◌≢◌, ◌⊎◌, ℕ, [], ◌∷◌, None, Some, IfSome};
+ghost use Rattle.ports.specs.Causes.{Rose};
+ghost use Rattle.ports.specs.Puts.{PutsPrefix};
+ghost use Rattle.eft_top.specs.Lines.{output_fault_line};
+ghost use Rattle.eft_top.specs.Outcome.{status_of, IfAsked};
+ghost use Rattle.eft_top.specs.Words.{command_of, texts};
+ghost use Rattle.eft_top.specs.Causes.{Comes, IsOfText, IsShown, ForOut, ForDiag, fixed_line};
+ghost use Rattle.eft_top.specs.Report.{IsNotBuilt};
+ghost use Rattle.ground.specs.declared.trap.Trap.{Trap as ATrap};
+
+use crate::Status;
+use crate::answer::answer_to;
+use crate::deliver::deliver;
+use ports::{Failed, Library, Sink, Source};
+use std::alloc::Global;
+
+/// All that the program does. The words are those after the program's name; out gets the records of a run, one put
+/// each, and diag at most one line. Want of memory may come at any time before the first put.
+pub fn eft<L: Library, S: Source, K: Sink, D: Sink>(
+    alloc: Global,
+    words: &Vec<String>,
+    library: &mut L,
+    input: &mut S,
+    out: &mut K,
+    diag: &mut D,
+) -> Status
+    // When each status comes.
+    ensures usage { Comes result Status.Usage (command_of (texts words.now.items) ≡ None) (Status.OutputFault ∷ Status.Memory ∷ []) }
+    ensures source_fault { IfAsked (command_of (texts words.now.items)) (L.files library.old) (λ outcome.
+        Comes result Status.SourceFault (status_of outcome ≡ Some Status.SourceFault) (Status.LibraryFault ∷ Status.OutputFault ∷ Status.Memory ∷ [])) }
+    ensures done { IfAsked (command_of (texts words.now.items)) (L.files library.old) (λ outcome.
+        Comes result Status.Done (status_of outcome ≡ Some Status.Done) (Status.LibraryFault ∷ Status.OutputFault ∷ Status.Memory ∷ [])) }
+    ensures trapped { (trap : ATrap) → IfAsked (command_of (texts words.now.items)) (L.files library.old) (λ outcome.
+        Comes result (Status.Trapped trap) (status_of outcome ≡ Some (Status.Trapped trap)) (Status.LibraryFault ∷ Status.OutputFault ∷ Status.Memory ∷ [])) }
+    ensures library_fault { result ≡ Status.LibraryFault → Rose (L.faults library.old) (L.faults library.new) }
+    ensures output_fault { result ≡ Status.OutputFault → Rose (K.faults out.old) (K.faults out.new) ⊎ Rose (D.faults diag.old) (D.faults diag.new) }
+    // No program reads input, stops with a number or meets a limit of steps yet.
+    ensures not_built { IsNotBuilt result → ⊥ }
+
+    // With any other status no put of this call failed, and with a text's status no fetch.
+    ensures all_put_out { result ≢ Status.OutputFault → K.faults out.new ≡ K.faults out.old }
+    ensures all_put_diag { result ≢ Status.OutputFault → D.faults diag.new ≡ D.faults diag.old }
+    ensures all_fetched { IsOfText result → L.faults library.new ≡ L.faults library.old }
+
+    // What out and diag got, and nothing else.
+    ensures text_shown { IsOfText result → IsShown (command_of (texts words.now.items)) (L.files library.old) result
+        (λ bytes. K.puts out.old bytes out.new) (λ bytes. D.puts diag.old bytes diag.new) }
+    ensures line_shown { IfSome (fixed_line result) (λ line. K.puts out.old [] out.new × D.puts diag.old line diag.new) }
+    ensures failed_out { result ≡ Status.OutputFault → ForOut (command_of (texts words.now.items)) (L.files library.old) (λ bytes.
+        PutsPrefix K.puts out.old bytes out.new) }
+    ensures failed_front { result ≡ Status.OutputFault → ForDiag (command_of (texts words.now.items)) (L.files library.old) (λ line.
+        PutsPrefix D.puts diag.old line diag.new) }
+    ensures failed_diag { result ≡ Status.OutputFault → Rose (D.faults diag.old) (D.faults diag.new) ⊎ D.puts diag.old output_fault_line diag.new }
+
+    // What became of the objects.
+    ensures library { L.becomes library.old library.new }
+    ensures input { input.new ≡ input.old }
+{
+    let report = answer_to(alloc, words, library);
+    match deliver(&report.records, report.line.as_bytes(), out, diag) {
+        Ok(()) => report.status,
+        Err(Failed) => Status::OutputFault,
+    }
+}
