@@ -1,13 +1,11 @@
 -- From what came of a call to the clauses of the top call.
-use Rattle.std.proofs.Common.{◌≡◌, ℕ, List, [], ◌∷◌, ◌++◌, ◌⊎◌, inl, inr, refl, sym, ◌∙◌, ap, subst, Some, None, IfSome}
+use Rattle.std.proofs.Common.{◌≡◌, ℕ, List, ◌⊎◌, inl, inr, refl, sym, ap, subst, Some, None, IfSome}
 use Rattle.std.specs.declared.option.Option.{Option}
-use Rattle.ports.specs.Causes.{Rose}
-use Rattle.ports.specs.Puts.{PutsPrefix}
 use Rattle.eft_top.specs.declared.status.Status.{Status}
 use Rattle.eft_top.specs.Words.{Command, file_in}
-use Rattle.eft_top.specs.Outcome.{Outcome, text_outcome, outcome_of, IfAsked, IsOutcome}
+use Rattle.eft_top.specs.Outcome.{text_outcome, IfAsked, IsOutcome}
 use Rattle.eft_top.specs.Lines.{output_fault_line}
-use Rattle.eft_top.specs.Causes.{IsToldOutcome, ForOut, ForDiag}
+use Rattle.eft_top.specs.Causes.{ForOut, ForDiag}
 use Rattle.eft_top.specs.Story.{Story, Came, BadWords, NotFetched, NoMemory, Shows}
 
 -- the text that a fetch gave is the told one

@@ -1,7 +1,6 @@
 -- The lines that diag gets.
 use Rattle.std.specs.Prelude.{ℕ, List, [], ◌∷◌, ◌++◌, codes}
 use Rattle.std.specs.Fmt.{decimal}
-use Rattle.ground.specs.declared.fault.Fault.{Fault}
 use Rattle.ground.specs.declared.fault.FaultKind.{FaultKind}
 use Rattle.ground.specs.declared.trap.Trap.{Trap}
 use Rattle.ground.specs.FaultNames.{fault_number, fault_word}

@@ -1,9 +1,8 @@
 -- What a report shows.
-use Rattle.std.specs.Prelude.{◌≡◌, ◌⊎◌, ℕ, List, Some, string_bytes}
-use Rattle.ground.specs.declared.trap.Trap.{Trap}
+use Rattle.std.specs.Prelude.{◌≡◌, ℕ, List, Some, string_bytes}
 use Rattle.ports.specs.Left.{joined}
 use Rattle.eft_top.specs.declared.status.Status.{Status}
-use Rattle.eft_top.specs.declared.status.Status.TheVariants.{Done, Usage, SourceFault, LibraryFault, InputFault, OutputFault, StepLimit, Memory, Stopped, Trapped}
+use Rattle.eft_top.specs.declared.status.Status.TheVariants.{InputFault, StepLimit, Stopped}
 use Rattle.eft_top.specs.declared.answer.Line.{Line}
 use Rattle.eft_top.specs.declared.answer.Line.TheVariants.{Made, Fixed}
 use Rattle.eft_top.specs.declared.answer.Report.{Report}

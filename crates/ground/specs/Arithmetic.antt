@@ -1,5 +1,5 @@
 -- Arithmetic on integers of a bounded magnitude, each operation with its traps.
-use Rattle.std.specs.Prelude.{ℕ, ◌≤◌, zero, suc, ℤ, pos, negsuc, ◌+ℤ◌, ◌-ℤ◌, ◌*ℤ◌, unsigned_abs, int_div, int_rem, nat_le, if◌then◌else◌, Result, Ok, Err}
+use Rattle.std.specs.Prelude.{ℕ, ◌≤◌, zero, ℤ, pos, negsuc, ◌+ℤ◌, ◌-ℤ◌, ◌*ℤ◌, unsigned_abs, int_div, int_rem, nat_le, if◌then◌else◌, Result, Ok, Err}
 use Rattle.std.specs.Int.{int_pow}
 use Rattle.ground.specs.declared.trap.Trap.{Trap}
 use Rattle.ground.specs.declared.trap.Trap.TheVariants.{Overflow, Division, Power}

@@ -1,5 +1,5 @@
 -- Facts on the terms of a sum.
-use Rattle.std.proofs.Common.{◌≡◌, ℕ, ◌-◌, ◌≤◌, List, [], ◌∷◌, ◌++◌, length, take, drop, get_or, refl, sym, ◌∙◌, ap, arith, append_assoc, Option, Some, None}
+use Rattle.std.proofs.Common.{◌≡◌, ◌-◌, ◌≤◌, List, [], ◌∷◌, ◌++◌, length, take, drop, get_or, refl, sym, ◌∙◌, ap, arith, append_assoc, Option, Some, None}
 use Rattle.std.proofs.lemmas.List.{take_all}
 use Rattle.std.specs.Option.{option_map}
 use Rattle.rat_parse.specs.declared.piece.Piece.{Piece}

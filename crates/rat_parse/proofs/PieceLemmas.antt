@@ -1,11 +1,11 @@
 -- Facts on the pieces of a line.
-use Rattle.std.proofs.Common.{◌≡◌, ℕ, ◌+◌, ◌-◌, ◌*◌, ◌<◌, ◌≤◌, true, false, List, [], ◌∷◌, ◌++◌, length, take, drop, get_or, sym, ◌∙◌, ap, arith, nat_le, append_assoc, length-drop}
+use Rattle.std.proofs.Common.{◌≡◌, ℕ, ◌+◌, ◌-◌, ◌*◌, ◌<◌, ◌≤◌, true, false, List, [], ◌∷◌, ◌++◌, length, take, drop, get_or, sym, ◌∙◌, ap, arith, nat_le, append_assoc}
 use Rattle.std.proofs.lemmas.Bool.Decides.{nat_tests}
 use Rattle.std.proofs.lemmas.List.{drop_more}
 use Rattle.rat_parse.proofs.RangeLemmas.{range_grows}
 use Rattle.ground.specs.Arithmetic.{greatest}
 use Rattle.rat_parse.specs.declared.piece.Piece.{Piece}
-use Rattle.rat_parse.specs.declared.piece.Piece.TheVariants.{Number, TooLarge}
+use Rattle.rat_parse.specs.declared.piece.Piece.TheVariants.{TooLarge}
 use Rattle.rat_parse.specs.Pieces.{number_from, number_of, number_piece, in_run, pieces_of_run, pieces_of_mark, pieces_from}
 
 -- more digits make no number smaller

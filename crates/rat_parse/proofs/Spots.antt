@@ -1,6 +1,5 @@
 -- Different names have different storage units.
-use Rattle.std.proofs.Common.{◌≡◌, ◌≢◌, ℕ, zero, suc, ◌+◌, ◌*◌, ◌^◌, ◌<◌, Bool, true, false, nat_eq, List, [], ◌∷◌, refl, sym, ◌∙◌, ap, arith}
-use Rattle.std.proofs.lemmas.Bool.Decides.{nat_tests}
+use Rattle.std.proofs.Common.{◌≡◌, ℕ, zero, suc, ◌+◌, ◌*◌, ◌^◌, ◌<◌, nat_eq, List, [], ◌∷◌, refl, sym, ◌∙◌, ap, arith}
 use Rattle.std.proofs.Math.Nat.{pow-suc}
 use Rattle.std.proofs.lemmas.Bool.Decides.{same_from_decides, Decides-eqb, Decides-like}
 use Rattle.std.proofs.lemmas.Slice.Eq.{bytes_eq-Decides}
@@ -40,5 +39,5 @@ spots_differ (c ∷ cs) (d ∷ ds) is =
 pub same_spot : (xs ys : List ℕ) → nat_eq (spot_of xs) (spot_of ys) ≡ bytes_eq ys xs
 same_spot xs ys =
     let spots : Decides (nat_eq (spot_of xs) (spot_of ys)) (ys ≡ xs) =
-        Decides-like (nat_eq (spot_of xs) (spot_of ys)) (λ is. sym (spots_differ xs ys is)) (λ is. ap spot_of (sym is)) (Decides-eqb (spot_of xs) (spot_of ys)) in
+    Decides-like (nat_eq (spot_of xs) (spot_of ys)) (λ is. sym (spots_differ xs ys is)) (λ is. ap spot_of (sym is)) (Decides-eqb (spot_of xs) (spot_of ys)) in
     same_from_decides (nat_eq (spot_of xs) (spot_of ys)) (bytes_eq ys xs) spots (bytes_eq-Decides ys xs)

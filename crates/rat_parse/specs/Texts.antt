@@ -1,8 +1,7 @@
 -- The first texts: which bytes are a program, and what any other text is refused for.
-use Rattle.std.specs.Prelude.{◌≡◌, ◌≢◌, ℕ, ◌+◌, nat_le, Bool, true, false, not, ◌&&◌, ◌||◌, ◌==◌, List, [], ◌∷◌, ◌++◌, length, count_by, find, Option, Some, None, if◌then◌else◌, Result, Ok, Err}
-use Rattle.std.specs.List.{list_any, list_all, flat_map}
+use Rattle.std.specs.Prelude.{◌≡◌, ℕ, ◌+◌, nat_le, Bool, true, false, not, ◌&&◌, ◌||◌, ◌==◌, List, [], ◌∷◌, ◌++◌, length, count_by, find, Option, Some, None, if◌then◌else◌, Result, Ok, Err}
+use Rattle.std.specs.List.{list_any, list_all}
 use Rattle.std.specs.Option.{option_map, option_and_then}
-use Rattle.ground.specs.declared.place.Place.{Place}
 use Rattle.ground.specs.declared.fault.Fault.{Fault}
 use Rattle.ground.specs.declared.fault.FaultKind.{FaultKind}
 use Rattle.ground.specs.declared.fault.FaultKind.TheVariants.{Unbuilt, OutOfProfileType}
@@ -10,11 +9,10 @@ use Rattle.ground.specs.declared.fault.Refusal.{Refusal}
 use Rattle.ground.specs.declared.fault.Refusal.TheVariants.{Fault as Faulty, Memory}
 use Rattle.rat_parse.specs.declared.program.Operand.{Operand}
 use Rattle.rat_parse.specs.declared.program.Operand.TheVariants.{Constant, Variable}
-use Rattle.rat_parse.specs.declared.program.Term.{Term}
 use Rattle.rat_parse.specs.declared.program.Program.{Program}
 use Rattle.rat_parse.specs.Pieces.{is_blank, pieces_of_line}
 use Rattle.rat_parse.specs.Lines.{Says, SaysNothing, SaysCommand, SaysEnd, SaysOther, pieces_say}
-use Rattle.rat_parse.specs.Program.{Command, Assigns, Stops, Writes, Formats, Line, lines_of}
+use Rattle.rat_parse.specs.Program.{Command, Assigns, Writes, Formats, Line, lines_of}
 
 -- the lines of a text, the first one behind some characters: each ends at a byte 10, and the last at the end of the text
 abbrev pub lines_from : List ℕ → List ℕ → List (List ℕ)

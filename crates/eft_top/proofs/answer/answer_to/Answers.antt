@@ -1,4 +1,4 @@
-use Rattle.std.proofs.Common.{rules, ◌≡◌, List, ℕ, sym, ◌∙◌, IfSome, None, Some, Option}
+use Rattle.std.proofs.Common.{rules, ◌≡◌, List, ℕ, IfSome, Some, Option}
 use Rattle.ports.specs.Held.{fetched}
 use Rattle.eft_top.specs.Words.{Command, command_of, texts, asked_command, file_in}
 use Rattle.eft_top.specs.Outcome.{text_outcome}

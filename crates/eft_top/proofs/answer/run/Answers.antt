@@ -1,5 +1,5 @@
-use Rattle.std.proofs.Common.{rules, ◌≡◌, ℕ, List, [], sym, ◌∙◌, ap, string_bytes}
-use Rattle.f66_tree.specs.World.{Shown, End, Ended, Done, Trapped}
+use Rattle.std.proofs.Common.{rules, ◌≡◌, [], sym, ◌∙◌, ap, string_bytes}
+use Rattle.f66_tree.specs.World.{Shown, Ended, Done, Trapped}
 use Rattle.rat_parse.specs.Program.{lines_of}
 use Rattle.rat_parse.specs.Meaning.{ratfor}
 use Rattle.eft_top.specs.Lines.{trap_line}

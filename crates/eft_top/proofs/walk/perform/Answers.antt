@@ -1,16 +1,14 @@
-use Rattle.std.proofs.Common.{rules, ◌≡◌, ℕ, ◌++◌, ◌∷◌, [], List, Option, Some, ℤ, Ok, Err, ◌∙◌, ap, sym, refl, arith, FitsSigned, w64, to_z, of_z, Vec, if◌then◌else◌}
+use Rattle.std.proofs.Common.{rules, ◌≡◌, ℕ, ◌++◌, ◌∷◌, [], List, Some, Ok, Err, ap, refl, arith, FitsSigned, w64, if◌then◌else◌}
 use Rattle.std.proofs.lemmas.Int.{to_z-of_z}
-use Rattle.std.proofs.lemmas.Grind.{common_steps, flat_map-append}
+use Rattle.std.proofs.lemmas.Grind.{common_steps}
 use Rattle.std.proofs.lemmas.Map.Text.{btree_map_updates_str}
 use Rattle.std.specs.Str.{bytes_eq}
-use Rattle.ground.specs.Arithmetic.{IsInRange}
 use Rattle.ports.specs.Left.{joined}
 use Rattle.f66_tree.specs.Fielded.{whole_text}
 use Rattle.f66_tree.specs.World.{counted}
 use Rattle.rat_parse.specs.Program.{command_of, Assigns, Writes, Stops}
-use Rattle.rat_parse.specs.declared.program.Operand.TheVariants.{Variable}
 use Rattle.eft_top.specs.Variables.{value_under}
-use Rattle.eft_top.specs.Walk.{OperandIs, SumIs, known}
+use Rattle.eft_top.specs.Walk.{SumIs, known}
 use Rattle.eft_top.proofs.WalkLemmas.{variable_is, assigns, writes, assign_fails, write_fails, set_in_range}
 use Rattle.eft_top.proofs.walk.perform.Goals as goal
 

@@ -1,8 +1,7 @@
-use Rattle.std.proofs.Common.{rules, ◌≡◌, ℕ, ◌+◌, ◌<◌, List, [], ◌∷◌, length, get_or, drop, ℤ, Ok, Err, ◌∙◌, ap, sym, FitsSigned, w64, to_z, of_z}
+use Rattle.std.proofs.Common.{rules, ◌≡◌, ℕ, ◌+◌, List, [], ◌∷◌, drop, Ok, Err, ◌∙◌, ap, sym, FitsSigned, w64, to_z, of_z}
 use Rattle.std.proofs.lemmas.Int.{to_z-of_z}
 use Rattle.std.proofs.lemmas.List.{drop_more, drop_all}
 use Rattle.ground.specs.Arithmetic.{IsInRange}
-use Rattle.rat_parse.specs.declared.program.Operand.{Operand}
 use Rattle.rat_parse.specs.declared.program.Term.{Term}
 use Rattle.rat_parse.specs.Meaning.{joined}
 use Rattle.eft_top.specs.Variables.{value_under}

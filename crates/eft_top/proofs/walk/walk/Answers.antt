@@ -1,14 +1,12 @@
-use Rattle.std.proofs.Common.{rules, ◌≡◌, ℕ, ◌+◌, ℤ, ◌<◌, List, [], ◌∷◌, map, drop, length, get_or, subst, Option, Some, None, ◌∙◌, ap, sym, refl, Vec}
+use Rattle.std.proofs.Common.{rules, ◌≡◌, ℕ, ◌+◌, ℤ, ◌<◌, List, [], ◌∷◌, map, drop, length, get_or, subst, Option, Some, None, ◌∙◌, ap, sym, refl}
 use Rattle.std.proofs.lemmas.List.{drop_more, drop_all}
-use Rattle.std.specs.declared.alloc.Global.{Global}
-use Rattle.ground.specs.Arithmetic.{IsInRange}
 use Rattle.f66_tree.specs.World.{World}
 use Rattle.rat_parse.specs.declared.program.Statement.{Statement}
-use Rattle.rat_parse.specs.Program.{Line, line_of, lines_of}
+use Rattle.rat_parse.specs.Program.{line_of, lines_of}
 use Rattle.eft_top.specs.declared.walk.RunEnd.{RunEnd}
 use Rattle.eft_top.specs.declared.walk.RunEnd.TheVariants.{Done as IsDone}
 use Rattle.eft_top.specs.Variables.{AllInRange, value_under}
-use Rattle.eft_top.specs.Walk.{Holds, Does, StandsAt}
+use Rattle.eft_top.specs.Walk.{Holds, Does}
 use Rattle.eft_top.proofs.WalkLemmas.{starts, goes_on, run_ends, run_done}
 use Rattle.eft_top.proofs.walk.walk.Goals as goal
 

@@ -1,7 +1,5 @@
-use Rattle.std.proofs.Common.{◌≡◌, ℕ, List, map, drop}
-use Rattle.f66_tree.specs.World.{World}
+use Rattle.std.proofs.Common.{map, drop}
 use Rattle.rat_parse.specs.Program.{line_of, lines_of}
-use Rattle.rat_parse.specs.Meaning.{performs, first_world}
 use Rattle.eft_top.specs.Variables.{AllInRange, value_under}
 use Rattle.eft_top.specs.Walk.{StandsAt}
 use Rattle.eft_top.proofs.walk.walk.Given as goal

@@ -1,5 +1,5 @@
 -- The product of two integers in range fits 64 bits, so the code's product is the exact one.
-use Rattle.std.proofs.Common.{◌≡◌, ◌*ℤ◌, FitsSigned, w64, lit<}
+use Rattle.std.proofs.Common.{◌*ℤ◌, FitsSigned, w64, lit<}
 use Rattle.std.proofs.lemmas.Int.{to_z-of_z, fits_signed_mul}
 use Rattle.ground.proofs.arithmetic.mul.Goals as goal
 

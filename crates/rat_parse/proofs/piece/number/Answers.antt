@@ -1,4 +1,4 @@
-use Rattle.std.proofs.Common.{rules, ◌≡◌, ℕ, ◌+◌, ◌-◌, ◌*◌, ◌<◌, length, get_or, arith}
+use Rattle.std.proofs.Common.{rules, ◌<◌, length}
 use Rattle.rat_parse.proofs.PieceLemmas.{too_large}
 use Rattle.rat_parse.proofs.piece.number.Goals as goal
 

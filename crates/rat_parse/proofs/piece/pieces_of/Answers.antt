@@ -1,5 +1,4 @@
-use Rattle.std.proofs.Common.{rules, ◌≡◌, ◌≤◌, ℕ, ◌+◌, ◌<◌, List, [], ◌∷◌, ◌++◌, length, drop, take, get_or, sym, ◌∙◌, ap, arith, append_assoc, true, false, Bool, ◌-◌}
-use Rattle.rat_parse.specs.declared.piece.Piece.{Piece}
+use Rattle.std.proofs.Common.{rules, ◌≡◌, ◌≤◌, ℕ, ◌+◌, ◌<◌, List, ◌++◌, length, drop, take, get_or, arith, true, false, ◌-◌}
 use Rattle.rat_parse.specs.Pieces.{in_run, pieces_from, pieces_of_run, pieces_of_mark, pieces_of_line}
 use Rattle.rat_parse.proofs.PieceLemmas.{run_goes_on, run_ends}
 use Rattle.rat_parse.proofs.piece.pieces_of.Goals as goal

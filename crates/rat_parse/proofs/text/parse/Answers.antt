@@ -1,6 +1,6 @@
-use Rattle.std.proofs.Common.{rules, ◌≡◌, List, map, Some, Option, sym, ◌∙◌, ap}
+use Rattle.std.proofs.Common.{rules, ◌≡◌, map, Some}
 use Rattle.ground.specs.declared.fault.FaultKind.TheVariants.{OutOfProfileType}
-use Rattle.rat_parse.specs.Program.{Line, line_of}
+use Rattle.rat_parse.specs.Program.{line_of}
 use Rattle.rat_parse.specs.Texts.{program_of}
 use Rattle.rat_parse.proofs.TextLemmas.{accepted, refused}
 use Rattle.rat_parse.proofs.text.parse.Goals as goal

@@ -1,4 +1,4 @@
-use Rattle.std.proofs.Common.{◌≡◌, ◌≤◌, ◌-◌, ◌++◌, List, ℕ, map, take, drop, length}
+use Rattle.std.proofs.Common.{◌≡◌, ◌≤◌, ◌-◌, ◌++◌, map, take, drop, length}
 use Rattle.rat_parse.specs.Texts.{lines_from, lines_of_text}
 use Rattle.rat_parse.proofs.text.split_lines.Given as goal
 

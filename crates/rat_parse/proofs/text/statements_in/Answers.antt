@@ -1,9 +1,7 @@
-use Rattle.std.proofs.Common.{rules, ◌≡◌, ℕ, ◌+◌, ◌-◌, ◌<◌, List, [], length, get_or, map, take, drop, Bor, sym, ◌∙◌, ap, Vec, Option}
+use Rattle.std.proofs.Common.{rules, ◌≡◌, ℕ, List, [], get_or, map, Bor, sym, ◌∙◌, ap, Vec, Option}
 use Rattle.std.specs.declared.alloc.Global.{Global}
-use Rattle.std.specs.List.{list_all}
 use Rattle.std.specs.Option.{option_map}
 use Rattle.rat_parse.specs.declared.program.Statement.{Statement}
-use Rattle.rat_parse.specs.Pieces.{is_blank}
 use Rattle.rat_parse.specs.Lines.{SaysEnd}
 use Rattle.rat_parse.specs.Program.{line_of}
 use Rattle.rat_parse.specs.Texts.{line_says, statements_from}

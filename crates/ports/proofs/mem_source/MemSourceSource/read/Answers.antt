@@ -1,10 +1,10 @@
 -- What was read and what is left make up what was there; and a piece that is not empty gives some byte.
-use Rattle.std.proofs.Common.{◌≡◌, ℕ, ◌+◌, ◌-◌, ◌<◌, ◌≤◌, [], length, take, drop, get_or, sym, ap, ◌∙◌, ◌++◌, List, arith, rules, Vec, vec_len, length-drop}
+use Rattle.std.proofs.Common.{◌≡◌, ℕ, ◌+◌, ◌-◌, ◌<◌, ◌≤◌, length, take, drop, get_or, sym, ap, ◌∙◌, ◌++◌, List, arith, rules, Vec, vec_len, length-drop}
 use Rattle.std.proofs.lemmas.List.{take_all}
 use Rattle.std.specs.declared.alloc.Global.{Global}
 use Rattle.ports.specs.Left.{left_in}
 use Rattle.ports.specs.SourceContent.{SourceContent}
-use Rattle.ports.proofs.Pieces.{read_part, read_rest}
+use Rattle.ports.proofs.Pieces.{read_part}
 use Rattle.ports.proofs.mem_source.MemSourceSource.read.Goals as goal
 
 pub returns-else-self-count-clause-bytes : goal.returns-else-self-count-clause-bytes
