@@ -1,1 +1,3 @@
 mod Examples
+pub mod StepLemmas
+pub mod LineLemmas

@@ -31,17 +31,17 @@ is_continued d cs = elim (last_byte None cs) [ Some b ↦ list_any (λ c. c == b
 
 -- How many parentheses are open after a token. Only Ratfor counts them, and one that closes nothing is not counted.
 abbrev pub open_after : ℕ → TokenKind → ℕ
-open_after open (SignToken Open) = open + 1
-open_after open (SignToken Close) = open - 1
-open_after open _ = open
+open_after n (SignToken Open) = n + 1
+open_after n (SignToken Close) = n - 1
+open_after n _ = n
 
 abbrev pub open_after_all : ℕ → List Token → ℕ
-open_after_all open [] = open
-open_after_all open (t ∷ ts) = open_after_all (open_after open t.kind) ts
+open_after_all n [] = n
+open_after_all n (t ∷ ts) = open_after_all (open_after n t.kind) ts
 
 abbrev pub open_parentheses : Dialect → ℕ → List Token → ℕ
-open_parentheses Ratfor open ts = open_after_all open ts
-open_parentheses Efl open ts = 0
+open_parentheses Ratfor n ts = open_after_all n ts
+open_parentheses Efl n ts = 0
 
 -- What a line gives: its tokens and what the next line starts with, or its tokens and a fault.
 pub data LineReading : Type 0 where
@@ -59,14 +59,14 @@ line_end false file number = token_at file number LineEnd ∷ []
 -- A line of tokens. It gives a LineEnd unless it is continued, or a parenthesis of a Ratfor text is open, or the text
 -- ends without a byte 10.
 abbrev pub plain_line : Dialect → List ℕ → ℕ → ℕ → List Character → LineEnding → LineReading
-plain_line d text file open cs end =
+plain_line d text file opened cs end =
     let r = tokens_of d text file 0 cs in
     elim (r.fault) [
       Some fault ↦ Stops (r.tokens) fault
     | None ↦
-        let open' = open_parentheses d open (r.tokens) in
-        let goes_on = not end.ended || is_continued d cs || nat_lt 0 open' in
-        Goes (r.tokens ++ line_end goes_on file (end.number - 1)) (record { next = end.next; number = end.number; opened = open'; continues = goes_on })
+        let opened' = open_parentheses d opened (r.tokens) in
+        let goes_on = not end.ended || is_continued d cs || nat_lt 0 opened' in
+        Goes (r.tokens ++ line_end goes_on file (end.number - 1)) (record { next = end.next; number = end.number; opened = opened'; continues = goes_on })
     ]
 
 -- An include line: the word, the file's name as a quoted text, and a LineEnd. It is not continued. The name may be longer

@@ -1,5 +1,5 @@
 // Classes of bytes.
-ghost use Rattle.std.specs.Prelude.{◌≡◌, drop};
+ghost use Rattle.std.specs.Prelude.{◌≡◌, ◌≤◌, drop, length};
 ghost use Rattle.std.specs.List.{prefix_len};
 ghost use Rattle.free_scan.specs.Characters.{begins_with as begins_with_byte, is_blank as is_blank_byte, is_line_end as is_line_end_at, is_printable as is_printable_byte, is_quote as is_quote_byte, is_word_byte as is_byte_of_word};
 
@@ -48,7 +48,8 @@ pub fn is_line_end(text: &[u8]) -> bool
 
 /// How many blanks a text begins with.
 pub fn count_blanks(text: &[u8]) -> usize
-    ensures { result ≡ prefix_len is_blank_byte text.now }
+    ensures count { result ≡ prefix_len is_blank_byte text.now }
+    ensures in_range { result ≤ length text.now }
 {
     text.iter().take_while(|byte| is_blank(**byte)).count()
 }

@@ -1,5 +1,8 @@
 // Include lines: the word that makes a line one, and the file's name on it.
 ghost use Rattle.std.specs.Prelude.{◌≡◌, ◌≤◌, length, reverse, None};
+ghost use Rattle.std.specs.List.{prefix_len};
+ghost use Rattle.free_scan.specs.Characters.{is_blank as is_blank_byte};
+ghost use Rattle.free_scan.specs.Lexemes.{is_gap as is_gap_byte};
 ghost use Rattle.free_scan.specs.IncludeNames.{are_pair as are_pair_of, begun as begun_of, file_name as file_name_of, include_word as include_word_of, is_comment as is_comment_byte, name_size as size_of_name, open_quote as open_quote_of, text_size as size_of_text, unwrapped as unwrapped_of, without_first_blanks as without_first_blanks_of, without_last_blanks as without_last_blanks_of};
 
 use crate::characters::{count_blanks, is_blank, is_line_end, is_quote};
@@ -11,8 +14,14 @@ use crate::spellings::is_spelled;
 pub fn begun(characters: &[Character]) -> &[Character]
     ensures { result.now ≡ begun_of characters.now }
 {
-    let gaps = characters.iter().take_while(|c| is_gap(c.byte)).count();
-    &characters[gaps..]
+    &characters[count_gaps(characters)..]
+}
+
+fn count_gaps(characters: &[Character]) -> usize
+    ensures count { result ≡ prefix_len (λ c. is_gap_byte c.byte) characters.now }
+    ensures in_range { result ≤ length characters.now }
+{
+    characters.iter().take_while(|c| is_gap(c.byte)).count()
 }
 
 /// The first and the last character of the word `include`, if it begins here.
@@ -92,12 +101,17 @@ fn without_first_blanks(name: &[u8]) -> &[u8]
 fn without_last_blanks(name: &[u8]) -> &[u8]
     ensures { result.now ≡ without_last_blanks_of name.now }
 {
-    let blanks = name
-        .iter()
+    &name[..name.len() - count_last_blanks(name)]
+}
+
+fn count_last_blanks(name: &[u8]) -> usize
+    ensures count { result ≡ prefix_len is_blank_byte (reverse name.now) }
+    ensures in_range { result ≤ length name.now }
+{
+    name.iter()
         .rev()
         .take_while(|byte| is_blank(**byte))
-        .count();
-    &name[..name.len() - blanks]
+        .count()
 }
 
 fn are_pair(first: u8, last: u8) -> bool
