@@ -1,3 +1,4 @@
 mod Examples
 pub mod StepLemmas
 pub mod LineLemmas
+pub mod TokenLemmas

@@ -16,6 +16,7 @@ pub record IsRead (d : Dialect) (text : List ℕ) (start number at now : ℕ) (c
   pub in_text : at ≤ length text
   pub reached : start ≤ at
   pub counted : now ≤ at + 1
+  pub numbered : 0 < now
   pub within : All (IsWithin start (length text)) cs
 
 -- the bytes of an earlier part are passed over
@@ -58,6 +59,7 @@ module _ (d : Dialect) (text : List ℕ) (start number at now : ℕ) (cs : List 
     in_text = omega arith;
     reached = omega (arith, read.reached);
     counted = omega (arith, read.counted);
+    numbered = omega (arith, read.numbered);
     within = read.within;
   }
 
@@ -67,6 +69,7 @@ module _ (d : Dialect) (text : List ℕ) (start number at now : ℕ) (cs : List 
     in_text = omega arith;
     reached = omega (arith, read.reached);
     counted = omega (arith, read.counted);
+    numbered = omega (arith, read.numbered);
     within = read.within;
   }
 
@@ -77,5 +80,6 @@ module _ (d : Dialect) (text : List ℕ) (start number at now : ℕ) (cs : List 
     in_text = omega arith;
     reached = omega (arith, read.reached);
     counted = omega (arith, read.counted);
-    within = All-push (IsWithin start (length text)) cs _ read.within (record { after_start = omega (arith, read.reached); in_text = omega arith; counted = read.counted });
+    numbered = omega (arith, read.numbered);
+    within = All-push (IsWithin start (length text)) cs _ read.within (record { after_start = omega (arith, read.reached); in_text = omega arith; counted = read.counted; numbered = read.numbered });
   }

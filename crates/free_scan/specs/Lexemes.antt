@@ -6,6 +6,7 @@ use Rattle.ground.specs.declared.fault.Fault.{Fault}
 use Rattle.ground.specs.declared.fault.FaultKind.{FaultKind}
 use Rattle.ground.specs.declared.fault.FaultKind.TheVariants.{BadByte, UnclosedQuote, NumberTooLarge, Limit}
 use Rattle.ground.specs.declared.token.Dialect.{Dialect}
+use Rattle.ground.specs.declared.token.Sign.{Sign}
 use Rattle.ground.specs.declared.token.Token.{Token}
 use Rattle.ground.specs.declared.token.TokenKind.{TokenKind}
 use Rattle.ground.specs.declared.token.TokenKind.TheVariants.{Word, Number, Quoted, Semicolon, Sign as SignToken}
@@ -43,13 +44,13 @@ in_range n = if nat_le n 2147483647 then Some n else None
 abbrev pub digits_size : List Character → ℕ
 digits_size cs = prefix_len (λ c. is_ascii_digit c.byte) cs
 
+abbrev pub number_lexeme : Option ℕ → ℕ → Lexeme
+number_lexeme (Some n) size = Found (Number (pos n)) (size - 1)
+number_lexeme None size = Wrong NumberTooLarge 0
+
 -- one or more digits
 abbrev pub number : List Character → Lexeme
-number cs =
-    elim (in_range (value_after 0 (take (digits_size cs) cs))) [
-      Some n ↦ Found (Number (pos n)) (digits_size cs - 1)
-    | None ↦ Wrong NumberTooLarge 0
-    ]
+number cs = number_lexeme (in_range (value_after 0 (take (digits_size cs) cs))) (digits_size cs)
 
 -- what stands between the quotes, where `bs` follows the opening one
 abbrev pub quoted_text : Dialect → ℕ → List ℕ → List ℕ
@@ -63,8 +64,12 @@ quotation d quote bs =
     else (if nat_le (length (quoted_text d quote bs)) 255 then Found (Quoted (quoted_text d quote bs)) 0
     else Wrong Limit 11))
 
+abbrev pub sign_lexeme : Option (Sign × ℕ) → Lexeme
+sign_lexeme (Some (sign, size)) = Found (SignToken sign) (size - 1)
+sign_lexeme None = Wrong BadByte 0
+
 abbrev pub sign : Dialect → List Character → Lexeme
-sign d cs = elim (longest_sign (spellings d) cs) [ Some x ↦ Found (SignToken (x.0)) (x.1 - 1) | None ↦ Wrong BadByte 0 ]
+sign d cs = sign_lexeme (longest_sign (spellings d) cs)
 
 -- What begins at c, the first of the characters cs; a token also has the number of characters more than c that belong
 -- to it. `text` is the whole text, from which a quoted text is read.

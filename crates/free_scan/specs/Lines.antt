@@ -90,3 +90,11 @@ pub record IsWithin (start size : ℕ) (c : Character) : Type 0 where
   pub after_start : start < c.next
   pub in_text : c.next ≤ size
   pub counted : c.line ≤ c.next
+  pub numbered : 0 < c.line
+
+-- a place of the text from `low` to `high`, in the line of this number
+pub record IsPlace (low high next number : ℕ) : Type 0 where
+  pub after_low : low ≤ next
+  pub in_text : next ≤ high
+  pub counted : number ≤ next + 1
+  pub numbered : 0 < number

@@ -69,16 +69,21 @@ plain_line d text file opened cs end =
         Goes (r.tokens ++ line_end goes_on file (end.number - 1)) (record { next = end.next; number = end.number; opened = opened'; continues = goes_on })
     ]
 
+-- the line after an include line, whose word ends with this character
+abbrev pub line_after : Character → List ℕ → LineStart
+line_after last rest =
+    if nat_lt (line_size rest) (length rest)
+    then record { next = last.next + line_size rest + 1; number = last.line + 1; opened = 0; continues = false }
+    else record { next = last.next + line_size rest; number = last.line; opened = 0; continues = false }
+
 -- An include line: the word, the file's name as a quoted text, and a LineEnd. It is not continued. The name may be longer
 -- than 255 characters.
 abbrev pub include_line : List ℕ → ℕ → List ℕ → Character → Character → LineReading
 include_line text file word first last =
     let rest = drop last.next text in
-    let name = file_name rest in
     let before = token_at file first.line (Word word) ∷ [] in
-    let more = if nat_lt (line_size rest) (length rest) then 1 else 0 in
-    if list_all is_printable name
-    then Goes (before ++ token_at file last.line (Quoted name) ∷ token_at file last.line LineEnd ∷ []) (record { next = last.next + line_size rest + more; number = last.line + more; opened = 0; continues = false })
+    if list_all is_printable (file_name rest)
+    then Goes (before ++ token_at file last.line (Quoted (file_name rest)) ∷ token_at file last.line LineEnd ∷ []) (line_after last rest)
     else Stops before (record { kind = BadByte; place = record { file = file; line = last.line }; number = 0 })
 
 abbrev pub tokens_in : LineReading → List Token
@@ -89,18 +94,20 @@ abbrev pub outcome : LineReading → Outcome
 outcome (Goes tokens after) = GoesOn after
 outcome (Stops tokens fault) = StopsThere fault
 
+abbrev pub line_by_word : Dialect → List ℕ → ℕ → ℕ → Line → Option (Character × Character) → LineReading
+line_by_word d text file opened l (Some (first, last)) = include_line text file (bytes_of (begun l.characters) 7) first last
+line_by_word d text file opened l None = plain_line d text file opened l.characters l.ending
+
+-- the word `include` makes a line that continues no other an include line
+abbrev pub line_of : Dialect → List ℕ → ℕ → LineStart → Line → LineReading
+line_of d text file s l = line_by_word d text file s.opened l (if s.continues then None else include_word (begun l.characters))
+
 -- the line of a text that starts here
 abbrev pub line_reading : Dialect → List ℕ → ℕ → LineStart → LineReading
 line_reading d text file s =
-    let bs = drop s.next text in
-    if begins_with 37 bs then Stops [] (record { kind = PercentLine; place = record { file = file; line = s.number }; number = 0 })
-    else (
-      let l = line d 0 s.next s.number bs in
-      let cs = begun (l.characters) in
-      elim (if s.continues then None else include_word cs) [
-        Some ends ↦ include_line text file (bytes_of cs 7) (ends.0) (ends.1)
-      | None ↦ plain_line d text file s.opened (l.characters) (l.ending)
-      ])
+    if begins_with 37 (drop s.next text)
+    then Stops [] (record { kind = PercentLine; place = record { file = file; line = s.number }; number = 0 })
+    else line_of d text file s (line d 0 s.next s.number (drop s.next text))
 
 -- the tokens of the lines from s on, where `bs` is the text from there on but for its first `gone` bytes
 abbrev pub lines_from : Dialect → List ℕ → ℕ → LineStart → ℕ → List ℕ → Reading
@@ -118,13 +125,6 @@ text_start = record { next = 0; number = 1; opened = 0; continues = false }
 -- The tokens of a text, and the fault at which they stop. Lines and the file have their numbers.
 abbrev pub scanned : Dialect → List ℕ → ℕ → Reading
 scanned d text file = lines_from d text file text_start 0 text
-
--- a place of the text where a line may start, where these tokens were read before
-pub record IsLineStart (text : List ℕ) (tokens : List Token) (s : LineStart) : Type 0 where
-  pub in_text : s.next ≤ length text
-  pub counted : s.number ≤ s.next + 1
-  pub numbered : 0 < s.number
-  pub few_open : s.opened ≤ length tokens
 
 abbrev pub IfGoes : Outcome → (LineStart → Type 0) → Type 0
 IfGoes (GoesOn after) P = P after

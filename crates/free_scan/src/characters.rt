@@ -1,6 +1,6 @@
 // Classes of bytes.
 ghost use Rattle.std.specs.Prelude.{◌≡◌, ◌≤◌, drop, length};
-ghost use Rattle.std.specs.List.{prefix_len};
+ghost use Rattle.std.specs.List.{list_all, prefix_len};
 ghost use Rattle.free_scan.specs.Characters.{begins_with as begins_with_byte, is_blank as is_blank_byte, is_line_end as is_line_end_at, is_printable as is_printable_byte, is_quote as is_quote_byte, is_word_byte as is_byte_of_word};
 
 pub fn is_blank(byte: u8) -> bool
@@ -9,10 +9,17 @@ pub fn is_blank(byte: u8) -> bool
     byte == b' ' || byte == b'\t'
 }
 
-pub fn is_printable(byte: u8) -> bool
+fn is_printable(byte: u8) -> bool
     ensures { result ≡ is_printable_byte byte }
 {
     32 <= byte && byte <= 126
+}
+
+/// Whether each byte is a character that may stand in quotes.
+pub fn are_printable(text: &[u8]) -> bool
+    ensures { result ≡ list_all is_printable_byte text.now }
+{
+    text.iter().all(|byte| is_printable(*byte))
 }
 
 pub fn is_quote(byte: u8) -> bool

@@ -1,8 +1,8 @@
 // The tokens of a line's characters.
-ghost use Rattle.std.specs.Prelude.{◌≡◌, ◌-◌, ◌≤◌, ◌++◌, length, map, IfOk, OnOk};
-ghost use Rattle.free_scan.specs.Lexemes.{in_range, is_gap as is_gap_byte, lexeme as lexeme_of, more_of, number as number_of, quotation as quotation_of, sign as sign_of, tokens_of, value_after, word as word_of, word_size as size_of_word};
+ghost use Rattle.std.specs.Prelude.{◌≡◌, ◌-◌, ◌≤◌, ◌++◌, length, IfOk, OnOk};
+ghost use Rattle.free_scan.specs.Lexemes.{bytes_of, digits_size as size_of_digits, in_range, is_gap as is_gap_byte, lexeme as lexeme_of, more_of, number as number_of, quotation as quotation_of, sign as sign_of, tokens_of, value_after, word as word_of, word_size as size_of_word};
 
-use crate::characters::{is_blank, is_printable, is_quote, is_word_byte, rest_from};
+use crate::characters::{are_printable, is_blank, is_quote, is_word_byte, rest_from};
 use crate::lines::Character;
 use crate::quotes;
 use crate::spellings::longest_sign;
@@ -41,11 +41,15 @@ pub fn word_size(characters: &[Character]) -> usize
     characters.iter().take_while(|c| is_word_byte(c.byte)).count()
 }
 
-/// The bytes of characters.
-pub fn bytes(alloc: Global, characters: &[Character]) -> Result<Vec<u8>, AllocError>
-    ensures { IfOk result (λ text. text.items ≡ map (λ c. c.byte) characters.now) }
+/// The bytes of the first characters, as many as this count says.
+pub fn bytes(alloc: Global, characters: &[Character], count: usize) -> Result<Vec<u8>, AllocError>
+    ensures { IfOk result (λ text. text.items ≡ bytes_of characters.now count) }
 {
-    characters.iter().map(|c| c.byte).collect(alloc)
+    characters
+        .iter()
+        .take(count)
+        .map(|c| c.byte)
+        .collect(alloc)
 }
 
 fn word(alloc: Global, characters: &[Character]) -> Result<Lexeme, AllocError>
@@ -56,8 +60,19 @@ fn word(alloc: Global, characters: &[Character]) -> Result<Lexeme, AllocError>
     if size > LONGEST_TEXT {
         return Ok(Lexeme::Wrong(FaultKind::Limit, TEXT_LIMIT));
     }
-    let text = Text::new(bytes(alloc, &characters[..size])?);
+    let text = Text::new(bytes(alloc, characters, size)?);
     Ok(Lexeme::Found(TokenKind::Word(text), size.saturating_sub(1)))
+}
+
+/// How many digits stand here.
+fn digits_size(characters: &[Character]) -> usize
+    ensures size { result ≡ size_of_digits characters.now }
+    ensures in_range { result ≤ length characters.now }
+{
+    characters
+        .iter()
+        .take_while(|c| c.byte.is_ascii_digit())
+        .count()
 }
 
 /// The value of digits, unless it is above the greatest number.
@@ -78,10 +93,7 @@ fn number(characters: &[Character]) -> Lexeme
     ensures lexeme { result ≡ number_of characters.now }
     ensures within { more_of result ≤ length characters.now - 1 }
 {
-    let size = characters
-        .iter()
-        .take_while(|c| c.byte.is_ascii_digit())
-        .count();
+    let size = digits_size(characters);
     match value(&characters[..size]) {
         Some(value) => Lexeme::Found(TokenKind::Number(value as i64), size.saturating_sub(1)),
         None => Lexeme::Wrong(FaultKind::NumberTooLarge, 0),
@@ -93,7 +105,7 @@ fn quotation(alloc: Global, dialect: Dialect, quote: u8, rest: &[u8]) -> Result<
     ensures within { IfOk result (λ lexeme. more_of lexeme ≡ 0) }
 {
     let end = quotes::measure(dialect, quote, rest);
-    if !rest[..end.size].iter().all(|byte| is_printable(*byte)) {
+    if !are_printable(&rest[..end.size]) {
         return Ok(Lexeme::Wrong(FaultKind::BadByte, 0));
     }
     if !end.closed {

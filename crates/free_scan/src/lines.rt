@@ -1,6 +1,6 @@
 // The lines of a text, without their comments, the insides of their quoted texts and the underscores that are dropped.
 ghost use Rattle.std.specs.Prelude.{◌≡◌, ◌+◌, ◌<◌, ◌≤◌, length, drop, IfOk, IfSome, All};
-ghost use Rattle.free_scan.specs.Lines.{joint as joint_of, has_no_more as has_no_more_on_line, last_underscore as last_underscore_of, line as line_of, line_size as size_of_line, part as part_of, more_of, IsWithin};
+ghost use Rattle.free_scan.specs.Lines.{joint as joint_of, has_no_more as has_no_more_on_line, last_underscore as last_underscore_of, line as line_of, line_size as size_of_line, part as part_of, more_of, IsPlace, IsWithin};
 
 use crate::characters::{begins_with, count_blanks, is_blank, is_line_end, is_quote};
 use crate::quotes::measure;
@@ -107,13 +107,12 @@ pub fn read_line(
     characters: &mut Vec<Character>,
 ) -> Result<LineEnding, AllocError>
     requires short { length text.now < 4294967295 }
-    requires in_text { start ≤ length text.now }
+    requires in_text { start < length text.now }
     requires counted { number ≤ start + 1 }
+    requires numbered { 0 < number }
     ensures line { IfOk result (λ end. line_of dialect 0 start number (drop start text.now)
         ≡ record { characters = characters.new.items; ending = end }) }
-    ensures in_text { IfOk result (λ end. end.next ≤ length text.now) }
-    ensures counted { IfOk result (λ end. end.number ≤ end.next + 1) }
-    ensures goes_on { IfOk result (λ end. start < length text.now → start < end.next) }
+    ensures place { IfOk result (λ end. IsPlace (start + 1) (length text.now) end.next end.number) }
     ensures within { All (IsWithin start (length text.now)) characters.new.items }
 {
     characters.clear();

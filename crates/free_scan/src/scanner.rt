@@ -1,11 +1,11 @@
 // Texts, line by line.
-ghost use Rattle.std.specs.Prelude.{◌≡◌, ◌==◌, ◌+◌, ◌<◌, ◌≤◌, ◌^◌, [], ◌++◌, length, None, IfOk, OnOk, if◌then◌else◌};
+ghost use Rattle.std.specs.Prelude.{All, ◌≡◌, ◌==◌, ◌+◌, ◌<◌, ◌≤◌, ◌^◌, [], ◌++◌, length, None, IfOk, OnOk, if◌then◌else◌};
 ghost use Rattle.std.specs.List.{list_any};
 ghost use Rattle.free_scan.specs.IncludeNames.{include_word as include_word_of};
-ghost use Rattle.free_scan.specs.Lines.{last_byte as last_byte_of};
-ghost use Rattle.free_scan.specs.Tokens.{continuing, IfGoes, include_line as include_line_of, is_continued as is_continued_line, IsLineStart, line_reading, open_after as open_after_token, open_after_all as open_after_all_of, open_parentheses as open_parentheses_of, outcome, plain_line as plain_line_of, scanned, tokens_in, token_at as token_of};
+ghost use Rattle.free_scan.specs.Lines.{IsPlace, IsWithin, last_byte as last_byte_of};
+ghost use Rattle.free_scan.specs.Tokens.{continuing, IfGoes, include_line as include_line_of, is_continued as is_continued_line, line_after as line_after_of, line_of, line_reading, open_after as open_after_token, open_after_all as open_after_all_of, open_parentheses as open_parentheses_of, outcome, plain_line as plain_line_of, scanned, tokens_in, token_at as token_of};
 
-use crate::characters::{begins_with, is_blank, is_printable, rest_from};
+use crate::characters::{are_printable, begins_with, is_blank};
 use crate::include_names::{begun, file_name, include_word};
 use crate::lexemes::{add_tokens, bytes};
 use crate::lines::{Character, LineEnding, line_size, read_line};
@@ -100,12 +100,15 @@ fn scan_line(
     tokens: &mut Vec<Token>,
 ) -> Result<Outcome, AllocError>
     requires short { length text.now < 4294967295 }
-    requires place { IsLineStart text.now tokens.old.items start }
     requires in_text { start.next < length text.now }
+    requires counted { start.number ≤ start.next + 1 }
+    requires numbered { 0 < start.number }
+    requires few_open { start.opened ≤ length tokens.old.items }
     ensures tokens { OnOk result (tokens.new.items
         ≡ tokens.old.items ++ tokens_in (line_reading dialect text.now file start)) }
     ensures outcome { IfOk result (λ o. o ≡ outcome (line_reading dialect text.now file start)) }
-    ensures place { IfOk result (λ o. IfGoes o (λ after. (start.next < after.next) × IsLineStart text.now tokens.new.items after)) }
+    ensures place { IfOk result (λ o. IfGoes o (λ after. IsPlace (start.next + 1) (length text.now) after.next after.number)) }
+    ensures few_open { IfOk result (λ o. IfGoes o (λ after. after.opened ≤ length tokens.new.items)) }
 {
     if begins_with(b'%', &text[start.next..]) {
         return Ok(Outcome::Stops(Fault {
@@ -118,10 +121,35 @@ fn scan_line(
         }));
     }
     let ending = read_line(dialect, text, start.next, start.number, characters)?;
+    add_line(alloc, dialect, text, file, start, characters, ending, tokens)
+}
+
+/// Adds the tokens of a line with these characters.
+fn add_line(
+    alloc: Global,
+    dialect: Dialect,
+    text: &[u8],
+    file: u16,
+    start: LineStart,
+    characters: &[Character],
+    ending: LineEnding,
+    tokens: &mut Vec<Token>,
+) -> Result<Outcome, AllocError>
+    requires short { length text.now < 4294967295 }
+    requires few_open { start.opened ≤ length tokens.old.items }
+    requires within { All (IsWithin start.next (length text.now)) characters.now }
+    requires place { IsPlace (start.next + 1) (length text.now) ending.next ending.number }
+    ensures tokens { OnOk result (tokens.new.items ≡ tokens.old.items
+        ++ tokens_in (line_of dialect text.now file start (record { characters = characters.now; ending = ending }))) }
+    ensures outcome { IfOk result (λ o. o
+        ≡ outcome (line_of dialect text.now file start (record { characters = characters.now; ending = ending }))) }
+    ensures place { IfOk result (λ o. IfGoes o (λ after. IsPlace (start.next + 1) (length text.now) after.next after.number)) }
+    ensures few_open { IfOk result (λ o. IfGoes o (λ after. after.opened ≤ length tokens.new.items)) }
+{
     let line = begun(characters);
     match include_at(start.continues, line) {
         Some((first, last)) => {
-            let word = Text::new(bytes(alloc, &line[..7.min(line.len())])?);
+            let word = Text::new(bytes(alloc, line, 7)?);
             include_line(alloc, text, file, word, first, last, tokens)
         }
         None => plain_line(alloc, dialect, text, file, start.opened, characters, ending, tokens),
@@ -148,15 +176,17 @@ fn include_line(
     requires short { length text.now < 4294967295 }
     requires in_text { last.next ≤ length text.now }
     requires counted { last.line ≤ last.next }
+    requires numbered { 0 < last.line }
     ensures tokens { OnOk result (tokens.new.items
         ≡ tokens.old.items ++ tokens_in (include_line_of text.now file word first last)) }
     ensures outcome { IfOk result (λ o. o ≡ outcome (include_line_of text.now file word first last)) }
-    ensures place { IfOk result (λ o. IfGoes o (λ after. (last.next ≤ after.next) × IsLineStart text.now tokens.new.items after)) }
+    ensures place { IfOk result (λ o. IfGoes o (λ after. IsPlace last.next (length text.now) after.next after.number)) }
+    ensures closed { IfOk result (λ o. IfGoes o (λ after. after.opened ≡ 0)) }
 {
     tokens.push(token_at(file, first.line, TokenKind::Word(word)))?;
     let rest = &text[last.next..];
     let name = file_name(rest);
-    if !name.iter().all(|byte| is_printable(*byte)) {
+    if !are_printable(name) {
         return Ok(Outcome::Stops(Fault {
             kind: FaultKind::BadByte,
             place: Place {
@@ -169,14 +199,34 @@ fn include_line(
     let name = Text::new(Vec::from_slice(alloc, name)?);
     tokens.push(token_at(file, last.line, TokenKind::Quoted(name)))?;
     tokens.push(token_at(file, last.line, TokenKind::LineEnd))?;
+    Ok(Outcome::Goes(line_after(last, rest)))
+}
+
+/// The line after an include line, whose word ends with this character.
+fn line_after(last: Character, rest: &[u8]) -> LineStart
+    requires short { last.next + length rest.now < 4294967295 }
+    requires counted { last.line ≤ last.next }
+    requires numbered { 0 < last.line }
+    ensures value { result ≡ line_after_of last rest.now }
+    ensures place { IsPlace last.next (last.next + length rest.now) result.next result.number }
+    ensures closed { result.opened ≡ 0 }
+{
     let size = line_size(rest);
-    let more = if size < rest.len() { 1 } else { 0 };
-    Ok(Outcome::Goes(LineStart {
-        next: last.next + size + more,
-        number: last.line + more as u32,
-        opened: 0,
-        continues: false,
-    }))
+    if size < rest.len() {
+        LineStart {
+            next: last.next + size + 1,
+            number: last.line + 1,
+            opened: 0,
+            continues: false,
+        }
+    } else {
+        LineStart {
+            next: last.next + size,
+            number: last.line,
+            opened: 0,
+            continues: false,
+        }
+    }
 }
 
 /// Adds the tokens of a line that is no include line, and its LineEnd.
@@ -195,6 +245,7 @@ fn plain_line(
     ensures tokens { OnOk result (tokens.new.items
         ≡ tokens.old.items ++ tokens_in (plain_line_of dialect text.now file opened characters.now ending)) }
     ensures outcome { IfOk result (λ o. o ≡ outcome (plain_line_of dialect text.now file opened characters.now ending)) }
+    ensures place { IfOk result (λ o. IfGoes o (λ after. (after.next ≡ ending.next) × (after.number ≡ ending.number))) }
     ensures few_open { IfOk result (λ o. IfGoes o (λ after. after.opened ≤ length tokens.new.items)) }
 {
     let count = tokens.len();
