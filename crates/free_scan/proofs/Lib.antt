@@ -2,3 +2,4 @@ mod Examples
 pub mod StepLemmas
 pub mod LineLemmas
 pub mod TokenLemmas
+pub mod WordLemmas

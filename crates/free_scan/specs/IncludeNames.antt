@@ -10,15 +10,15 @@ use Rattle.free_scan.specs.Spellings.{is_spelled}
 abbrev pub begun : List Character → List Character
 begun cs = drop (prefix_len (λ c. is_gap c.byte) cs) cs
 
+-- two characters, where both are there
+abbrev pub both : Option Character → Option Character → Option (Character × Character)
+both (Some first) (Some last) = Some (first, last)
+both (Some first) None = None
+both None last = None
+
 -- the first and the last character of the word `include`, in whatever case, which begins here
 abbrev pub include_word : List Character → Option (Character × Character)
-include_word cs =
-    if is_spelled (codes "include") cs && word_size cs == 7
-    then elim (slice_get cs 0) [
-      Some first ↦ elim (slice_get cs 6) [ Some last ↦ Some (first, last) | None ↦ None ]
-    | None ↦ None
-    ]
-    else None
+include_word cs = if is_spelled (codes "include") cs && word_size cs == 7 then both (slice_get cs 0) (slice_get cs 6) else None
 
 -- the bytes before the line's end
 abbrev pub text_size : List ℕ → ℕ

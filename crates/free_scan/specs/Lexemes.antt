@@ -103,7 +103,7 @@ tokens_of d text file more [] = record { tokens = []; fault = None }
 tokens_of d text file (suc more) (c ∷ cs) = tokens_of d text file more cs
 tokens_of d text file zero (c ∷ cs) =
     elim (lexeme d text c (c ∷ cs)) [
-      Gap ↦ tokens_of d text file zero cs
-    | Found kind n ↦ with_tokens (record { kind = kind; place = record { file = file; line = c.line } } ∷ []) (tokens_of d text file n cs)
-    | Wrong kind n ↦ record { tokens = []; fault = Some (record { kind = kind; place = record { file = file; line = c.line }; number = n }) }
+      | Gap ↦ tokens_of d text file zero cs
+      | Found kind n ↦ with_tokens (record { kind = kind; place = record { file = file; line = c.line } } ∷ []) (tokens_of d text file n cs)
+      | Wrong kind n ↦ record { tokens = []; fault = Some (record { kind = kind; place = record { file = file; line = c.line }; number = n }) }
     ]

@@ -67,10 +67,10 @@ line d gone at number [] = ends_at at number false
 line d (suc gone) at number (b ∷ bs) = line d gone (at + 1) number bs
 line d zero at number (b ∷ bs) =
     elim (part d b bs) [
-      Ends ↦ ends_at (at + 1) (number + 1) true
-    | Dropped n ↦ line d n (at + 1) number bs
-    | Joined n ↦ line d n (at + 1) (number + 1) bs
-    | Kept n ↦ with_characters (record { byte = b; line = number; next = at + 1 } ∷ []) (line d n (at + 1) number bs)
+      | Ends ↦ ends_at (at + 1) (number + 1) true
+      | Dropped n ↦ line d n (at + 1) number bs
+      | Joined n ↦ line d n (at + 1) (number + 1) bs
+      | Kept n ↦ with_characters (record { byte = b; line = number; next = at + 1 } ∷ []) (line d n (at + 1) number bs)
     ]
 
 -- the last character that is no blank, if there is one

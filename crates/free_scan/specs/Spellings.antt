@@ -10,7 +10,7 @@ use Rattle.free_scan.specs.declared.lines.Character.{Character}
 -- one character alone, in both dialects
 abbrev pub single_spellings : List (List ℕ × Sign)
 single_spellings =
-      (codes "=", Assign) ∷ (codes "+", Plus) ∷ (codes "-", Minus) ∷ (codes "*", Star) ∷ (codes "/", Slash)
+    (codes "=", Assign) ∷ (codes "+", Plus) ∷ (codes "-", Minus) ∷ (codes "*", Star) ∷ (codes "/", Slash)
     ∷ (codes "(", Open) ∷ (codes ")", Close) ∷ (codes ",", Comma) ∷ (codes ":", Colon) ∷ (codes ".", Point)
     ∷ (codes "{", OpenBrace) ∷ (codes "}", CloseBrace) ∷ (codes "[", OpenBrace) ∷ (codes "]", CloseBrace)
     ∷ (codes "<", Lt) ∷ (codes ">", Gt) ∷ (codes "&", And) ∷ (codes "|", Or) ∷ (codes "~", Not) ∷ (codes "!", Not)
@@ -19,13 +19,13 @@ single_spellings =
 -- two characters, in both dialects
 abbrev pub double_spellings : List (List ℕ × Sign)
 double_spellings =
-      (codes "**", Power) ∷ (codes "==", Eq) ∷ (codes "~=", Ne) ∷ (codes "!=", Ne) ∷ (codes "<=", Le) ∷ (codes ">=", Ge)
+    (codes "**", Power) ∷ (codes "==", Eq) ∷ (codes "~=", Ne) ∷ (codes "!=", Ne) ∷ (codes "<=", Le) ∷ (codes ">=", Ge)
     ∷ []
 
 -- Ratfor's relations and logical operators are those of FORTRAN, which may be written with points (Kernighan)
 abbrev pub ratfor_spellings : List (List ℕ × Sign)
 ratfor_spellings =
-      (codes ".false.", False) ∷ (codes ".true.", True) ∷ (codes ".and.", And) ∷ (codes ".not.", Not)
+    (codes ".false.", False) ∷ (codes ".true.", True) ∷ (codes ".and.", And) ∷ (codes ".not.", Not)
     ∷ (codes ".eq.", Eq) ∷ (codes ".ne.", Ne) ∷ (codes ".lt.", Lt) ∷ (codes ".le.", Le) ∷ (codes ".gt.", Gt)
     ∷ (codes ".ge.", Ge) ∷ (codes ".or.", Or)
     ∷ (codes "^=", Ne) ∷ (codes "&&", And) ∷ (codes "||", Or) ∷ (codes "$(", OpenBrace) ∷ (codes "$)", CloseBrace)
@@ -34,7 +34,7 @@ ratfor_spellings =
 -- EFL's operators (Feldman)
 abbrev pub efl_spellings : List (List ℕ × Sign)
 efl_spellings =
-      (codes "**=", PowerAssign) ∷ (codes "&&=", AndThenAssign) ∷ (codes "||=", OrElseAssign)
+    (codes "**=", PowerAssign) ∷ (codes "&&=", AndThenAssign) ∷ (codes "||=", OrElseAssign)
     ∷ (codes "+=", AddAssign) ∷ (codes "-=", SubAssign) ∷ (codes "*=", MulAssign) ∷ (codes "/=", DivAssign)
     ∷ (codes "&=", AndAssign) ∷ (codes "|=", OrAssign) ∷ (codes "++", Increment) ∷ (codes "--", Decrement)
     ∷ (codes "->", Arrow) ∷ (codes "&&", AndThen) ∷ (codes "||", OrElse) ∷ (codes "^=", CaretEqual)

@@ -62,11 +62,11 @@ abbrev pub plain_line : Dialect → List ℕ → ℕ → ℕ → List Character 
 plain_line d text file opened cs end =
     let r = tokens_of d text file 0 cs in
     elim (r.fault) [
-      Some fault ↦ Stops (r.tokens) fault
-    | None ↦
-        let opened' = open_parentheses d opened (r.tokens) in
-        let goes_on = not end.ended || is_continued d cs || nat_lt 0 opened' in
-        Goes (r.tokens ++ line_end goes_on file (end.number - 1)) (record { next = end.next; number = end.number; opened = opened'; continues = goes_on })
+      | Some fault ↦ Stops (r.tokens) fault
+      | None ↦
+          let opened' = open_parentheses d opened (r.tokens) in
+          let goes_on = not end.ended || is_continued d cs || nat_lt 0 opened' in
+          Goes (r.tokens ++ line_end goes_on file (end.number - 1)) (record { next = end.next; number = end.number; opened = opened'; continues = goes_on })
     ]
 
 -- the line after an include line, whose word ends with this character
@@ -115,8 +115,8 @@ lines_from d text file s gone [] = record { tokens = token_at file s.number Text
 lines_from d text file s (suc gone) (b ∷ bs) = lines_from d text file s gone bs
 lines_from d text file s zero (b ∷ bs) =
     elim (line_reading d text file s) [
-      Goes tokens after ↦ with_tokens tokens (lines_from d text file after (after.next - (s.next + 1)) bs)
-    | Stops tokens fault ↦ record { tokens = tokens; fault = Some fault }
+      | Goes tokens after ↦ with_tokens tokens (lines_from d text file after (after.next - (s.next + 1)) bs)
+      | Stops tokens fault ↦ record { tokens = tokens; fault = Some fault }
     ]
 
 abbrev pub text_start : LineStart

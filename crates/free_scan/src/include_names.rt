@@ -52,13 +52,7 @@ fn open_quote(opened: Option<u8>, byte: u8, rest: &[u8]) -> Option<u8>
     ensures { result ≡ open_quote_of opened byte rest.now }
 {
     match opened {
-        Some(quote) => {
-            if byte == quote {
-                None
-            } else {
-                Some(quote)
-            }
-        }
+        Some(quote) => { if byte == quote { None } else { Some(quote) } }
         None => {
             if is_quote(byte) && rest.contains(&byte) {
                 Some(byte)

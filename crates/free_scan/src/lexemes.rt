@@ -13,6 +13,7 @@ use std::alloc::{AllocError, Global};
 const LONGEST_TEXT: usize = 255;
 /// The number of that limit.
 const TEXT_LIMIT: u64 = 11;
+
 const GREATEST_NUMBER: u64 = 2147483647;
 
 /// What begins at a character of a line.
@@ -38,18 +39,17 @@ pub fn word_size(characters: &[Character]) -> usize
     ensures size { result ≡ size_of_word characters.now }
     ensures in_range { result ≤ length characters.now }
 {
-    characters.iter().take_while(|c| is_word_byte(c.byte)).count()
+    characters
+        .iter()
+        .take_while(|c| is_word_byte(c.byte))
+        .count()
 }
 
 /// The bytes of the first characters, as many as this count says.
 pub fn bytes(alloc: Global, characters: &[Character], count: usize) -> Result<Vec<u8>, AllocError>
     ensures { IfOk result (λ text. text.items ≡ bytes_of characters.now count) }
 {
-    characters
-        .iter()
-        .take(count)
-        .map(|c| c.byte)
-        .collect(alloc)
+    characters.iter().take(count).map(|c| c.byte).collect(alloc)
 }
 
 fn word(alloc: Global, characters: &[Character]) -> Result<Lexeme, AllocError>
@@ -86,7 +86,11 @@ fn value(digits: &[Character]) -> Option<u64>
         }
         value = value * 10 + u64::from(digit.byte.saturating_sub(b'0'));
     }
-    if value > GREATEST_NUMBER { None } else { Some(value) }
+    if value > GREATEST_NUMBER {
+        None
+    } else {
+        Some(value)
+    }
 }
 
 fn number(characters: &[Character]) -> Lexeme

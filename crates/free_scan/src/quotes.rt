@@ -30,10 +30,16 @@ pub fn measure(dialect: Dialect, quote: u8, rest: &[u8]) -> Quotation
     let mut taken = false;
     for (i, byte) in rest.iter().enumerate() {
         if is_line_end(&rest[i..]) {
-            return Quotation { size: i, closed: false };
+            return Quotation {
+                size: i,
+                closed: false,
+            };
         }
         if !taken && *byte == quote {
-            return Quotation { size: i + 1, closed: true };
+            return Quotation {
+                size: i + 1,
+                closed: true,
+            };
         }
         taken = !taken && escapes(dialect, *byte);
     }

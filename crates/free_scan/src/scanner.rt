@@ -121,7 +121,9 @@ fn scan_line(
         }));
     }
     let ending = read_line(dialect, text, start.next, start.number, characters)?;
-    add_line(alloc, dialect, text, file, start, characters, ending, tokens)
+    add_line(
+        alloc, dialect, text, file, start, characters, ending, tokens,
+    )
 }
 
 /// Adds the tokens of a line with these characters.
@@ -152,7 +154,16 @@ fn add_line(
             let word = Text::new(bytes(alloc, line, 7)?);
             include_line(alloc, text, file, word, first, last, tokens)
         }
-        None => plain_line(alloc, dialect, text, file, start.opened, characters, ending, tokens),
+        None => plain_line(
+            alloc,
+            dialect,
+            text,
+            file,
+            start.opened,
+            characters,
+            ending,
+            tokens,
+        ),
     }
 }
 

@@ -6,7 +6,7 @@ use Rattle.free_scan.proofs.lexemes.add_tokens.Given as goal
 abbrev pub invariant-loop-at : goal.invariant-loop-at
 invariant-loop-at l =
     (l.initial.tokens.items ++ (tokens_of l.dialect l.text l.file 0 l.characters).tokens
-      ≡ l.tokens.items ++ (tokens_of l.dialect l.text l.file 0 (drop l.at l.characters)).tokens)
+    ≡ l.tokens.items ++ (tokens_of l.dialect l.text l.file 0 (drop l.at l.characters)).tokens)
     × ((tokens_of l.dialect l.text l.file 0 l.characters).fault ≡ (tokens_of l.dialect l.text l.file 0 (drop l.at l.characters)).fault)
     × (l.at ≤ length l.characters)
 
