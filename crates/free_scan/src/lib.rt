@@ -10,3 +10,6 @@ mod scanner;
 mod spellings;
 
 pub use scanner::{Scanned, scan};
+
+#[cfg(test)]
+mod tests;
