@@ -50,7 +50,13 @@ fn shown(alloc: Global, all: &Scanned) -> Result<String, AllocError> {
     Ok(shown)
 }
 
-fn check(rt: &impl Abort, alloc: Global, dialect: Dialect, text: &[u8], expected: &str) -> Result<(), Fail> {
+fn check(
+    rt: &impl Abort,
+    alloc: Global,
+    dialect: Dialect,
+    text: &[u8],
+    expected: &str,
+) -> Result<(), Fail> {
     assert!(rt; text.len() < 1_000_000);
     let all = scan(alloc, dialect, text, 7)?;
     for token in &all.tokens {
@@ -66,17 +72,35 @@ fn ratfor_texts(rt: HostRuntime) -> Result<(), Fail> {
     let table: [(&[u8], &str); 32] = [
         (b"", "1: end "),
         (b"\n", "1: / 2: end "),
-        (b"k = 2 + 3 # five\nEnd\n", "1: k Assign 2 Plus 3 / 2: End / 3: end "),
+        (
+            b"k = 2 + 3 # five\nEnd\n",
+            "1: k Assign 2 Plus 3 / 2: End / 3: end ",
+        ),
         (b"80a1;a", "1: 80 a1 ; a end "),
         (b"a_b_1 = 1__0\n", "1: ab1 Assign 10 / 2: end "),
         (b"ab_ # on\n\tcd\n", "1: ab 2: cd / 3: end "),
-        (b"x == y ~= z ^= u != v\n", "1: x Eq y Ne z Ne u Ne v / 2: end "),
+        (
+            b"x == y ~= z ^= u != v\n",
+            "1: x Eq y Ne z Ne u Ne v / 2: end ",
+        ),
         (b"a<b<=c>d>=e\r\n", "1: a Lt b Le c Gt d Ge e / 2: end "),
-        (b"~^!a&b&&c|d||e\n", "1: Not Not Not a And b And c Or d Or e / 2: end "),
+        (
+            b"~^!a&b&&c|d||e\n",
+            "1: Not Not Not a And b And c Or d Or e / 2: end ",
+        ),
         (b"1.Eq.2.or..TRUE.\n", "1: 1 Eq 2 Or True / 2: end "),
-        (b". eq . .eqx. .e_q.\n", "1: Point eq Point Point eqx Point Eq / 2: end "),
-        (b"[ ] $( $) { }\n", "1: OpenBrace CloseBrace OpenBrace CloseBrace OpenBrace CloseBrace / 2: end "),
-        (b"a**b*c/d+=e\n", "1: a Power b Star c Slash d Plus Assign e / 2: end "),
+        (
+            b". eq . .eqx. .e_q.\n",
+            "1: Point eq Point Point eqx Point Eq / 2: end ",
+        ),
+        (
+            b"[ ] $( $) { }\n",
+            "1: OpenBrace CloseBrace OpenBrace CloseBrace OpenBrace CloseBrace / 2: end ",
+        ),
+        (
+            b"a**b*c/d+=e\n",
+            "1: a Power b Star c Slash d Plus Assign e / 2: end ",
+        ),
         (b"a$b\n", "1: a BadByte 0 at 1"),
         (b"'it\\'s' \"a'b\" ''\n", "1: 'it's' 'a'b' '' / 2: end "),
         (b"'a\\\\' 'b'\n", "1: 'a\\' 'b' / 2: end "),
@@ -84,17 +108,29 @@ fn ratfor_texts(rt: HostRuntime) -> Result<(), Fail> {
         (b"a = 'bc\r\nd\n", "1: a Assign UnclosedQuote 0 at 1"),
         (b"a = 'b\tc\n", "1: a Assign BadByte 0 at 1"),
         (b"a = 'b\\'\n", "1: a Assign UnclosedQuote 0 at 1"),
-        (b"f(a,\n\n# on\nb)\n% c\n", "1: f Open a Comma 4: b Close / PercentLine 0 at 5"),
+        (
+            b"f(a,\n\n# on\nb)\n% c\n",
+            "1: f Open a Comma 4: b Close / PercentLine 0 at 5",
+        ),
         (b")(\na)\n", "1: Close Open 2: a Close / 3: end "),
-        (b"k = 1 +\n# c\n2\n", "1: k Assign 1 Plus 2: / 3: 2 / 4: end "),
+        (
+            b"k = 1 +\n# c\n2\n",
+            "1: k Assign 1 Plus 2: / 3: 2 / 4: end ",
+        ),
         (b"k = (1 +\n", "1: k Assign Open 1 Plus 2: end "),
         (b"a &\nb |\nc _\nd", "1: a And 2: b Or 3: c 4: d end "),
         (b"a $(\nb\n", "1: a OpenBrace 2: b / 3: end "),
-        (b"include a_b.r # c\nx\n", "1: include 'a_b.r' / 2: x / 3: end "),
+        (
+            b"include a_b.r # c\nx\n",
+            "1: include 'a_b.r' / 2: x / 3: end ",
+        ),
         (b" Include ( \"q#\" )\n", "1: Include ' \"q#\" ' / 2: end "),
         (b"include 'a#b' # 'c'", "1: include 'a#b' / end "),
         (b"include a\tb\n", "1: include BadByte 0 at 1"),
-        (b"; include q\n10 include q\nx +\ninclude q\n", "1: ; include q / 2: 10 include q / 3: x Plus 4: include q / 5: end "),
+        (
+            b"; include q\n10 include q\nx +\ninclude q\n",
+            "1: ; include q / 2: 10 include q / 3: x Plus 4: include q / 5: end ",
+        ),
         (b"a\rb\n", "1: a BadByte 0 at 1"),
     ];
     for (text, expected) in table {
@@ -106,24 +142,63 @@ fn ratfor_texts(rt: HostRuntime) -> Result<(), Fail> {
 #[test]
 fn efl_texts(rt: HostRuntime) -> Result<(), Fail> {
     let table: [(&[u8], &str); 19] = [
-        (b"a != b == c ^= d\n", "1: a Ne b Eq c CaretEqual d / 2: end "),
-        (b"!a ~b ^c && d || e\n", "1: Not a Not b Caret c AndThen d OrElse e / 2: end "),
-        (b"a += b -= c *= d /= e **= f\n", "1: a AddAssign b SubAssign c MulAssign d DivAssign e PowerAssign f / 2: end "),
-        (b"a &= b |= c &&= d ||= e\n", "1: a AndAssign b OrAssign c AndThenAssign d OrElseAssign e / 2: end "),
-        (b"++a.b->c 2 $ 0 --d\n", "1: Increment a Point b Arrow c 2 Dollar 0 Decrement d / 2: end "),
-        (b"+++=---\n", "1: Increment AddAssign Decrement Minus 2: end "),
+        (
+            b"a != b == c ^= d\n",
+            "1: a Ne b Eq c CaretEqual d / 2: end ",
+        ),
+        (
+            b"!a ~b ^c && d || e\n",
+            "1: Not a Not b Caret c AndThen d OrElse e / 2: end ",
+        ),
+        (
+            b"a += b -= c *= d /= e **= f\n",
+            "1: a AddAssign b SubAssign c MulAssign d DivAssign e PowerAssign f / 2: end ",
+        ),
+        (
+            b"a &= b |= c &&= d ||= e\n",
+            "1: a AndAssign b OrAssign c AndThenAssign d OrElseAssign e / 2: end ",
+        ),
+        (
+            b"++a.b->c 2 $ 0 --d\n",
+            "1: Increment a Point b Arrow c 2 Dollar 0 Decrement d / 2: end ",
+        ),
+        (
+            b"+++=---\n",
+            "1: Increment AddAssign Decrement Minus 2: end ",
+        ),
         (b".eq. 'a\\'\n", "1: Point eq Point 'a\\' / 2: end "),
-        (b"aver_age _ # c\n  value 1\n", "1: average 2: value 1 / 3: end "),
-        (b"aver_age_ # c\n  value 1\n", "1: averagevalue 2: 1 / 3: end "),
+        (
+            b"aver_age _ # c\n  value 1\n",
+            "1: average 2: value 1 / 3: end ",
+        ),
+        (
+            b"aver_age_ # c\n  value 1\n",
+            "1: averagevalue 2: 1 / 3: end ",
+        ),
         (b"a_\n_\nb = 1_\r\n\t2\n", "1: ab 3: Assign 12 4: / 5: end "),
         (b"a +_\n= b\n", "1: a AddAssign 2: b / 3: end "),
         (b"a_\n%b\n", "1: a PercentLine 0 at 2"),
         (b"a_", "1: a end "),
-        (b"f(a,\n\nb) {\nc }\n", "1: f Open a Comma 2: / 3: b Close OpenBrace 4: c CloseBrace / 5: end "),
-        (b"a ->\nb ~\nc [\nd\n", "1: a Arrow 2: b Not 3: c OpenBrace 4: d / 5: end "),
-        (b"a $\nb :\nc .\n;\n", "1: a Dollar / 2: b Colon / 3: c Point / 4: ; / 5: end "),
-        (b"incl_\nude 'q_\nr_s\n", "1: include 2: ''q_' / 3: rs / 4: end "),
-        (b"include (a'b) _\nc\n", "1: include '(a'b) _' / 2: c / 3: end "),
+        (
+            b"f(a,\n\nb) {\nc }\n",
+            "1: f Open a Comma 2: / 3: b Close OpenBrace 4: c CloseBrace / 5: end ",
+        ),
+        (
+            b"a ->\nb ~\nc [\nd\n",
+            "1: a Arrow 2: b Not 3: c OpenBrace 4: d / 5: end ",
+        ),
+        (
+            b"a $\nb :\nc .\n;\n",
+            "1: a Dollar / 2: b Colon / 3: c Point / 4: ; / 5: end ",
+        ),
+        (
+            b"incl_\nude 'q_\nr_s\n",
+            "1: include 2: ''q_' / 3: rs / 4: end ",
+        ),
+        (
+            b"include (a'b) _\nc\n",
+            "1: include '(a'b) _' / 2: c / 3: end ",
+        ),
         (b"'a_\nb\n", "UnclosedQuote 0 at 1"),
     ];
     for (text, expected) in table {
@@ -132,7 +207,13 @@ fn efl_texts(rt: HostRuntime) -> Result<(), Fail> {
     Ok(())
 }
 
-fn repeated(alloc: Global, before: &[u8], byte: u8, count: usize, after: &[u8]) -> Result<Vec<u8>, AllocError> {
+fn repeated(
+    alloc: Global,
+    before: &[u8],
+    byte: u8,
+    count: usize,
+    after: &[u8],
+) -> Result<Vec<u8>, AllocError> {
     let mut text = before.to_vec(alloc)?;
     for _ in 0..count {
         text.push(byte)?;
@@ -142,14 +223,23 @@ fn repeated(alloc: Global, before: &[u8], byte: u8, count: usize, after: &[u8]) 
 }
 
 /// The fault of a text of one byte many times between two texts, or "none".
-fn fault_of(alloc: Global, before: &[u8], byte: u8, count: usize, after: &[u8]) -> Result<String, Fail> {
+fn fault_of(
+    alloc: Global,
+    before: &[u8],
+    byte: u8,
+    count: usize,
+    after: &[u8],
+) -> Result<String, Fail> {
     let text = repeated(alloc, before, byte, count, after)?;
     if text.len() > 1_000_000 {
         return Ok(String::from_str(alloc, "too long")?);
     }
     let all = scan(alloc, Dialect::Ratfor, &text, 7)?;
     match all.fault {
-        Some(fault) => Ok(format!(in alloc; "{:?} {} at {}", fault.kind, fault.number, fault.place.line)?),
+        Some(fault) => Ok(format!(in alloc;
+            "{:?} {} at {}",
+            fault.kind, fault.number, fault.place.line
+        )?),
         None => Ok(String::from_str(alloc, "none")?),
     }
 }
@@ -200,8 +290,10 @@ fn class(all: &Scanned) -> u8 {
 #[test]
 fn first_bytes(rt: HostRuntime) -> Result<(), Fail> {
     let control = b"bbbbbbbbbeebbebbbbbbbbbbbbbbbbbb";
-    let ratfor = b"esqebpsqssssssssnnnnnnnnnnsssssbbwwwwwwwwwwwwwwwwwwwwwwwwwwsbsscbwwwwwwwwwwwwwwwwwwwwwwwwwwssssb";
-    let efl = b"esqespsqssssssssnnnnnnnnnnsssssbbwwwwwwwwwwwwwwwwwwwwwwwwwwsbsscbwwwwwwwwwwwwwwwwwwwwwwwwwwssssb";
+    let ratfor =
+        b"esqebpsqssssssssnnnnnnnnnnsssssbbwwwwwwwwwwwwwwwwwwwwwwwwwwsbsscbwwwwwwwwwwwwwwwwwwwwwwwwwwssssb";
+    let efl =
+        b"esqespsqssssssssnnnnnnnnnnsssssbbwwwwwwwwwwwwwwwwwwwwwwwwwwsbsscbwwwwwwwwwwwwwwwwwwwwwwwwwwssssb";
     for byte in 0..=255u8 {
         let index = byte as usize;
         let text = [byte, b'\n'];
@@ -229,7 +321,10 @@ fn bytes_in_quotes(rt: HostRuntime) -> Result<(), Fail> {
         let is_good = 32 <= byte && byte <= 126;
         match all.fault {
             None => assert!(rt; is_good),
-            Some(fault) if byte == b'\n' || byte == b'"' => assert_eq!(rt; fault.kind, FaultKind::UnclosedQuote),
+            Some(fault) if byte == b'\n' || byte == b'"' => assert_eq!(rt;
+                fault.kind,
+                FaultKind::UnclosedQuote
+            ),
             Some(fault) => {
                 assert!(rt; !is_good);
                 assert_eq!(rt; fault.kind, FaultKind::BadByte);
