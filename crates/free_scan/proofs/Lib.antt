@@ -1,0 +1,5 @@
+mod Examples
+pub mod StepLemmas
+pub mod LineLemmas
+pub mod TokenLemmas
+pub mod WordLemmas

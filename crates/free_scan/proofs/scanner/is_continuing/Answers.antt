@@ -1,0 +1,5 @@
+use Rattle.std.proofs.Common.{arith, rules, ◌∙◌, ap, sym}
+use Rattle.free_scan.proofs.scanner.is_continuing.Goals as goal
+
+pub returns-in-Efl : goal.returns-in-Efl
+returns-in-Efl c = let h = c.contains-in-Efl.ensures.value in rw c.in-Efl.is h

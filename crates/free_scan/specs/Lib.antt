@@ -1,0 +1,7 @@
+pub mod Characters
+pub mod Quotes
+pub mod Lines
+pub mod Spellings
+pub mod Lexemes
+pub mod IncludeNames
+pub mod Tokens
