@@ -12,4 +12,5 @@ pub mod Units
 pub mod Evaluation
 pub mod Statements
 pub mod Execution
+pub mod Uses
 pub mod Agreement
