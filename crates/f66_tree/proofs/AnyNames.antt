@@ -1,5 +1,5 @@
 -- Where a relation does not rest on what names are used: every name may be, and every spot may come of it.
-use Rattle.std.proofs.Common.{ℕ, List, [], ◌∷◌, Option, Some, None}
+use Rattle.std.proofs.Common.{List, [], ◌∷◌}
 use Rattle.std.specs.Prelude.{⊤}
 use Rattle.f66_tree.specs.Forms.{Text, Formula, Number, Fact, Letter, Variable, Applied, Grouped, Positive, Negative, Negated, Joined, Formulas, Nought, Also, Par, Constant, Named, Entry, One, Many, Entries, NoEntry, AndEntry, Act, Assigns, Goes, Selects, Signs, Chooses, Loops, Invokes, Passes, Stops, Returns, Reads, Writes, Formats, Types, Dimensions, Commons, Equivalences, Presets, Line}
 use Rattle.f66_tree.specs.Units.{sizes_of, Spot, Linkage}

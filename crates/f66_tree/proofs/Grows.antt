@@ -1,18 +1,18 @@
 -- Parts of a run keep the records written.
-use Rattle.std.proofs.Common.{◌≡◌, Bool, true, false, ℕ, zero, suc, ◌+◌, List, [], ◌∷◌, ◌++◌, refl}
+use Rattle.std.proofs.Common.{Bool, true, false, ℕ, zero, suc, List, [], ◌∷◌}
 use Rattle.std.specs.Prelude.{⊤}
 use Rattle.ground.specs.declared.place.Place.{Place}
 use Rattle.ground.specs.Content.{Content}
 use Rattle.f66_tree.specs.Forms.{Text, Line}
-use Rattle.f66_tree.specs.World.{Record, Store, State, Tape, World, Finish, Ended, GoesOn, Out, Gives, Halts, bind, Try, Yields, Traps, Fails, IfYields, settle, holding, taping, take_one, take_from, IsPrefix, choose}
+use Rattle.f66_tree.specs.World.{Record, State, Tape, World, Out, Gives, Halts, bind, Try, Yields, Traps, Fails, IfYields, settle, holding, taping, take_one, take_from, IsPrefix, choose}
 use Rattle.f66_tree.specs.FirstLaws.{Keeps}
 use Rattle.f66_tree.specs.Units.{Spot, Held, Lent, Linkage, Setting, Frame, is_main, around, moved_to}
-use Rattle.f66_tree.specs.Evaluation.{ticked, stored, store_at}
-use Rattle.f66_tree.specs.Statements.{Loop, loop_turn, taped, took, item_turns}
-use Rattle.f66_tree.specs.Execution.{Stand, stand, Onward, Progress, perform, fetch, past_end, runnable, no_loops, nowhere, target, exec}
+use Rattle.f66_tree.specs.Evaluation.{ticked, stored}
+use Rattle.f66_tree.specs.Statements.{Loop, loop_turn, item_turns}
+use Rattle.f66_tree.specs.Execution.{Stand, stand, Onward, Progress, fetch, past_end, runnable, no_loops, nowhere, target, exec}
 use Rattle.f66_tree.proofs.Prefixes.{prefix_self, prefix_in}
 use Rattle.f66_tree.proofs.Posts.{IfGives}
-use Rattle.f66_tree.proofs.Related.{Sides, Frames, Good, IsStep, IsTake, Holds, turn_holds}
+use Rattle.f66_tree.proofs.Related.{Sides, Frames, Good, Holds, turn_holds}
 use Rattle.f66_tree.proofs.RelatedRuns.{like_itself, performs}
 use Rattle.f66_tree.proofs.AnyNames.{Any, AnySpot, any_scope, any_act, any_lines, any_fair}
 

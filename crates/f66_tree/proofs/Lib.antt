@@ -7,6 +7,7 @@ pub mod Related
 pub mod RelatedRuns
 pub mod AnyNames
 pub mod Grows
+pub mod Longer
 pub mod ExampleParts
 mod ExamplesOfValues
 mod ExamplesOfControl

@@ -1,6 +1,6 @@
 -- What holds of the results of a part of a run, from every world; and that the places which expressions name are those of
 -- names that stand in them, or of actuals.
-use Rattle.std.proofs.Common.{◌≡◌, ℕ, zero, suc, ◌+◌, Bool, true, false, List, [], ◌∷◌, Option, Some, None, refl, sym, subst}
+use Rattle.std.proofs.Common.{◌≡◌, ℕ, zero, suc, ◌+◌, Bool, true, false, List, [], ◌∷◌, Option, Some, None}
 use Rattle.std.specs.Prelude.{if◌then◌else◌, nat_lt, ⊤}
 use Rattle.ground.specs.declared.place.Place.{Place}
 use Rattle.ground.specs.declared.trap.Trap.TheVariants.{Subscript}
@@ -8,7 +8,7 @@ use Rattle.ground.specs.Content.{Content}
 use Rattle.f66_tree.specs.Forms.{Text, Formula, Number, Fact, Letter, Variable, Applied, Grouped, Positive, Negative, Negated, Joined, Formulas, Nought, Also, Par}
 use Rattle.f66_tree.specs.World.{World, Out, Gives, Halts, bind, Try, Yields, Traps, Fails, IfYields, settle}
 use Rattle.f66_tree.specs.Units.{dummies_of, position, sizes_of, places_of, Spot, Held, Lent, Linkage, Setting, Frame, around}
-use Rattle.f66_tree.specs.Evaluation.{Sort, AnArray, AnIntrinsic, AFunction, sort_of, base, base_by, given, distance, moved, pars_in, element, place_by, place_of, names_place, actual_of, ticked, value_of, values_of, subscripts_of, spots_of}
+use Rattle.f66_tree.specs.Evaluation.{Sort, AnArray, AnIntrinsic, AFunction, sort_of, base, base_by, given, distance, moved, pars_in, element, place_by, place_of, names_place, actual_of, ticked, value_of, subscripts_of, spots_of}
 use Rattle.f66_tree.specs.Uses.{Names, NamesOfAll, NamesOfPars}
 
 abbrev pub IfGives : {A : Type 0} → (A → Type 0) → Out A → Type 0

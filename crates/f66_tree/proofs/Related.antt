@@ -6,7 +6,7 @@
 --
 -- The relation may rest on what names are used: K says which in each unit, and Fair of which spots a read or a store may
 -- then be. And the places of statements may differ between the sides, as At says.
-use Rattle.std.proofs.Common.{◌≡◌, ℕ, zero, suc, ◌+◌, ℤ, pos, Bool, true, false, List, [], ◌∷◌, Option, Some, None, refl}
+use Rattle.std.proofs.Common.{◌≡◌, ℕ, zero, suc, ◌+◌, pos, Bool, true, false, List, [], ◌∷◌, Option, Some, None, refl}
 use Rattle.std.specs.Prelude.{if◌then◌else◌, ◌+ℤ◌, int_le, ⊤}
 use Rattle.std.specs.Str.{bytes_eq}
 use Rattle.ground.specs.declared.place.Place.{Place}
@@ -19,14 +19,14 @@ use Rattle.f66_tree.specs.declared.editing.Way.TheVariants.{Reading, Writing}
 use Rattle.f66_tree.specs.Fields.{Fields}
 use Rattle.f66_tree.specs.Forms.{Text, Formula, Number, Fact, Letter, Variable, Applied, Grouped, Positive, Negative, Negated, Joined, Formulas, Nought, Also, Par, Constant, Named, Entry, One, Many, Entries, NoEntry, AndEntry, Act, Assigns, Goes, Selects, Signs, Chooses, Loops, Invokes, Passes, Stops, Returns, Reads, Writes, Formats, Types, Dimensions, Commons, Equivalences, Presets}
 use Rattle.f66_tree.specs.World.{Tape, World, Done, Stopped, Trapped, Finish, Ended, Wrong, Out, Gives, Halts, bind, Try, Yields, Traps, Fails, IfYields, settle, choose}
-use Rattle.f66_tree.specs.Records.{opened, due, put, take, closed}
-use Rattle.f66_tree.specs.FirstLaws.{Keeps, RecordsStay}
-use Rattle.f66_tree.specs.Units.{is_main, kind_of, format_of, sizes_of, Spot, Held, Lent, Linkage, Setting, Frame, around}
+use Rattle.f66_tree.specs.Records.{due, put, take, closed}
+use Rattle.f66_tree.specs.FirstLaws.{Keeps}
+use Rattle.f66_tree.specs.Units.{is_main, kind_of, format_of, sizes_of, Spot, Held, Lent, Linkage, Setting, Frame}
 use Rattle.f66_tree.specs.Uses.{Names, NamesOfAll, NameOfPar, NamesOfPars, NamesOfEntry, NamesOfEntries, NamesOfAct}
 use Rattle.f66_tree.specs.Evaluation.{Intrinsic, Sort, AnArray, AnIntrinsic, AFunction, known, intrinsics, array_or, sort_of, base, load, store_at, variable_in, par_in, pars_in, distance, moved, element, called, referred, place_by, place_of, names_place, actual_of, operate, opposite, denied, same_whole, intrinsic, truth_in, ticked, value_of, values_of, subscripts_of, spots_of, locate, asks}
 use Rattle.f66_tree.specs.Statements.{Exit, Next, To, Back, Loop, fit_loop_in, loop_start, turn_of, loop_turn, transfer, edited, taped, took, row, extent, one_or_row, item, item_turns, items, entry, on_unit, opened_by, record_by, label_at, by_sign_of, returned, invoked, does}
 use Rattle.f66_tree.proofs.EditingLemmas.{records_stay}
-use Rattle.f66_tree.proofs.Posts.{IfGives, Post, post_any, post_settle, AllFair, IsScope, base_fair, moved_fair, element_fair, place_fair, spots_fair}
+use Rattle.f66_tree.proofs.Posts.{Post, post_any, post_settle, AllFair, IsScope, base_fair, moved_fair, element_fair, place_fair, spots_fair}
 
 -- both sides of a comparison
 pub record Sides (I : Type 0) : Type 1 where

@@ -1,15 +1,14 @@
 -- The same of statements that have begun, with what comes after them. The two sides run two lists of statements that differ
 -- in places alone: so the same statements are behind a label, and the same DO loops end at it, on both sides.
-use Rattle.std.proofs.Common.{◌≡◌, ℕ, zero, suc, ◌+◌, Bool, true, false, true≢false, List, [], ◌∷◌, ◌++◌, length, Option, Some, None, refl, sym, ap, subst}
+use Rattle.std.proofs.Common.{◌≡◌, ℕ, suc, Bool, true, false, true≢false, List, [], ◌∷◌, ◌++◌, length, Option, Some, None, refl, sym, ap, subst}
 use Rattle.std.specs.Prelude.{if◌then◌else◌, nat_eq, ⊤}
 use Rattle.ground.specs.declared.place.Place.{Place}
-use Rattle.f66_tree.specs.Forms.{Text, Formula, Par, Act, Assigns, Goes, Selects, Signs, Chooses, Loops, Invokes, Passes, Stops, Returns, Reads, Writes, Formats, Types, Dimensions, Commons, Equivalences, Presets, Line}
-use Rattle.f66_tree.specs.World.{World, Out, bind, choose}
-use Rattle.f66_tree.specs.Units.{is_note, Setting, Frame}
+use Rattle.f66_tree.specs.Forms.{Text, Act, Assigns, Goes, Selects, Signs, Chooses, Loops, Invokes, Passes, Stops, Returns, Reads, Writes, Formats, Types, Dimensions, Commons, Equivalences, Presets, Line}
+use Rattle.f66_tree.specs.World.{World, Out, bind}
+use Rattle.f66_tree.specs.Units.{is_note, Setting}
 use Rattle.f66_tree.specs.Uses.{NamesOfAct, NamesOfLines}
-use Rattle.f66_tree.specs.Evaluation.{asks}
-use Rattle.f66_tree.specs.Statements.{Exit, Next, To, Back, Loop, loop_start, loop_turn, item_turns, does}
-use Rattle.f66_tree.specs.Execution.{runnable, has_label, from_label, Progress, begun, Stand, stand, Closer, closer_of, closers, closers_at, Onward, close, leads, perform}
+use Rattle.f66_tree.specs.Statements.{Exit, Next, To, Back, Loop, loop_turn, item_turns, does}
+use Rattle.f66_tree.specs.Execution.{runnable, has_label, from_label, Progress, begun, stand, Closer, closer_of, closers, closers_at, Onward, close, leads, perform}
 use Rattle.f66_tree.proofs.Related.{Sides, side1, side2, Frames, one, two, Good, Holds, thens, choice, asks_hold, start_holds, turn_holds, does_holds}
 
 -- statements that differ in places alone
@@ -122,9 +121,9 @@ module _ (I : Type 0) (d : Sides I) (R : (A : Type 0) → (I → World → Out A
   close_holds (a ∷ as') [] h rest1 rest2 lr ur pr = absurd h
   close_holds (a ∷ as') (b ∷ bs) h rest1 rest2 lr ur pr =
       let turn : R Bool (λ i. loop_turn (s1 i) (one f) a.variable (pr (length a.inner))) (loop_turn s2 (two f) b.variable (pr (length b.inner))) =
-          subst (λ x. R Bool (λ i. loop_turn (s1 i) (one f) a.variable (pr (length a.inner))) (loop_turn s2 (two f) x (pr (length b.inner)))) h.0.0
-          (subst (λ q. R Bool (λ i. loop_turn (s1 i) (one f) a.variable (pr (length a.inner))) (loop_turn s2 (two f) a.variable (pr q))) (like_length d.At a.inner b.inner h.0.1)
-          (turn_holds I d R r f g a.variable h.0.2 (pr (length a.inner)))) in
+      subst (λ x. R Bool (λ i. loop_turn (s1 i) (one f) a.variable (pr (length a.inner))) (loop_turn s2 (two f) x (pr (length b.inner)))) h.0.0
+      (subst (λ q. R Bool (λ i. loop_turn (s1 i) (one f) a.variable (pr (length a.inner))) (loop_turn s2 (two f) a.variable (pr q))) (like_length d.At a.inner b.inner h.0.1)
+      (turn_holds I d R r f g a.variable h.0.2 (pr (length a.inner)))) in
       thens I d R r turn (λ goes_on. choice I d R r goes_on (goes a.inner b.inner h.0.1 h.0.3 pr) (close_holds as' bs h.1 rest1 rest2 lr ur pr))
 
   leads_holds : (o : Option ℕ) (rest1 rest2 : List Line) → LikeLines d.At rest1 rest2 → NamesOfLines (d.K f.unit) rest1 → (pr : Progress) (y : Exit) → R ⊤ (λ i. leads (s1 i) (one f) code1 o rest1 (go1 i) pr y) (leads s2 (two f) code2 o rest2 go2 pr y)

@@ -14,3 +14,4 @@ pub mod Statements
 pub mod Execution
 pub mod Uses
 pub mod Agreement
+pub mod Laws
