@@ -1,6 +1,6 @@
 -- A run with a greater bound: an end stays, and records stay. Two runs with k and with k + e statements left do the same,
 -- as long as the first goes on; where the first stops, the second has its records and maybe more.
-use Rattle.std.proofs.Common.{◌≡◌, ◌-◌, Bool, true, false, ℕ, zero, suc, ◌+◌, ◌≤◌, ◌<◌, List, [], ◌∷◌, refl, sym, ap, ◌∙◌, subst, arith}
+use Rattle.std.proofs.Common.{◌≡◌, ◌-◌, Bool, true, false, ℕ, zero, suc, ◌+◌, ◌≤◌, ◌<◌, List, [], ◌∷◌, refl, sym, ap, subst, arith}
 use Rattle.std.specs.Prelude.{⊤}
 use Rattle.ground.specs.declared.place.Place.{Place}
 use Rattle.ground.specs.declared.trap.Trap.{Trap}
@@ -15,7 +15,7 @@ use Rattle.f66_tree.specs.Laws.{Extends}
 use Rattle.f66_tree.proofs.Prefixes.{prefix_self, prefix_in}
 use Rattle.f66_tree.proofs.Posts.{IfGives}
 use Rattle.f66_tree.proofs.Related.{Sides, Frames, Good, Holds, turn_holds}
-use Rattle.f66_tree.proofs.RelatedRuns.{LikeLines, like_itself, performs}
+use Rattle.f66_tree.proofs.RelatedRuns.{LikeLines, like_itself, like_same, performs}
 use Rattle.f66_tree.proofs.AnyNames.{Any, AnySpot, any_scope, any_act, any_lines, any_fair}
 use Rattle.f66_tree.proofs.Grows.{out_of, Grows, bind_grows, bind_grows_if, alone, G, grows_hold, many_grow, turn_grows, fetch_grows, begin_grows, exec_grows}
 
@@ -199,17 +199,6 @@ module _ (l : Linkage) (call1 call2 : ℕ → List Spot → World → Out ⊤) (
       (λ r1 r2 lr ur pr1. record { grows = g (stand r2 pr1); longer = h r1 r2 lr pr1 }) line.label rest rest (like_itself (λ p q. p ≡ q) (λ p. refl) rest) (any_lines rest) pr line.act (any_act line.act) in
       subst (λ v. LongerBy e (suc k) (fetch s1 f code (line ∷ rest) go1 pr (at s (suc k) c)) (fetch s2 f code (line ∷ rest) go2 pr (at s v c))) (sym q)
       (weaken e k (suc k) _ _ (omega arith) (r.longer s k (c + 1) (omega arith)))
-
--- statements that differ in nothing
-like_same : (as' bs : List Line) → LikeLines (λ p q. p ≡ q) as' bs → as' ≡ bs
-like_same [] [] h = refl
-like_same [] (b ∷ bs) h = absurd h
-like_same (a ∷ as') [] h = absurd h
-like_same (a ∷ as') (b ∷ bs) h = ap (λ v. v ∷ as') (line_same a b h.0 h.2 h.1) ∙ ap (λ v. b ∷ v) (like_same as' bs h.3)
-  where
-    line_same : (a b : Line) → a.label ≡ b.label → a.place ≡ b.place → a.act ≡ b.act → a ≡ b
-    line_same a b e p q =
-        ap (λ v. record { label = v; place = a.place; act = a.act }) e ∙ ap (λ v. record { label = b.label; place = v; act = a.act }) p ∙ ap (λ v. record { label = b.label; place = b.place; act = v }) q
 
 abbrev IsOver : End → Type 0
 IsOver (Ended f) = ⊤

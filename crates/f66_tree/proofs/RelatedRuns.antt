@@ -1,6 +1,6 @@
 -- The same of statements that have begun, with what comes after them. The two sides run two lists of statements that differ
 -- in places alone: so the same statements are behind a label, and the same DO loops end at it, on both sides.
-use Rattle.std.proofs.Common.{◌≡◌, ℕ, suc, Bool, true, false, true≢false, List, [], ◌∷◌, ◌++◌, length, Option, Some, None, refl, sym, ap, subst}
+use Rattle.std.proofs.Common.{◌≡◌, ℕ, suc, Bool, true, false, true≢false, List, [], ◌∷◌, ◌++◌, length, Option, Some, None, refl, sym, ap, ◌∙◌, subst}
 use Rattle.std.specs.Prelude.{if◌then◌else◌, nat_eq, ⊤}
 use Rattle.ground.specs.declared.place.Place.{Place}
 use Rattle.f66_tree.specs.Forms.{Text, Act, Assigns, Goes, Selects, Signs, Chooses, Loops, Invokes, Passes, Stops, Returns, Reads, Writes, Formats, Types, Dimensions, Commons, Equivalences, Presets, Line}
@@ -21,6 +21,17 @@ LikeLines At (a ∷ as') (b ∷ bs) = (a.label ≡ b.label) × (a.act ≡ b.act)
 pub like_itself : (At : Place → Place → Type 0) → ((p : Place) → At p p) → (as' : List Line) → LikeLines At as' as'
 like_itself At same [] = tt
 like_itself At same (a ∷ as') = (refl, refl, same a.place, like_itself At same as')
+
+-- statements that differ in nothing
+pub like_same : (as' bs : List Line) → LikeLines (λ p q. p ≡ q) as' bs → as' ≡ bs
+like_same [] [] h = refl
+like_same [] (b ∷ bs) h = absurd h
+like_same (a ∷ as') [] h = absurd h
+like_same (a ∷ as') (b ∷ bs) h = ap (λ v. v ∷ as') (line_same a b h.0 h.2 h.1) ∙ ap (λ v. b ∷ v) (like_same as' bs h.3)
+  where
+    line_same : (a b : Line) → a.label ≡ b.label → a.place ≡ b.place → a.act ≡ b.act → a ≡ b
+    line_same a b e p q =
+        ap (λ v. record { label = v; place = a.place; act = a.act }) e ∙ ap (λ v. record { label = b.label; place = v; act = a.act }) p ∙ ap (λ v. record { label = b.label; place = b.place; act = v }) q
 
 like_length : (At : Place → Place → Type 0) (as' bs : List Line) → LikeLines At as' bs → length as' ≡ length bs
 like_length At [] [] h = refl

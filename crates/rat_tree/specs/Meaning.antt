@@ -39,25 +39,25 @@ went w = Gives Went w
 abbrev pub stays : Then
 stays w = Halts GoesOn w
 
--- goes on where a statement has ended as usual
-abbrev pub then_do : Flow → Then → Flow
-then_do (Gives Went w) go = go w
-then_do (Gives (Jumps l) w) go = Gives (Jumps l) w
-then_do (Gives Backs w) go = Gives Backs w
-then_do (Gives (Leave k) w) go = Gives (Leave k) w
-then_do (Gives (Again k) w) go = Gives (Again k) w
-then_do (Halts e w) go = Halts e w
+-- what comes after a statement that has ended as usual
+abbrev pub after : Then → Course → Then
+after go Went w = go w
+after go c w = Gives c w
 
--- a turn that has ended: by its end, by `next`, or by `break`
+abbrev pub then_do : Flow → Then → Flow
+then_do flow go = bind flow (after go)
+
+-- what comes after a turn: it has ended as usual or by `next`, or `break` leaves the loop
+abbrev pub after_turn : Then → Course → Then
+after_turn go Went w = go w
+after_turn go (Leave zero) w = Gives Went w
+after_turn go (Leave (suc k)) w = Gives (Leave k) w
+after_turn go (Again zero) w = go w
+after_turn go (Again (suc k)) w = Gives (Again k) w
+after_turn go c w = Gives c w
+
 abbrev pub turned : Flow → Then → Flow
-turned (Gives Went w) go = go w
-turned (Gives (Jumps l) w) go = Gives (Jumps l) w
-turned (Gives Backs w) go = Gives Backs w
-turned (Gives (Leave zero) w) go = Gives Went w
-turned (Gives (Leave (suc k)) w) go = Gives (Leave k) w
-turned (Gives (Again zero) w) go = go w
-turned (Gives (Again (suc k)) w) go = Gives (Again k) w
-turned (Halts e w) go = Halts e w
+turned flow go = bind flow (after_turn go)
 
 abbrev pub pred_of : ℕ → ℕ
 pred_of zero = zero
@@ -82,14 +82,13 @@ stands l NoCommand = false
 stands l (AndCommand s ss) = marks l s || stands l ss
 
 -- jumps to a label that stands directly in this list, at most n of them
+abbrev pub landing : ℕ → Commands → (ℕ → Then) → Course → Then
+landing zero ss go (Jumps l) w = if stands l ss then Halts GoesOn w else Gives (Jumps l) w
+landing (suc n) ss go (Jumps l) w = if stands l ss then bind (go l (counted w)) (landing n ss go) else Gives (Jumps l) w
+landing n ss go c w = Gives c w
+
 abbrev pub landed : ℕ → Commands → (ℕ → Then) → Flow → Flow
-landed zero ss go (Gives (Jumps l) w) = if stands l ss then Halts GoesOn w else Gives (Jumps l) w
-landed (suc n) ss go (Gives (Jumps l) w) = if stands l ss then landed n ss go (go l (counted w)) else Gives (Jumps l) w
-landed n ss go (Gives Went w) = Gives Went w
-landed n ss go (Gives Backs w) = Gives Backs w
-landed n ss go (Gives (Leave k) w) = Gives (Leave k) w
-landed n ss go (Gives (Again k) w) = Gives (Again k) w
-landed n ss go (Halts e w) = Halts e w
+landed n ss go flow = bind flow (landing n ss go)
 
 -- where the nodes of expressions add nothing to the work
 abbrev pub quiet : Setting → Setting
@@ -188,13 +187,13 @@ module _ (s : Setting) (f : Frame) where
     all_meaning ss w = landed b ss (λ l. run_from ss (Some l)) (run_from ss None w)
 
 -- past its last statement a unit does as RETURN does, which in a main is STOP
+abbrev pub ended_by : Bool → Course → World → Out ⊤
+ended_by main Went w = past_end main (counted w)
+ended_by main Backs w = Gives tt w
+ended_by main c w = Halts Lost w
+
 abbrev pub ended : Bool → Flow → Out ⊤
-ended main (Gives Went w) = past_end main (counted w)
-ended main (Gives Backs w) = Gives tt w
-ended main (Gives (Jumps l) w) = Halts Lost w
-ended main (Gives (Leave k) w) = Halts Lost w
-ended main (Gives (Again k) w) = Halts Lost w
-ended main (Halts e w) = Halts e w
+ended main flow = bind flow (ended_by main)
 
 -- a unit's body: of the program's own, or of a unit beside them, which stands as it is
 pub data Body : Type 0 where
