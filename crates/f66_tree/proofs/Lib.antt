@@ -2,3 +2,13 @@ pub mod Prefixes
 pub mod Stores
 pub mod EditingLemmas
 pub mod Rows
+pub mod Posts
+pub mod Related
+pub mod RelatedRuns
+pub mod AnyNames
+pub mod Grows
+pub mod Longer
+pub mod ExampleParts
+mod ExamplesOfValues
+mod ExamplesOfControl
+mod ExamplesOfRecords

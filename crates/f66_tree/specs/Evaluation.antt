@@ -1,6 +1,6 @@
 -- Values of expressions, places and arguments (X3.9-1966, sections 5.1.3, 6, 8.2 and 8.3). Operands are evaluated from left
 -- to right, all of them; of subscripts first the values in order, then adjustable dimensions, then the tests, then the read.
-use Rattle.std.specs.Prelude.{ℕ, zero, suc, ◌+◌, ◌*◌, ℤ, pos, ◌-ℤ◌, neg_ℤ, unsigned_abs, int_lt, int_le, nat_lt, Bool, true, false, not, ◌&&◌, ◌||◌, List, [], ◌∷◌, Option, Some, None, Result, Ok, Err, slice_get, codes, if◌then◌else◌, ⊤}
+use Rattle.std.specs.Prelude.{ℕ, zero, suc, ◌+◌, ◌*◌, ℤ, pos, ◌-ℤ◌, neg_ℤ, unsigned_abs, int_lt, int_le, nat_lt, Bool, true, false, not, ◌&&◌, ◌||◌, List, [], ◌∷◌, Option, Some, None, Result, Ok, Err, codes, if◌then◌else◌, ⊤}
 use Rattle.std.specs.Str.{bytes_eq}
 use Rattle.ground.specs.declared.trap.Trap.{Trap}
 use Rattle.ground.specs.declared.trap.Trap.TheVariants.{Subscript, Undefined, ValueArgument}
@@ -117,16 +117,17 @@ abbrev pub sort_of : Context → Text → Sort
 sort_of c x = array_or (sizes_of x c.notes) x
 
 -- the places of a name in its unit: a dummy's are its actual's
-abbrev pub given : Option Spot → Try Spot
-given (Some p) = Yields p
-given None = Fails
+abbrev pub given : ℕ → List Spot → Try Spot
+given i [] = Fails
+given zero (p ∷ ps) = Yields p
+given (suc i) (p ∷ ps) = given i ps
 
-abbrev pub base_by : Option ℕ → Frame → Text → Try Spot
-base_by None f x = Yields (Held f.unit x 0)
-base_by (Some i) f x = given (slice_get f.actuals i)
+abbrev pub base_by : Option ℕ → ℕ → List Spot → Text → Try Spot
+base_by None u ps x = Yields (Held u x 0)
+base_by (Some i) u ps x = given i ps
 
 abbrev pub base : Setting → Frame → Text → Try Spot
-base s f x = base_by (position x (dummies_of (around s f).header)) f x
+base s f x = base_by (position x (dummies_of (around s f).header)) f.unit f.actuals x
 
 abbrev pub ticked : Setting → World → World
 ticked s w = record { state = w.state; left = w.left; count = s.tick w.count }

@@ -12,4 +12,6 @@ pub mod Units
 pub mod Evaluation
 pub mod Statements
 pub mod Execution
+pub mod Uses
 pub mod Agreement
+pub mod Laws

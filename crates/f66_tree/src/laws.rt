@@ -1,5 +1,6 @@
 // Laws of the definitions. The functions do nothing: their contracts are the laws.
 ghost use Rattle.f66_tree.specs.FirstLaws.{StoreKeeps, RecordsStay};
+ghost use Rattle.f66_tree.specs.Laws.{RunsExtend};
 
 /// A store holds what was put last.
 pub fn store_keeps()
@@ -9,4 +10,10 @@ pub fn store_keeps()
 /// Editing leaves the records that were written.
 pub fn records_stay()
     ensures { RecordsStay }
+{}
+
+/// A run of linked units that has ended is the same at every greater bound, and one that goes on has records that begin
+/// those at every greater bound.
+pub fn runs_extend()
+    ensures { RunsExtend }
 {}

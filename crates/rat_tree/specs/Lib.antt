@@ -1,2 +1,4 @@
 pub mod Commands
 pub mod Views
+pub mod Meaning
+pub mod Laws

@@ -1,0 +1,339 @@
+-- One induction for all relations between two runs of the same statements. There are two sides: what a call does, what a
+-- statement that begins costs, how many turns an implied DO may make and what a node counts may differ between them, and on
+-- the first side they may depend on an index, such as its fuel. A relation between the parts of a run on both sides that
+-- holds of results and ends, is kept where one part follows another, and holds of each read, store, step of editing, node
+-- and call, holds of every value, every plain statement, and every statement that has begun.
+--
+-- The relation may rest on what names are used: K says which in each unit, and Fair of which spots a read or a store may
+-- then be. And the places of statements may differ between the sides, as At says.
+use Rattle.std.proofs.Common.{◌≡◌, ℕ, zero, suc, ◌+◌, pos, Bool, true, false, List, [], ◌∷◌, Option, Some, None, refl}
+use Rattle.std.specs.Prelude.{if◌then◌else◌, ◌+ℤ◌, int_le, ⊤}
+use Rattle.std.specs.Str.{bytes_eq}
+use Rattle.ground.specs.declared.place.Place.{Place}
+use Rattle.ground.specs.declared.trap.Trap.{Trap}
+use Rattle.ground.specs.declared.value.Kind.{Kind}
+use Rattle.ground.specs.declared.value.Kind.TheVariants.{Integer}
+use Rattle.ground.specs.Content.{Content, Nothing, Whole, Truth}
+use Rattle.f66_tree.specs.declared.editing.Way.{Way}
+use Rattle.f66_tree.specs.declared.editing.Way.TheVariants.{Reading, Writing}
+use Rattle.f66_tree.specs.Fields.{Fields}
+use Rattle.f66_tree.specs.Forms.{Text, Formula, Number, Fact, Letter, Variable, Applied, Grouped, Positive, Negative, Negated, Joined, Formulas, Nought, Also, Par, Constant, Named, Entry, One, Many, Entries, NoEntry, AndEntry, Act, Assigns, Goes, Selects, Signs, Chooses, Loops, Invokes, Passes, Stops, Returns, Reads, Writes, Formats, Types, Dimensions, Commons, Equivalences, Presets}
+use Rattle.f66_tree.specs.World.{Tape, World, Done, Stopped, Trapped, Finish, Ended, Wrong, Out, Gives, Halts, bind, Try, Yields, Traps, Fails, IfYields, settle, choose}
+use Rattle.f66_tree.specs.Records.{due, put, take, closed}
+use Rattle.f66_tree.specs.FirstLaws.{Keeps}
+use Rattle.f66_tree.specs.Units.{is_main, kind_of, format_of, sizes_of, Spot, Held, Lent, Linkage, Setting, Frame}
+use Rattle.f66_tree.specs.Uses.{Names, NamesOfAll, NameOfPar, NamesOfPars, NamesOfEntry, NamesOfEntries, NamesOfAct}
+use Rattle.f66_tree.specs.Evaluation.{Intrinsic, Sort, AnArray, AnIntrinsic, AFunction, known, intrinsics, array_or, sort_of, base, load, store_at, variable_in, par_in, pars_in, distance, moved, element, called, referred, place_by, place_of, names_place, actual_of, operate, opposite, denied, same_whole, intrinsic, truth_in, ticked, value_of, values_of, subscripts_of, spots_of, locate, asks}
+use Rattle.f66_tree.specs.Statements.{Exit, Next, To, Back, Loop, fit_loop_in, loop_start, turn_of, loop_turn, transfer, edited, taped, took, row, extent, one_or_row, item, item_turns, items, entry, on_unit, opened_by, record_by, label_at, by_sign_of, returned, invoked, does}
+use Rattle.f66_tree.proofs.EditingLemmas.{records_stay}
+use Rattle.f66_tree.proofs.Posts.{Post, post_any, post_settle, AllFair, IsScope, base_fair, moved_fair, element_fair, place_fair, spots_fair}
+
+-- both sides of a comparison
+pub record Sides (I : Type 0) : Type 1 where
+  pub linked : Linkage
+  pub call1 : I → ℕ → List Spot → World → Out ⊤
+  pub begin1 : I → World → Out ⊤
+  pub most1 : I → ℕ
+  pub tick1 : I → ℕ → ℕ
+  pub call2 : ℕ → List Spot → World → Out ⊤
+  pub begin2 : World → Out ⊤
+  pub most2 : ℕ
+  pub tick2 : ℕ → ℕ
+  pub K : ℕ → Text → Type 0
+  pub Fair : Spot → Type 0
+  pub At : Place → Place → Type 0
+
+abbrev pub side1 : {I : Type 0} → Sides I → I → Setting
+side1 d i = record { linked = d.linked; call = d.call1 i; begin = d.begin1 i; most = d.most1 i; tick = d.tick1 i }
+
+abbrev pub side2 : {I : Type 0} → Sides I → Setting
+side2 d = record { linked = d.linked; call = d.call2; begin = d.begin2; most = d.most2; tick = d.tick2 }
+
+-- a frame on both sides, which differ in the place alone
+pub record Frames : Type 0 where
+  pub unit : ℕ
+  pub actuals : List Spot
+  pub here : Place
+  pub there : Place
+
+abbrev pub one : Frames → Frame
+one f = record { unit = f.unit; actuals = f.actuals; place = f.here }
+
+abbrev pub two : Frames → Frame
+two f = record { unit = f.unit; actuals = f.actuals; place = f.there }
+
+-- a frame that may come up
+pub record Good {I : Type 0} (d : Sides I) (f : Frames) : Type 0 where
+  pub places : d.At f.here f.there
+  pub actuals : AllFair d.Fair f.actuals
+
+-- a step of editing: the records written stay
+pub record IsStep (h : Tape → Try Tape) : Type 0 where
+  pub keeps : (t : Tape) → IfYields (Keeps t) (h t)
+
+pub record IsTake (h : Tape → Try (Content × Tape)) : Type 0 where
+  pub keeps : (t : Tape) → IfYields (λ x. Keeps t x.1) (h t)
+
+pub due_steps : (k : Kind) → IsStep (due k)
+due_steps k = record { keeps = records_stay.dues k }
+
+pub put_steps : (c : Content) → IsStep (put c)
+put_steps c = record { keeps = records_stay.puts c }
+
+pub take_steps : IsTake take
+take_steps = record { keeps = records_stay.takes }
+
+pub closed_steps : IsStep closed
+closed_steps = record { keeps = records_stay.closes }
+
+pub opened_steps : (way : Way) (o : Option Fields) → IsStep (opened_by way o)
+opened_steps way (Some fs) = record { keeps = records_stay.opens way fs }
+opened_steps way None = record { keeps = λ t. tt }
+
+-- the names in an array's dimensions
+abbrev SortNames : (Text → Type 0) → Sort → Type 0
+SortNames K (AnArray ns) = NamesOfPars K ns
+SortNames K (AnIntrinsic g) = ⊤
+SortNames K AFunction = ⊤
+
+known_names : (K : Text → Type 0) (es : List (Text × Intrinsic)) (x : Text) → SortNames K (known es x)
+known_names K [] x = tt
+known_names K (e ∷ es) x = by_name (bytes_eq e.0 x) (known es x) (known_names K es x)
+  where
+    by_name : (b : Bool) (o : Sort) → SortNames K o → SortNames K (if b then AnIntrinsic e.1 else o)
+    by_name true o h = tt
+    by_name false o h = h
+
+sort_names : (K : Text → Type 0) (ns : List Par) (x : Text) → NamesOfPars K ns → SortNames K (array_or ns x)
+sort_names K [] x h = known_names K intrinsics x
+sort_names K (n ∷ ns) x h = h
+
+module _ (I : Type 0) (d : Sides I) (R : (A : Type 0) → (I → World → Out A) → (World → Out A) → Type 0) where
+  abbrev l : Linkage
+  l = d.linked
+
+  abbrev s1 : I → Setting
+  s1 i = side1 d i
+
+  abbrev s2 : Setting
+  s2 = side2 d
+
+  pub record Holds : Type 1 where
+    pub scope : IsScope d.K d.Fair d.linked
+    pub gives : {A : Type 0} → (a : A) → R A (λ i w. Gives a w) (λ w. Gives a w)
+    pub ends : {A : Type 0} → (e : Finish) → R A (λ i w. Halts (Ended e) w) (λ w. Halts (Ended e) w)
+    pub traps : {A : Type 0} → (t : Trap) (p q : Place) → d.At p q → R A (λ i w. Halts (Ended (Trapped t p)) w) (λ w. Halts (Ended (Trapped t q)) w)
+    pub binds : {A B : Type 0} {P : A → Type 0} {m1 : I → World → Out A} {m2 : World → Out A} {g1 : A → I → World → Out B} {g2 : A → World → Out B} → R A m1 m2 → Post P m2 → ((a : A) → P a → R B (g1 a) (g2 a)) → R B (λ i w. bind (m1 i w) (λ a w1. g1 a i w1)) (λ w. bind (m2 w) (λ a w1. g2 a w1))
+    pub loads : (f : Frames) → Good d f → (k : Kind) (p : Spot) → d.Fair p → R Content (λ i. load (s1 i) (one f) k p) (load s2 (two f) k p)
+    pub stores : (f : Frames) → Good d f → (p : Spot) → d.Fair p → (c : Content) → R ⊤ (λ i. store_at (s1 i) (one f) p c) (store_at s2 (two f) p c)
+    pub tapes : (f : Frames) → Good d f → (h : Tape → Try Tape) → IsStep h → R ⊤ (λ i. taped f.here h) (taped f.there h)
+    pub takes : (f : Frames) → Good d f → (h : Tape → Try (Content × Tape)) → IsTake h → R Content (λ i. took f.here h) (took f.there h)
+    pub ticks : {A : Type 0} {m1 : I → World → Out A} {m2 : World → Out A} → R A m1 m2 → R A (λ i w. m1 i (ticked (s1 i) w)) (λ w. m2 (ticked s2 w))
+    pub calls : (u : ℕ) (x : Text) (v : ℕ) (ps : List Spot) → d.K u x → d.linked.find x ≡ Some v → AllFair d.Fair ps → R ⊤ (λ i. d.call1 i v ps) (d.call2 v ps)
+
+  module _ (r : Holds) where
+    -- whatever the first part gives
+    pub thens : {A B : Type 0} {m1 : I → World → Out A} {m2 : World → Out A} {g1 : A → I → World → Out B} {g2 : A → World → Out B} → R A m1 m2 → ((a : A) → R B (g1 a) (g2 a)) → R B (λ i w. bind (m1 i w) (λ a w1. g1 a i w1)) (λ w. bind (m2 w) (λ a w1. g2 a w1))
+    thens {A} {m2} h k = r.binds {P = λ _. ⊤} h (λ w. post_any (m2 w)) (λ a _. k a)
+
+    pub settles : {A : Type 0} → (f : Frames) → Good d f → (o : Try A) → R A (λ i. settle f.here o) (settle f.there o)
+    settles f g (Yields a) = r.gives a
+    settles f g (Traps t) = r.traps t f.here f.there g.places
+    settles f g Fails = r.ends Wrong
+
+    pub choice : {A : Type 0} {m1 n1 : I → World → Out A} {m2 n2 : World → Out A} → (b : Bool) → R A m1 m2 → R A n1 n2 → R A (λ i w. choose b (m1 i w) (n1 i w)) (λ w. choose b (m2 w) (n2 w))
+    choice true h k = h
+    choice false h k = k
+
+    choice_if : {A : Type 0} {m1 n1 : I → World → Out A} {m2 n2 : World → Out A} → (b : Bool) → R A m1 m2 → R A n1 n2 → R A (λ i w. if b then (m1 i w) else (n1 i w)) (λ w. if b then (m2 w) else (n2 w))
+    choice_if true h k = h
+    choice_if false h k = k
+
+    -- the place of a name, and what is done with it
+    pub base_then : {B : Type 0} {g1 : Spot → I → World → Out B} {g2 : Spot → World → Out B} → (f : Frames) → Good d f → (x : Text) → d.K f.unit x → ((p : Spot) → d.Fair p → R B (g1 p) (g2 p)) → R B (λ i w. bind (settle f.here (base (s1 i) (one f) x) w) (λ p w1. g1 p i w1)) (λ w. bind (settle f.there (base s2 (two f) x) w) (λ p w1. g2 p w1))
+    base_then f g x used k =
+        r.binds {P = d.Fair} (settles f g (base s2 (two f) x)) (post_settle d.Fair f.there (base s2 (two f) x) (base_fair d.K d.Fair s2 r.scope (two f) x used g.actuals)) k
+
+    pub variable_holds : (f : Frames) → Good d f → (x : Text) → d.K f.unit x → R Content (λ i. variable_in (s1 i) (one f) x) (variable_in s2 (two f) x)
+    variable_holds f g x used = base_then f g x used (λ p fair. r.loads f g (kind_of (l.context f.unit) x) p fair)
+
+    pub par_holds : (f : Frames) → Good d f → (n : Par) → NameOfPar (d.K f.unit) n → R Content (λ i. par_in (s1 i) (one f) n) (par_in s2 (two f) n)
+    par_holds f g (Constant z) used = r.gives (Whole z)
+    par_holds f g (Named x) used = variable_holds f g x used
+
+    pars_hold : (f : Frames) → Good d f → (ns : List Par) → NamesOfPars (d.K f.unit) ns → R (List Content) (λ i. pars_in (s1 i) (one f) ns) (pars_in s2 (two f) ns)
+    pars_hold f g [] used = r.gives []
+    pars_hold f g (n ∷ ns) used = thens (par_holds f g n used.0) (λ v. thens (pars_hold f g ns used.1) (λ vs. r.gives (v ∷ vs)))
+
+    element_holds : (f : Frames) → Good d f → (x : Text) → d.K f.unit x → (ns : List Par) → NamesOfPars (d.K f.unit) ns → {m1 : I → World → Out (List Content)} {m2 : World → Out (List Content)} → R (List Content) m1 m2 → R Spot (λ i. element (s1 i) (one f) x ns (m1 i)) (element s2 (two f) x ns m2)
+    element_holds f g x used ns sizes h =
+        base_then f g x used (λ p fair. thens h (λ vs. thens (pars_hold f g ns sizes) (λ ds. thens (settles f g (distance 1 vs ds)) (λ n. settles f g (moved l p n)))))
+
+    -- an element is fair: the last step leads on from the place of its name
+    element_then : {B : Type 0} {g1 : Spot → I → World → Out B} {g2 : Spot → World → Out B} → (f : Frames) → Good d f → (x : Text) → d.K f.unit x → (ns : List Par) → NamesOfPars (d.K f.unit) ns → {m1 : I → World → Out (List Content)} {m2 : World → Out (List Content)} → R (List Content) m1 m2 → ((p : Spot) → d.Fair p → R B (g1 p) (g2 p)) → R B (λ i w. bind (element (s1 i) (one f) x ns (m1 i) w) (λ p w1. g1 p i w1)) (λ w. bind (element s2 (two f) x ns m2 w) (λ p w1. g2 p w1))
+    element_then f g x used ns sizes {m1} {m2} h k = r.binds {P = d.Fair} (element_holds f g x used ns sizes h) (element_fair d.K d.Fair s2 r.scope (two f) x ns m2 used g.actuals) k
+
+    called_holds : (f : Frames) → Good d f → (x : Text) → d.K f.unit x → (o : Option ℕ) → l.find x ≡ o → {m1 : I → World → Out (List Spot)} {m2 : World → Out (List Spot)} → R (List Spot) m1 m2 → Post (AllFair d.Fair) m2 → R Content (λ i. called (s1 i) (one f) x o (m1 i)) (called s2 (two f) x o m2)
+    called_holds f g x used None e h fair = r.ends Wrong
+    called_holds f g x used (Some v) e h fair =
+        let own : d.Fair (Held v x 0) = r.scope.callee f.unit x v used e in
+        r.binds {P = AllFair d.Fair} h fair (λ ps all. thens (thens (r.stores f g (Held v x 0) own Nothing) (λ _. r.calls f.unit x v ps used e all)) (λ _. r.loads f g (kind_of (l.context f.unit) x) (Held v x 0) own))
+
+    sized : (f : Frames) (x : Text) → d.K f.unit x → SortNames (d.K f.unit) (sort_of (l.context f.unit) x)
+    sized f x used = sort_names (d.K f.unit) (sizes_of x (l.context f.unit).notes) x (r.scope.dimensions f.unit x used)
+
+    referred_holds : (f : Frames) → Good d f → (x : Text) → d.K f.unit x → (o : Sort) → SortNames (d.K f.unit) o → {m1 : I → World → Out (List Content)} {m2 : World → Out (List Content)} {n1 : I → World → Out (List Spot)} {n2 : World → Out (List Spot)} → R (List Content) m1 m2 → R (List Spot) n1 n2 → Post (AllFair d.Fair) n2 → R Content (λ i. referred (s1 i) (one f) x o (m1 i) (n1 i)) (referred s2 (two f) x o m2 n2)
+    referred_holds f g x used (AnArray ns) sizes h k fair = element_then f g x used ns sizes h (λ p ok. r.loads f g (kind_of (l.context f.unit) x) p ok)
+    referred_holds f g x used (AnIntrinsic q) sizes h k fair = thens h (λ vs. settles f g (intrinsic q vs))
+    referred_holds f g x used AFunction sizes h k fair = called_holds f g x used (l.find x) refl k fair
+
+    place_holds : (f : Frames) → Good d f → (e : Formula) → Names (d.K f.unit) e → {m1 : I → World → Out (List Content)} {m2 : World → Out (List Content)} → R (List Content) m1 m2 → R Spot (λ i. place_of (s1 i) (one f) e (m1 i)) (place_of s2 (two f) e m2)
+    place_holds f g (Number z) used h = r.ends Wrong
+    place_holds f g (Fact b) used h = r.ends Wrong
+    place_holds f g (Letter c) used h = r.ends Wrong
+    place_holds f g (Variable x) used h = r.ticks (settles f g (base s2 (two f) x))
+    place_holds f g (Applied x es) used {m1} {m2} h = r.ticks (by_sort (sort_of (l.context f.unit) x) (sized f x used.0))
+      where
+        by_sort : (o : Sort) → SortNames (d.K f.unit) o → R Spot (λ i. place_by (s1 i) (one f) x o (m1 i)) (place_by s2 (two f) x o m2)
+        by_sort (AnArray ns) sizes = element_holds f g x used.0 ns sizes h
+        by_sort (AnIntrinsic q) sizes = r.ends Wrong
+        by_sort AFunction sizes = r.ends Wrong
+    place_holds f g (Grouped a) used h = r.ends Wrong
+    place_holds f g (Positive a) used h = r.ends Wrong
+    place_holds f g (Negative a) used h = r.ends Wrong
+    place_holds f g (Negated a) used h = r.ends Wrong
+    place_holds f g (Joined op a b) used h = r.ends Wrong
+
+    actual_holds : (b : Bool) {m1 : I → World → Out Spot} {m2 : World → Out Spot} {n1 : I → World → Out Content} {n2 : World → Out Content} → R Spot m1 m2 → R Content n1 n2 → R Spot (λ i. actual_of b (m1 i) (n1 i)) (actual_of b m2 n2)
+    actual_holds true h k = h
+    actual_holds false h k = thens k (λ v. r.gives (Lent v))
+
+    mutual
+      pub value_holds : (f : Frames) → Good d f → (e : Formula) → Names (d.K f.unit) e → R Content (λ i. value_of (s1 i) (one f) e) (value_of s2 (two f) e)
+      value_holds f g (Number z) used = r.ticks (r.gives (Whole z))
+      value_holds f g (Fact b) used = r.ticks (r.gives (Truth b))
+      value_holds f g (Letter c) used = r.ticks (r.gives (Whole (pos c)))
+      value_holds f g (Variable x) used = r.ticks (variable_holds f g x used)
+      value_holds f g (Applied x es) used =
+          r.ticks (referred_holds f g x used.0 (sort_of (l.context f.unit) x) (sized f x used.0) (values_hold f g es used.1) (spots_hold f g es used.1) (spots_fair d.K d.Fair s2 r.scope (two f) es used.1 g.actuals))
+      value_holds f g (Grouped a) used = r.ticks (value_holds f g a used)
+      value_holds f g (Positive a) used = thens (r.ticks (value_holds f g a used)) (λ v. settles f g (same_whole v))
+      value_holds f g (Negative a) used = thens (r.ticks (value_holds f g a used)) (λ v. settles f g (opposite v))
+      value_holds f g (Negated a) used = thens (r.ticks (value_holds f g a used)) (λ v. settles f g (denied v))
+      value_holds f g (Joined op a b) used = thens (r.ticks (value_holds f g a used.0)) (λ x. thens (value_holds f g b used.1) (λ y. settles f g (operate op x y)))
+
+      pub values_hold : (f : Frames) → Good d f → (es : Formulas) → NamesOfAll (d.K f.unit) es → R (List Content) (λ i. values_of (s1 i) (one f) es) (values_of s2 (two f) es)
+      values_hold f g Nought used = r.gives []
+      values_hold f g (Also e es) used = thens (value_holds f g e used.0) (λ v. thens (values_hold f g es used.1) (λ vs. r.gives (v ∷ vs)))
+
+      subscripts_hold : (f : Frames) → Good d f → (e : Formula) → Names (d.K f.unit) e → R (List Content) (λ i. subscripts_of (s1 i) (one f) e) (subscripts_of s2 (two f) e)
+      subscripts_hold f g (Applied x es) used = values_hold f g es used.1
+      subscripts_hold f g (Number z) used = r.gives []
+      subscripts_hold f g (Fact b) used = r.gives []
+      subscripts_hold f g (Letter c) used = r.gives []
+      subscripts_hold f g (Variable x) used = r.gives []
+      subscripts_hold f g (Grouped a) used = r.gives []
+      subscripts_hold f g (Positive a) used = r.gives []
+      subscripts_hold f g (Negative a) used = r.gives []
+      subscripts_hold f g (Negated a) used = r.gives []
+      subscripts_hold f g (Joined op a b) used = r.gives []
+
+      pub spots_hold : (f : Frames) → Good d f → (es : Formulas) → NamesOfAll (d.K f.unit) es → R (List Spot) (λ i. spots_of (s1 i) (one f) es) (spots_of s2 (two f) es)
+      spots_hold f g Nought used = r.gives []
+      spots_hold f g (Also e es) used =
+          thens (r.ticks (actual_holds (names_place (l.context f.unit) e) (place_holds f g e used.0 (subscripts_hold f g e used.0)) (value_holds f g e used.0))) (λ p. thens (spots_hold f g es used.1) (λ ps. r.gives (p ∷ ps)))
+
+    pub locate_holds : (f : Frames) → Good d f → (e : Formula) → Names (d.K f.unit) e → R Spot (λ i. locate (s1 i) (one f) e) (locate s2 (two f) e)
+    locate_holds f g e used = place_holds f g e used (subscripts_hold f g e used)
+
+    locate_then : {B : Type 0} {g1 : Spot → I → World → Out B} {g2 : Spot → World → Out B} → (f : Frames) → Good d f → (e : Formula) → Names (d.K f.unit) e → ((p : Spot) → d.Fair p → R B (g1 p) (g2 p)) → R B (λ i w. bind (locate (s1 i) (one f) e w) (λ p w1. g1 p i w1)) (λ w. bind (locate s2 (two f) e w) (λ p w1. g2 p w1))
+    locate_then f g e used k = r.binds {P = d.Fair} (locate_holds f g e used) (place_fair d.K d.Fair s2 r.scope (two f) e (subscripts_of s2 (two f) e) used g.actuals) k
+
+    pub asks_hold : (f : Frames) → Good d f → (e : Formula) → Names (d.K f.unit) e → R Bool (λ i. asks (s1 i) (one f) e) (asks s2 (two f) e)
+    asks_hold f g e used = thens (value_holds f g e used) (λ v. settles f g (truth_in v))
+
+    pub start_holds : (f : Frames) → Good d f → (x : Text) (a b c : Par) → d.K f.unit x → NameOfPar (d.K f.unit) a → NameOfPar (d.K f.unit) b → NameOfPar (d.K f.unit) c → R Loop (λ i. loop_start (s1 i) (one f) x a b c) (loop_start s2 (two f) x a b c)
+    start_holds f g x a b c used ua ub uc =
+        base_then f g x used (λ p fair. thens (par_holds f g a ua) (λ va. thens (par_holds f g b ub) (λ vb. thens (par_holds f g c uc) (λ vc.
+        thens (settles f g (fit_loop_in va vb vc)) (λ k. thens (r.stores f g p fair va) (λ _. r.gives k))))))
+
+    pub turn_holds : (f : Frames) → Good d f → (x : Text) → d.K f.unit x → (k : Loop) → R Bool (λ i. loop_turn (s1 i) (one f) x k) (loop_turn s2 (two f) x k)
+    turn_holds f g x used k = base_then f g x used (λ p fair. thens (r.loads f g Integer p fair) (λ v. by_content p fair v))
+      where
+        by_content : (p : Spot) → d.Fair p → (v : Content) → R Bool (λ i. turn_of (s1 i) (one f) p k v) (turn_of s2 (two f) p k v)
+        by_content p fair (Whole z) = choice_if (int_le (z +ℤ k.step) k.limit) (thens (r.stores f g p fair (Whole (z +ℤ k.step))) (λ _. r.gives true)) (thens (r.stores f g p fair Nothing) (λ _. r.gives false))
+        by_content p fair Nothing = r.ends Wrong
+        by_content p fair (Truth b) = r.ends Wrong
+
+    transfer_holds : (f : Frames) → Good d f → (way : Way) (k : Kind) (p : Spot) → d.Fair p → R ⊤ (λ i. transfer (s1 i) (one f) way k p) (transfer s2 (two f) way k p)
+    transfer_holds f g Reading k p fair = thens (r.takes f g take take_steps) (λ c. r.stores f g p fair c)
+    transfer_holds f g Writing k p fair = thens (r.loads f g k p fair) (λ c. r.tapes f g (put c) (put_steps c))
+
+    edited_holds : (f : Frames) → Good d f → (way : Way) (k : Kind) (p : Spot) → d.Fair p → R ⊤ (λ i. edited (s1 i) (one f) way k p) (edited s2 (two f) way k p)
+    edited_holds f g way k p fair = thens (r.tapes f g (due k) (due_steps k)) (λ _. transfer_holds f g way k p fair)
+
+    row_holds : (f : Frames) → Good d f → (way : Way) (k : Kind) (p : Spot) → d.Fair p → (n j : ℕ) → R ⊤ (λ i. row (s1 i) (one f) way k p n j) (row s2 (two f) way k p n j)
+    row_holds f g way k p fair zero j = r.gives tt
+    row_holds f g way k p fair (suc n) j =
+        r.binds {P = d.Fair} (settles f g (moved l p j)) (post_settle d.Fair f.there (moved l p j) (moved_fair d.K d.Fair s2 r.scope p j fair)) (λ q ok. thens (edited_holds f g way k q ok) (λ _. row_holds f g way k p fair n (j + 1)))
+
+    one_holds : (f : Frames) → Good d f → (way : Way) (k : Kind) (ns : List Par) → NamesOfPars (d.K f.unit) ns → (p : Spot) → d.Fair p → R ⊤ (λ i. one_or_row (s1 i) (one f) way k ns p) (one_or_row s2 (two f) way k ns p)
+    one_holds f g way k [] sizes p fair = edited_holds f g way k p fair
+    one_holds f g way k (n ∷ ns) sizes p fair = thens (pars_hold f g (n ∷ ns) sizes) (λ ds. thens (settles f g (extent ds)) (λ m. row_holds f g way k p fair m 0))
+
+    item_holds : (f : Frames) → Good d f → (way : Way) (e : Formula) → Names (d.K f.unit) e → R ⊤ (λ i. item (s1 i) (one f) way e) (item s2 (two f) way e)
+    item_holds f g way (Variable x) used = locate_then f g (Variable x) used (λ p fair. one_holds f g way (kind_of (l.context f.unit) x) (sizes_of x (l.context f.unit).notes) (r.scope.dimensions f.unit x used) p fair)
+    item_holds f g way (Applied x es) used = locate_then f g (Applied x es) used (λ p fair. edited_holds f g way (kind_of (l.context f.unit) x) p fair)
+    item_holds f g way (Number z) used = r.ends Wrong
+    item_holds f g way (Fact b) used = r.ends Wrong
+    item_holds f g way (Letter c) used = r.ends Wrong
+    item_holds f g way (Grouped a) used = r.ends Wrong
+    item_holds f g way (Positive a) used = r.ends Wrong
+    item_holds f g way (Negative a) used = r.ends Wrong
+    item_holds f g way (Negated a) used = r.ends Wrong
+    item_holds f g way (Joined op a b) used = r.ends Wrong
+
+    module _ (many : (f : Frames) → Good d f → (x : Text) → d.K f.unit x → (k : Loop) (m1 : I → World → Out ⊤) (m2 : World → Out ⊤) → R ⊤ m1 m2 → R ⊤ (λ i. item_turns (d.most1 i) (s1 i) (one f) x k (m1 i)) (item_turns d.most2 s2 (two f) x k m2)) where
+      mutual
+        items_hold : (f : Frames) → Good d f → (way : Way) (es : Entries) → NamesOfEntries (d.K f.unit) es → R ⊤ (λ i. items (s1 i) (one f) way es) (items s2 (two f) way es)
+        items_hold f g way NoEntry used = r.gives tt
+        items_hold f g way (AndEntry e es) used = thens (r.ticks (entry_holds f g way e used.0)) (λ _. items_hold f g way es used.1)
+
+        entry_holds : (f : Frames) → Good d f → (way : Way) (e : Entry) → NamesOfEntry (d.K f.unit) e → R ⊤ (λ i. entry (s1 i) (one f) way e) (entry s2 (two f) way e)
+        entry_holds f g way (One e) used = item_holds f g way e used
+        entry_holds f g way (Many es x a b c) used = thens (start_holds f g x a b c used.1 used.2 used.3 used.4) (λ k. many f g x used.1 k _ _ (items_hold f g way es used.0))
+
+      record_holds : (f : Frames) → Good d f → (way : Way) (u : Par) (m : ℕ) (es : Entries) → NameOfPar (d.K f.unit) u → NamesOfEntries (d.K f.unit) es → R Exit (λ i. record_by (s1 i) (one f) way u m es) (record_by s2 (two f) way u m es)
+      record_holds f g way u m es uu used =
+          thens (par_holds f g u uu) (λ v. thens (settles f g (on_unit way v)) (λ _.
+          thens (r.tapes f g (opened_by way (format_of m (l.context f.unit).notes)) (opened_steps way (format_of m (l.context f.unit).notes))) (λ _. thens (items_hold f g way es used) (λ _.
+          thens (r.tapes f g closed closed_steps) (λ _. r.gives Next)))))
+
+      invoked_holds : (f : Frames) (x : Text) → d.K f.unit x → (o : Option ℕ) → l.find x ≡ o → {m1 : I → World → Out (List Spot)} {m2 : World → Out (List Spot)} → R (List Spot) m1 m2 → Post (AllFair d.Fair) m2 → R Exit (λ i. invoked (s1 i) o (m1 i)) (invoked s2 o m2)
+      invoked_holds f x used None e h fair = r.ends Wrong
+      invoked_holds f x used (Some v) e h fair = r.binds {P = AllFair d.Fair} h fair (λ ps all. thens (r.calls f.unit x v ps used e all) (λ _. r.gives Next))
+
+      returned_holds : (b : Bool) → R Exit (λ i. returned b) (returned b)
+      returned_holds true = r.ends Done
+      returned_holds false = r.gives Back
+
+      pub does_holds : (f : Frames) → Good d f → (a : Act) → NamesOfAct (d.K f.unit) a → R Exit (λ i. does (s1 i) (one f) a) (does s2 (two f) a)
+      does_holds f g (Assigns x e) used = locate_then f g x used.0 (λ p fair. thens (value_holds f g e used.1) (λ v. thens (r.stores f g p fair v) (λ _. r.gives Next)))
+      does_holds f g (Goes m) used = r.gives (To m)
+      does_holds f g (Selects ls x) used = thens (variable_holds f g x used) (λ v. thens (settles f g (label_at ls v)) (λ m. r.gives (To m)))
+      does_holds f g (Signs e n m k) used = thens (value_holds f g e used) (λ v. thens (settles f g (by_sign_of n m k v)) (λ j. r.gives (To j)))
+      does_holds f g (Chooses e a) used = r.gives Next
+      does_holds f g (Loops m x a b c) used = r.gives Next
+      does_holds f g (Invokes x es) used = invoked_holds f x used.0 (l.find x) refl (spots_hold f g es used.1) (spots_fair d.K d.Fair s2 r.scope (two f) es used.1 g.actuals)
+      does_holds f g Passes used = r.gives Next
+      does_holds f g (Stops None) used = r.ends Done
+      does_holds f g (Stops (Some n)) used = r.ends (Stopped n)
+      does_holds f g Returns used = returned_holds (is_main (l.context f.unit).header)
+      does_holds f g (Reads u m es) used = record_holds f g Reading u m es used.0 used.1
+      does_holds f g (Writes u m es) used = record_holds f g Writing u m es used.0 used.1
+      does_holds f g (Formats fs) used = r.gives Next
+      does_holds f g (Types t ds) used = r.gives Next
+      does_holds f g (Dimensions ds) used = r.gives Next
+      does_holds f g (Commons areas) used = r.gives Next
+      does_holds f g (Equivalences es) used = r.gives Next
+      does_holds f g (Presets ps) used = r.gives Next
