@@ -1,12 +1,12 @@
 -- What the parser answers: the tree of a program within its limits, or the first fault.
-use Rattle.std.specs.Prelude.{◌≡◌, ◌↔◌, ◌⊎◌, ℕ, suc, take, Option, Some, None, Result, Ok, Err, slice_get, List}
+use Rattle.std.specs.Prelude.{◌≡◌, ◌⊎◌, ℕ, suc, take, Some, Result, Ok, Err, slice_get, List}
 use Rattle.ground.specs.declared.token.Token.{Token}
 use Rattle.ground.specs.declared.fault.Fault.{Fault}
 use Rattle.ground.specs.declared.fault.FaultKind.TheVariants.{Syntax, Limit}
 use Rattle.ground.specs.declared.fault.Refusal.{Refusal}
 use Rattle.ground.specs.declared.fault.Refusal.TheVariants as refusals
-use Rattle.grammar.specs.Grammar.{Grammar, Parse, IsProgram, Begins}
-use Rattle.grammar.specs.Limits.{history_of, Meter, first_passing, IsWithin, Passes}
+use Rattle.grammar.specs.Grammar.{Grammar, Begins}
+use Rattle.grammar.specs.Limits.{Meter, IsWithin, Passes, IsAccepted}
 
 module _ {T N P V M : Type 0} (g : Grammar Token T N P V) (meter : Meter T P M) where
   -- Some program begins with the tokens before the i-th, none with it too, and no limit is passed before it.
@@ -25,13 +25,8 @@ module _ {T N P V M : Type 0} (g : Grammar Token T N P V) (meter : Meter T P M) 
   abbrev pub IsFirstFault : List Token → Fault → Type 0
   IsFirstFault ts fault = (i : ℕ) × (t : Token) × (slice_get ts i ≡ Some t) × FaultAt ts i t fault
 
-  -- The value is that of each derivation of the text, of which there is one, and the text passes no limit.
-  pub record IsAccepted (ts : List Token) (v : V) : Type 0 where
-    pub value : (c : V) → IsProgram g ts c ↔ (v ≡ c)
-    pub within : (parse : Parse g ts) → first_passing meter (history_of g parse) ≡ None
-
   -- Want of memory says nothing of the text.
   abbrev pub Answers : {W : Type 0} → (W → V) → List Token → Result W Refusal → Type 0
-  Answers view ts (Ok w) = IsAccepted ts (view w)
+  Answers view ts (Ok w) = IsAccepted g meter ts (view w)
   Answers view ts (Err (refusals.Fault fault)) = IsFirstFault ts fault
   Answers view ts (Err refusals.Memory) = Unit {0}

@@ -29,11 +29,11 @@ module _ {Token T N P V : Type 0} (g : Grammar Token T N P V) where
   abbrev pub whole : Item P V → V
   whole f = g.build f.production f.values
 
-  -- Each item but the innermost waits for a nonterminal, and the outermost is the start production.
+  -- Each item but the innermost waits for the nonterminal of the next, and the outermost is the start production.
   abbrev pub Linked : List (Item P V) → Type 0
   Linked [] = ⊥
   Linked (f ∷ []) = f.production ≡ g.start
-  Linked (f ∷ h ∷ fs) = (n : N) × (left h ≡ Nonterminal n ∷ behind h) × Linked (h ∷ fs)
+  Linked (f ∷ h ∷ fs) = (left h ≡ Nonterminal (g.nonterminal_of f.production) ∷ behind h) × Linked (h ∷ fs)
 
 module _ {Token T N P V : Type 0} (g : Grammar Token T N P V) (predict : N → T → Option P) where
   -- With this value of the innermost, these tokens finish the items, and give the text its value and history.

@@ -1,8 +1,8 @@
 -- What happens along a derivation, and the meters that count it against limits.
-use Rattle.std.specs.Prelude.{◌≡◌, ℕ, suc, ◌≤◌, ◌++◌, Option, Some, None, List, [], ◌∷◌}
+use Rattle.std.specs.Prelude.{◌≡◌, ◌↔◌, ℕ, suc, ◌≤◌, ◌++◌, Option, Some, None, List, [], ◌∷◌}
 use Rattle.grammar.specs.declared.language.Event.{Event}
 use Rattle.grammar.specs.declared.language.Event.TheVariants.{Open, Take, Close}
-use Rattle.grammar.specs.Grammar.{Grammar, Tree, Trees, leaf, node, none, some, Parse}
+use Rattle.grammar.specs.Grammar.{Grammar, Tree, Trees, leaf, node, none, some, Parse, IsProgram}
 
 module _ {Token T N P V : Type 0} (g : Grammar Token T N P V) where
   -- The events of a derivation from left to right, the latest first: a production opens, a token is taken, a production closes.
@@ -65,3 +65,8 @@ module _ {Token T N P V M : Type 0} (g : Grammar Token T N P V) (meter : Meter T
   -- In each program that begins with these tokens, the first limit that is passed is this one.
   abbrev pub Passes : List Token → Passing → Type 0
   Passes ts at = (more : List Token) → (parse : Parse g (ts ++ more)) → first_passing meter (history_of g parse) ≡ Some at
+
+  -- The value is that of each derivation of the text, of which there is one, and the text passes no limit.
+  pub record IsAccepted (ts : List Token) (v : V) : Type 0 where
+    pub value : (c : V) → IsProgram g ts c ↔ (v ≡ c)
+    pub within : (parse : Parse g ts) → first_passing meter (history_of g parse) ≡ None
