@@ -9,3 +9,4 @@ pub mod HistoryLemmas
 pub mod EndLemmas
 pub mod RunLemmas
 pub mod OneLemmas
+pub mod AnswerLemmas

@@ -1,6 +1,6 @@
 -- The stack and its values, as the machine holds them.
-use Rattle.std.proofs.Common.{◌≡◌, ℕ, zero, suc, ◌+◌, arith, length, drop, ◌++◌, Option, Some, None, List, [], ◌∷◌, refl, sym, ◌∙◌, ap, subst}
-use Rattle.std.specs.Prelude.{slice_get, MatchOption, option_to_list}
+use Rattle.std.proofs.Common.{◌≡◌, Bool, true, false, ℕ, zero, suc, ◌+◌, arith, length, drop, ◌++◌, Option, Some, None, List, [], ◌∷◌, refl, sym, ◌∙◌, ap, subst}
+use Rattle.std.specs.Prelude.{slice_get, MatchOption, option_to_list, is_some}
 use Rattle.grammar.specs.Stack.{piled}
 
 drop_at : {A : Type 0} → (xs : List A) → (n : ℕ) → (x : A) → slice_get xs n ≡ Some x → drop n xs ≡ x ∷ drop (suc n) xs
@@ -40,3 +40,11 @@ pub popped : {A B : Type 0} → (f : A → B) → (o : Option A) → (old new : 
     MatchOption o (piled f old [] ≡ []) (λ x. piled f old [] ≡ f x ∷ piled f new [])
 popped f None old new n m k e l h = ap (λ xs. piled f xs []) (nil_of old (omega arith))
 popped f (Some x) old new n m k e l h = ap (λ xs. piled f xs []) e ∙ piled-append f new x []
+
+pub some_of : {A : Type 0} → (o : Option A) → (B : Type 0) → (C : A → Type 0) → MatchOption o B C → true ≡ is_some o → (x : A) × C x
+some_of None B C h e = absurd (let f : true ≡ false = e in cc)
+some_of (Some x) B C h e = (x, h)
+
+pub none_of : {A : Type 0} → (o : Option A) → (B : Type 0) → (C : A → Type 0) → MatchOption o B C → false ≡ is_some o → B
+none_of None B C h e = h
+none_of (Some x) B C h e = absurd (let f : false ≡ true = e in cc)

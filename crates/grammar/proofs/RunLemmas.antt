@@ -2,6 +2,7 @@
 use Rattle.std.proofs.Common.{◌≡◌, ◌≤◌, ◌+◌, ℕ, suc, Bool, List, [], ◌∷◌, ◌++◌, length, length-append, arith, Option, Some, None, refl, sym, ◌∙◌, ap, subst, append_assoc, append-nil}
 use Rattle.grammar.specs.declared.language.Event.{Event}
 use Rattle.grammar.specs.declared.language.Event.TheVariants.{Open, Take, Close}
+use Rattle.grammar.specs.declared.language.Symbol.{Symbol}
 use Rattle.grammar.specs.declared.language.Symbol.TheVariants.{Terminal, Nonterminal}
 use Rattle.grammar.specs.Grammar.{Grammar, Parse, result_of, Begins, EndsWith, IsProgram}
 use Rattle.grammar.specs.Limits.{history_of, Meter, Passing, taken, passing_at, earlier_of, reading, first_passing, IsWithin, Passes, IsAccepted}
@@ -14,7 +15,7 @@ use Rattle.grammar.proofs.DerivationLemmas.{parse_of, guided_parse}
 use Rattle.grammar.proofs.ClosingLemmas.{closable}
 use Rattle.grammar.proofs.HistoryLemmas.{extends, kept, late, quiet}
 use Rattle.grammar.proofs.EndLemmas.{ended}
-use Rattle.grammar.proofs.StepLemmas.{closes, opens, shifts}
+use Rattle.grammar.proofs.StepLemmas.{closes, opens, shifts, finishes, finishes_back, unfinished}
 
 module _ {Token T N P V : Type 0} (g : Grammar Token T N P V) (predict : N → T → Option P) where
   pub same_then : (fs gs hs : List (Item P V)) → (past middle later : List (Event T P)) → (ts us vs : List Token) →
@@ -31,6 +32,46 @@ module _ {Token T N P V : Type 0} (g : Grammar Token T N P V) (predict : N → T
     to = λ c all h. subst (λ hs. Continues g predict hs later us c all) (sym d) (s.to c all (subst (λ hs. Continues g predict hs past ts c all) e h));
     from = λ c all h. subst (λ hs. Continues g predict hs past ts c all) (sym e) (s.from c all (subst (λ hs. Continues g predict hs later us c all) d h));
   }
+
+  -- At the end of the text the items are closed from the innermost.
+  abbrev pub ComesTo : List (Item P V) → List (Item P V) → Type 0
+  ComesTo fs gs = (past : List (Event T P)) → (later : List (Event T P)) × Same g predict fs past gs later [] []
+
+  pub comes_to_itself : (fs : List (Item P V)) → ComesTo fs fs
+  comes_to_itself fs past = (past, record { to = λ c all h. h; from = λ c all h. h })
+
+  pub comes_closer : (fs gs hs : List (Item P V)) → (f i : Item P V) → (rest : List (Item P V)) → ComesTo fs gs → gs ≡ f ∷ i ∷ rest → hs ≡ with_value i (whole g f) ∷ rest →
+      left g f ≡ [] → ComesTo fs hs
+  comes_closer fs gs hs f i rest come old new none_left past =
+      let x = come past in (
+        Close f.production ∷ x.0,
+        same_then fs gs hs past x.0 (Close f.production ∷ x.0) [] [] [] x.1
+            (same_at gs (f ∷ i ∷ rest) hs (with_value i (whole g f) ∷ rest) x.0 (Close f.production ∷ x.0) [] [] old new (closes g predict f i rest x.0 [] none_left)),
+      )
+
+  pub finishes_whole : {W : Type 0} → (view : W → V) → (w : W) → (fs gs : List (Item P V)) → (f : Item P V) → ComesTo fs gs → gs ≡ f ∷ [] → left g f ≡ [] → view w ≡ whole g f →
+      Finishes g predict view fs (Some w)
+  finishes_whole view w fs gs f come alone none_left value past =
+      let x = come past in (
+        λ c all h. value ∙ finishes g predict f x.0 c all none_left (subst (λ hs. Continues g predict hs x.0 [] c all) alone (x.1.to c all h)),
+        (
+          Close f.production ∷ x.0,
+          x.1.from (view w) (Close f.production ∷ x.0)
+              (subst (λ hs. Continues g predict hs x.0 [] (view w) (Close f.production ∷ x.0)) (sym alone)
+              (subst (λ v. Continues g predict (f ∷ []) x.0 [] v (Close f.production ∷ x.0)) (sym value) (finishes_back g predict f x.0 none_left))),
+        ),
+      )
+
+  pub finishes_stuck : {W : Type 0} → (view : W → V) → (fs gs : List (Item P V)) → (f : Item P V) → (rest : List (Item P V)) → (s : Symbol T N) → ComesTo fs gs → gs ≡ f ∷ rest →
+      left g f ≡ s ∷ behind g f → Finishes g predict view fs None
+  finishes_stuck view fs gs f rest s come old awaits past c all h =
+      let x = come past in
+      unfinished g predict f rest x.0 s (behind g f) c all awaits (subst (λ hs. Continues g predict hs x.0 [] c all) old (x.1.to c all h))
+
+  pub finishes_empty : {W : Type 0} → (view : W → V) → (fs gs : List (Item P V)) → ComesTo fs gs → gs ≡ [] → Finishes g predict view fs None
+  finishes_empty view fs gs come empty past c all h =
+      let x = come past in
+      subst (λ hs. Continues g predict hs x.0 [] c all) empty (x.1.to c all h)
 
   stands_first : Stands g predict [] (opened g.start ∷ []) (Open g.start ∷ [])
   stands_first = record {

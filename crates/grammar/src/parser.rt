@@ -1,5 +1,6 @@
 // The parser: from tokens to the value of the text, or to its first fault.
 
+ghost use Rattle.std.specs.Prelude.{◌≡◌};
 ghost use Rattle.grammar.specs.Grammar.{EndsWith};
 ghost use Rattle.grammar.specs.Answers.{Answers};
 
@@ -16,8 +17,9 @@ pub fn parse<L: Language>(alloc: Global, tokens: &[Token]) -> Result<L::Value, R
     ensures { Answers L.grammar L.meter L.view tokens.now result }
 {
     let mut frames = Vec::new(alloc);
-    let mut meters = L::next_meters(L::first_meters(), Event::Open(L::start()))?;
-    push_new::<L>(alloc, &mut frames, L::start())?;
+    let start = L::start();
+    let mut meters = L::next_meters(L::first_meters(), Event::Open(start))?;
+    push_new::<L>(alloc, &mut frames, start)?;
     for token in tokens {
         if !take_token::<L>(alloc, &mut frames, &mut meters, token)? {
             return Err(refusal_at(token, FaultKind::Syntax, 0));
@@ -32,7 +34,9 @@ pub fn parse<L: Language>(alloc: Global, tokens: &[Token]) -> Result<L::Value, R
     }
 }
 
-fn refusal_at(token: &Token, kind: FaultKind, number: u64) -> Refusal {
+fn refusal_at(token: &Token, kind: FaultKind, number: u64) -> Refusal
+    ensures { result ≡ Refusal.Fault (record { kind = kind; place = token.now.place; number = number }) }
+{
     let place = token.place;
     Refusal::Fault(Fault { kind, place, number })
 }
