@@ -7,6 +7,12 @@ use Rattle.grammar.specs.declared.language.Symbol.TheVariants.{Terminal, Nonterm
 use Rattle.grammar.specs.Grammar.{Grammar}
 use Rattle.grammar.specs.Lookahead.{implies}
 
+-- Before which terminals a nonterminal may be empty.
+pub data Nullable (T : Type 0) : Type 0 where
+  Never : Nullable T
+  Before : List T → Nullable T
+  Always : Nullable T
+
 -- The tables. `terminals` lists all terminals. `cost` falls from a nonterminal to those that a production of it begins with.
 -- `closing` is a short text of a nonterminal, derived by its production `shortest`, before any of the terminals in `before`,
 -- and `height` falls from a nonterminal to those of that production. `end` stands at the end of a text alone: a nonterminal
@@ -19,7 +25,7 @@ pub record Certificate (Token T N P : Type 0) : Type 0 where
   pub predict : N → T → Option P
   pub first : N → List T
   pub follow : N → List T
-  pub nullable : N → Bool
+  pub nullable : N → Nullable T
   pub cost : N → ℕ
   pub example : T → Token
   pub shortest : N → P
@@ -33,9 +39,22 @@ pub record IsEquality {A : Type 0} (same : A → A → Bool) : Type 0 where
   pub is : (a b : A) → same a b ≡ true → a ≡ b
   pub own : (a : A) → same a a ≡ true
 
-abbrev pub when : {A : Type 0} → Bool → List A → List A
-when true xs = xs
-when false xs = []
+abbrev pub may_be_empty : {T : Type 0} → Nullable T → Bool
+may_be_empty Never = false
+may_be_empty (Before ks) = true
+may_be_empty Always = true
+
+-- where both may be empty, at least
+abbrev pub both : {T : Type 0} → Nullable T → Nullable T → Nullable T
+both Never v = Never
+both (Before ks) Never = Never
+both (Before ks) (Before js) = Before ks
+both (Before ks) Always = Before ks
+both Always v = v
+
+abbrev pub when : {A : Type 0} → Bool → A → List A → List A
+when true x xs = x ∷ xs
+when false x xs = xs
 
 abbrev pub only : Bool → ℕ → ℕ
 only true n = n
@@ -50,15 +69,27 @@ module _ {Token T N P : Type 0} (c : Certificate Token T N P) where
   subset [] ys = true
   subset (k ∷ ks) ys = member k ys && subset ks ys
 
-  abbrev pub nullable_symbols : List (Symbol T N) → Bool
-  nullable_symbols [] = true
-  nullable_symbols (Terminal k ∷ xs) = false
-  nullable_symbols (Nonterminal n ∷ xs) = c.nullable n && nullable_symbols xs
+  abbrev pub allowed_by : Nullable T → T → Bool
+  allowed_by Never k = false
+  allowed_by (Before ks) k = member k ks
+  allowed_by Always k = true
+
+  abbrev pub nullable_symbols : List (Symbol T N) → Nullable T
+  nullable_symbols [] = Always
+  nullable_symbols (Terminal k ∷ xs) = Never
+  nullable_symbols (Nonterminal n ∷ xs) = both (c.nullable n) (nullable_symbols xs)
+
+  -- those of the terminals before which it may be empty
+  abbrev pub through : Nullable T → List T → List T
+  through Never ks = []
+  through Always ks = ks
+  through (Before js) [] = []
+  through (Before js) (k ∷ ks) = when (member k js) k (through (Before js) ks)
 
   abbrev pub first_symbols : List (Symbol T N) → List T
   first_symbols [] = []
   first_symbols (Terminal k ∷ xs) = k ∷ []
-  first_symbols (Nonterminal n ∷ xs) = c.first n ++ when (c.nullable n) (first_symbols xs)
+  first_symbols (Nonterminal n ∷ xs) = c.first n ++ through (c.nullable n) (first_symbols xs)
 
   abbrev pub is_some_production : Option P → P → Bool
   is_some_production None p = false
@@ -72,18 +103,13 @@ module _ {Token T N P : Type 0} (c : Certificate Token T N P) where
   follows n [] = true
   follows n (Terminal k ∷ xs) = follows n xs
   follows n (Nonterminal m ∷ xs) =
-      subset (first_symbols xs) (c.follow m) && implies (nullable_symbols xs) (subset (c.follow n) (c.follow m)) && follows n xs
-
-  abbrev pub is_anchored : List (Symbol T N) → Bool
-  is_anchored [] = true
-  is_anchored (Terminal k ∷ xs) = is_anchored xs
-  is_anchored (Nonterminal m ∷ xs) = not (nullable_symbols xs) && is_anchored xs
+      subset (first_symbols xs) (c.follow m) && subset (through (nullable_symbols xs) (c.follow n)) (c.follow m) && follows n xs
 
   -- the steps, at most, until a token is taken or these symbols are done
   abbrev pub opening_cost : List (Symbol T N) → ℕ
   opening_cost [] = 0
   opening_cost (Terminal k ∷ xs) = 1
-  opening_cost (Nonterminal n ∷ xs) = c.cost n + only (c.nullable n) (opening_cost xs)
+  opening_cost (Nonterminal n ∷ xs) = c.cost n + only (may_be_empty (c.nullable n)) (opening_cost xs)
 
   abbrev pub closings : List (Symbol T N) → List T
   closings [] = []
@@ -146,6 +172,16 @@ module _ {Token T N P V : Type 0} (g : Grammar Token T N P V) (c : Certificate T
   predicts_allowed n p [] = true
   predicts_allowed n p (k ∷ ks) = implies (g.allows p k) (is_some_production c (c.predict n k) p) && predicts_allowed n p ks
 
+  -- A production that may be empty before a terminal is one of a nonterminal that may.
+  abbrev pub empties : P → Nullable T → List T → Bool
+  empties p v [] = true
+  empties p v (k ∷ ks) = implies (g.allows p k) (allowed_by c v k) && empties p v ks
+
+  abbrev pub covers : P → Nullable T → Nullable T → Bool
+  covers p Never v = true
+  covers p (Before ks) v = may_be_empty v && empties p v ks
+  covers p Always v = may_be_empty v && empties p v c.terminals
+
   -- The tables are those of the grammar. Each field is a test that computes.
   pub record IsSound : Type 0 where
     pub same_terminal : IsEquality c.same_terminal
@@ -154,12 +190,11 @@ module _ {Token T N P V : Type 0} (g : Grammar Token T N P V) (c : Certificate T
     pub terminals : (k : T) → member c k c.terminals ≡ true
     -- the parse table
     pub first : (p : P) → subset c (first_symbols c (g.symbols p)) (c.first (g.nonterminal_of p)) ≡ true
-    pub nullable : (p : P) → implies (nullable_symbols c (g.symbols p)) (c.nullable (g.nonterminal_of p)) ≡ true
+    pub nullable : (p : P) → covers p (nullable_symbols c (g.symbols p)) (c.nullable (g.nonterminal_of p)) ≡ true
     pub predicts_first : (p : P) → predicts c (g.nonterminal_of p) p (first_symbols c (g.symbols p)) ≡ true
-    pub predicts_empty : (p : P) → implies (nullable_symbols c (g.symbols p)) (predicts_allowed (g.nonterminal_of p) p (c.follow (g.nonterminal_of p))) ≡ true
+    pub predicts_empty : (p : P) → predicts_allowed (g.nonterminal_of p) p (through c (nullable_symbols c (g.symbols p)) (c.follow (g.nonterminal_of p))) ≡ true
     pub follow : (p : P) → follows c (g.nonterminal_of p) (g.symbols p) ≡ true
     pub offers : (n : N) → all_offered n c.terminals ≡ true
-    pub anchored : is_anchored c (g.symbols g.start) ≡ true
     -- no production opens for ever
     pub cost : (p : P) → nat_lt (suc (opening_cost c (g.symbols p))) (c.cost (g.nonterminal_of p)) ≡ true
     -- each nonterminal can be closed

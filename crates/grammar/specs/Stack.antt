@@ -8,7 +8,7 @@ use Rattle.grammar.specs.declared.machine.Step.{Step}
 use Rattle.grammar.specs.declared.machine.Step.TheVariants as steps
 use Rattle.grammar.specs.Grammar.{Grammar}
 use Rattle.grammar.specs.Limits.{Meter}
-use Rattle.grammar.specs.Certificate.{Certificate, only}
+use Rattle.grammar.specs.Certificate.{Certificate, may_be_empty, only}
 use Rattle.grammar.specs.Descent.{Item, left, behind, Continues, Linked, Turns, Takes, Refuses}
 
 abbrev pub piled : {A B : Type 0} → (A → B) → List A → List B → List B
@@ -46,7 +46,7 @@ module _ {Token T N P V : Type 0} (g : Grammar Token T N P V) (c : Certificate T
   abbrev pub distance_along : List (Symbol T N) → ℕ → ℕ
   distance_along [] outer = suc outer
   distance_along (Terminal k ∷ xs) outer = 1
-  distance_along (Nonterminal n ∷ xs) outer = c.cost n + only (c.nullable n) (distance_along xs outer)
+  distance_along (Nonterminal n ∷ xs) outer = c.cost n + only (may_be_empty (c.nullable n)) (distance_along xs outer)
 
   abbrev pub outer_distance : List (Item P V) → ℕ
   outer_distance [] = 0
