@@ -9,8 +9,9 @@ terminals alone has `only A B` behind its symbols, and one that may not stand be
 It writes FOLDER/src/table.rt and FOLDER/specs/Table.antt and Certificate.antt, which the check proves against each other,
 and says where the productions need more than one token of lookahead. `rt fmt` lays the files out.
 """
-import re
 import sys
+
+ALL = 'all'
 
 
 class Grammar:
@@ -55,20 +56,35 @@ class Grammar:
     def is_nonterminal(self, word):
         return word in self.nonterminals
 
+    def both(self, one, other):
+        """Where both may be empty, as the certificate counts it: None is never, ALL always."""
+        if one is None or other is None:
+            return None
+        return other if one is ALL else one
+
+    def nullable_of(self, words):
+        vacant = ALL
+        for word in reversed(words):
+            vacant = self.both(self.nullable[word] if self.is_nonterminal(word) else None, vacant)
+        return vacant
+
+    def through(self, vacant, terminals):
+        if vacant is None:
+            return set()
+        return set(terminals) if vacant is ALL else set(terminals) & vacant
+
     def first_of(self, words):
-        found = set()
-        for word in words:
-            if not self.is_nonterminal(word):
-                return found | {word}, False
-            found |= self.first[word]
-            if word not in self.nullable:
-                return found, False
-        return found, True
+        if not words:
+            return set()
+        if not self.is_nonterminal(words[0]):
+            return {words[0]}
+        return self.first[words[0]] | self.through(self.nullable[words[0]], self.first_of(words[1:]))
 
     def find_sets(self):
-        self.nullable = set()
+        self.nullable = {n: None for n in self.nonterminals}
         self.first = {n: set() for n in self.nonterminals}
         self.follow = {n: set() for n in self.nonterminals}
+        self.settle(self.grow_nullable)
         self.settle(self.grow_first)
         self.settle(self.grow_follow)
 
@@ -76,22 +92,33 @@ class Grammar:
         while grow():
             pass
 
+    def grow_nullable(self):
+        grown = False
+        for production, (nonterminal, words, only) in self.rows.items():
+            vacant = self.nullable_of(words)
+            if vacant is None:
+                continue
+            if only is not None and only[0] == 'only':
+                vacant = {k for k in self.terminals if self.allows(production, k) and (vacant is ALL or k in vacant)}
+            old = self.nullable[nonterminal]
+            new = ALL if ALL in (old, vacant) else (old or set()) | vacant
+            grown |= new != old
+            self.nullable[nonterminal] = new
+        return grown
+
     def grow_first(self):
-        before = (len(self.nullable), sum(map(len, self.first.values())))
+        before = sum(map(len, self.first.values()))
         for nonterminal, words, _ in self.rows.values():
-            found, empty = self.first_of(words)
-            self.first[nonterminal] |= found
-            if empty:
-                self.nullable.add(nonterminal)
-        return before != (len(self.nullable), sum(map(len, self.first.values())))
+            self.first[nonterminal] |= self.first_of(words)
+        return before != sum(map(len, self.first.values()))
 
     def grow_follow(self):
         before = sum(map(len, self.follow.values()))
         for nonterminal, words, _ in self.rows.values():
             for at, word in enumerate(words):
                 if self.is_nonterminal(word):
-                    found, empty = self.first_of(words[at + 1:])
-                    self.follow[word] |= found | (self.follow[nonterminal] if empty else set())
+                    behind = words[at + 1:]
+                    self.follow[word] |= self.first_of(behind) | self.through(self.nullable_of(behind), self.follow[nonterminal])
         return before != sum(map(len, self.follow.values()))
 
     def find_table(self):
@@ -99,9 +126,8 @@ class Grammar:
         self.rest = {}
         for production in self.productions:
             nonterminal, words, _ = self.rows[production]
-            found, empty = self.first_of(words)
-            if empty:
-                found |= {k for k in self.follow[nonterminal] if self.allows(production, k)}
+            found = self.first_of(words)
+            found |= {k for k in self.through(self.nullable_of(words), self.follow[nonterminal]) if self.allows(production, k)}
             for terminal in found:
                 other = self.table[nonterminal].get(terminal)
                 assert other is None, f'{nonterminal} at {terminal}: {other} or {production}'
@@ -128,7 +154,7 @@ class Grammar:
                 if not self.is_nonterminal(word):
                     return total + 1
                 total += cost_of(word, around)
-                if word not in self.nullable:
+                if self.nullable[word] is None:
                     return total
             return total
 
@@ -276,6 +302,7 @@ def write_certificate(grammar, crate):
     out = [
         '-- FIRST and FOLLOW of each nonterminal, and the other tables that show the grammar sound.',
         'use Rattle.std.specs.Prelude.{ℕ, Bool, true, false, List, [], ◌∷◌}',
+        'use Rattle.grammar.specs.Certificate.{Nullable, Never, Before, Always}',
     ]
     for name in ('Terminal', 'Nonterminal', 'Production'):
         out += [f'use Rattle.{crate}.specs.declared.table.{name}.{{{name}}}', f'use Rattle.{crate}.specs.declared.table.{name}.TheVariants as {name.lower()}s']
@@ -284,10 +311,14 @@ def write_certificate(grammar, crate):
         rows = [(f'nonterminals.{n}', value(n)) for n in grammar.nonterminals]
         return ['', f'-- {comment}', f'abbrev pub {name} : Nonterminal → {kind}'] + clauses(name, rows)
 
+    def nullable(n):
+        vacant = grammar.nullable[n]
+        return 'Never' if vacant is None else 'Always' if vacant is ALL else f'Before ({items(grammar, vacant)})'
+
     out += ['', 'abbrev pub all_terminals : List Terminal', 'all_terminals = ' + listed(grammar.terminals)]
     out += table('what may begin it', 'first', 'List Terminal', lambda n: items(grammar, grammar.first[n]))
     out += table('what may follow it', 'follow', 'List Terminal', lambda n: items(grammar, grammar.follow[n]))
-    out += table('whether it may be empty', 'nullable', 'Bool', lambda n: 'true' if n in grammar.nullable else 'false')
+    out += table('before which it may be empty', 'nullable', 'Nullable Terminal', nullable)
     out += table('more than all that it may begin with', 'cost', 'ℕ', lambda n: str(grammar.cost[n]))
     out += table('a short text of it', 'closing', 'List Terminal', lambda n: listed(grammar.closing[n]))
     out += table('the production of that text', 'shortest', 'Production', lambda n: f'productions.{grammar.shortest[n]}')
@@ -297,11 +328,56 @@ def write_certificate(grammar, crate):
     return out
 
 
+def write_laws(grammar, crate, language):
+    out = [
+        '-- Each test of the certificate computes to true, production by production.',
+        'use Rattle.std.specs.Prelude.{◌≡◌, Bool, true, false, suc, nat_lt, List, refl}',
+    ]
+    for name in ('Terminal', 'Nonterminal', 'Production'):
+        out += [f'use Rattle.{crate}.specs.declared.table.{name}.{{{name}}}', f'use Rattle.{crate}.specs.declared.table.{name}.TheVariants as {name.lower()}s']
+    out += [
+        'use Rattle.grammar.specs.Lookahead.{implies}',
+        'use Rattle.grammar.specs.Certificate.{IsSound, member, subset, nullable_symbols, through, first_symbols, predicts, predicts_allowed, follows, opening_cost, same_list, closings, is_below, begins_by, can_close, all_inner, covers, all_offered}',
+        'use denote.Enum.Bare.{same_true, true_same}',
+    ]
+    out += [f'use Rattle.{crate}.specs.contracts.table.{name}.{{the_type as {name.lower()}_type}}' for name in ('Terminal', 'Nonterminal', 'Production')]
+    out += [
+        f'use Rattle.{crate}.specs.{language}.{{grammar, certificate}}',
+        f'use Rattle.{crate}.specs.Table.{{symbols, nonterminal_of}}',
+        f'use Rattle.{crate}.specs.LookaheadTables.{{all_terminals, first, follow, nullable, cost, closing, shortest, height, before, inner}}',
+    ]
+
+    def law(name, kind, letter, statement, keys):
+        return ['', f'{name} : ({letter} : {kind}) → {statement} ≡ true'] + [f'{name} {kind.lower()}s.{key} = refl' for key in keys]
+
+    t, n, p = grammar.terminals, grammar.nonterminals, grammar.productions
+    out += law('terminals_law', 'Terminal', 'k', 'member certificate k all_terminals', t)
+    out += law('first_law', 'Production', 'p', 'subset certificate (first_symbols certificate (symbols p)) (first (nonterminal_of p))', p)
+    out += law('nullable_law', 'Production', 'p', 'covers grammar certificate p (nullable_symbols certificate (symbols p)) (nullable (nonterminal_of p))', p)
+    out += law('predicts_first_law', 'Production', 'p', 'predicts certificate (nonterminal_of p) p (first_symbols certificate (symbols p))', p)
+    out += law('predicts_empty_law', 'Production', 'p', 'predicts_allowed grammar certificate (nonterminal_of p) p (through certificate (nullable_symbols certificate (symbols p)) (follow (nonterminal_of p)))', p)
+    out += law('follow_law', 'Production', 'p', 'follows certificate (nonterminal_of p) (symbols p)', p)
+    out += law('offers_law', 'Nonterminal', 'n', 'all_offered grammar certificate n all_terminals', n)
+    out += law('cost_law', 'Production', 'p', 'nat_lt (suc (opening_cost certificate (symbols p))) (cost (nonterminal_of p))', p)
+    out += law('closing_law', 'Nonterminal', 'n', 'same_list certificate (closing n) (closings certificate (symbols (shortest n)))', n)
+    out += law('height_law', 'Nonterminal', 'n', 'is_below certificate (height n) (symbols (shortest n))', n)
+    out += law('begins_law', 'Nonterminal', 'n', 'begins_by certificate n (shortest n) (closing n)', n)
+    out += law('fits_law', 'Production', 'p', 'can_close certificate (λ m. subset certificate (before (nonterminal_of p)) (before m)) (symbols p)', p)
+    out += law('inner_law', 'Production', 'p', 'implies (inner (nonterminal_of p)) (all_inner certificate (symbols p))', p)
+    out += ['', 'example_law : (k : Terminal) → grammar.terminal_of (certificate.example k) ≡ k'] + [f'example_law terminals.{key} = refl' for key in t]
+    same = [f"    same_{x} = record {{ is = same_true {x}_type tt; own = λ a. true_same {x}_type a a refl }};" for x in ('terminal', 'nonterminal', 'production')]
+    fields = ['terminals', 'first', 'nullable', 'predicts_first', 'predicts_empty', 'follow', 'offers', 'cost', 'example', 'closing', 'height', 'begins', 'fits', 'inner']
+    out += ['', 'pub sound : IsSound grammar certificate', 'sound = record {'] + same
+    out += [f'    {x} = {x}_law;' for x in fields] + ['    start_fits = refl;', '    ends = refl;', '}']
+    return out
+
+
 def main():
-    source, crate, folder = sys.argv[1:]
+    source, crate, folder, language = sys.argv[1:]
     grammar = Grammar(open(source).read())
     for path, lines in (('src/table.rt', write_rust(grammar, crate)), ('specs/Table.antt', write_table(grammar, crate)),
-                        ('specs/Tables.antt', write_certificate(grammar, crate))):
+                        ('specs/LookaheadTables.antt', write_certificate(grammar, crate)),
+                        (f'specs/{language}Sound.antt', write_laws(grammar, crate, language))):
         open(f'{folder}/{path}', 'w').write('\n'.join(lines) + '\n')
     entries = sum(len(row) for row in grammar.table.values())
     print(f'{len(grammar.terminals)} terminals, {len(grammar.nonterminals)} nonterminals, {len(grammar.productions)} productions, {entries} entries')

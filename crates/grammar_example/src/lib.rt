@@ -1,0 +1,8 @@
+//! An example of a language over crate `grammar`: outlines, with names, braces, choices, and limits on nesting and names.
+#![tactic(auto)]
+
+mod outline;
+mod table;
+
+pub use outline::{read, Outline};
+pub use table::{Nonterminal, Production, Terminal};
