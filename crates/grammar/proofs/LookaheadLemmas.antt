@@ -177,3 +177,10 @@ module _ {Token T N P V : Type 0} (g : Grammar Token T N P V) (c : Certificate T
   predicted_nonterminal n k p h =
       let here : Offered g c.predict n (Some p) k = subst (λ o. Offered g c.predict n o k) h (offered_in n c.terminals k (sound.offers n) (sound.terminals k)) in
       here.0
+
+  -- Terminals that the test tells apart are two.
+  pub other_terminal : (j k : T) → (b : Bool) → b ≡ c.same_terminal j k → b ≡ false → j ≡ k → ⊥
+  other_terminal j k b is h e =
+      let own : c.same_terminal j j ≡ true = sound.same_terminal.own j in
+      let there : c.same_terminal j k ≡ true = subst (λ i. c.same_terminal j i ≡ true) e own in
+      cc

@@ -1,6 +1,6 @@
 // What a language gives the parsing machine: its grammar as a table, its values, and its meters.
 
-ghost use Rattle.std.specs.Prelude.{◌≡◌, ◌↔◌, [], ℕ, Bool, List, Option, IsTrue, IfOk, slice_get};
+ghost use Rattle.std.specs.Prelude.{◌≡◌, [], IfOk, slice_get};
 ghost use Rattle.grammar.specs.Grammar.{Grammar};
 ghost use Rattle.grammar.specs.Limits.{Meter};
 ghost use Rattle.grammar.specs.Certificate.{Certificate, IsSound};
@@ -51,11 +51,12 @@ pub trait Language {
     fn start() -> Self::Production
         ensures { result ≡ grammar.start };
 
+    /// What the grammar sees of a token.
     fn terminal_of(token: &Token) -> Self::Terminal
         ensures { result ≡ grammar.terminal_of token.now };
 
-    fn is_terminal(token: &Token, terminal: Self::Terminal) -> bool
-        ensures { IsTrue result ↔ (grammar.terminal_of token.now ≡ terminal) };
+    fn same_terminal(one: Self::Terminal, other: Self::Terminal) -> bool
+        ensures { result ≡ certificate.same_terminal one other };
 
     /// The parse table: the production by which a nonterminal goes on at a terminal.
     fn predict(nonterminal: Self::Nonterminal, terminal: Self::Terminal) -> Option<Self::Production>

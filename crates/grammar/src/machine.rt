@@ -20,13 +20,15 @@ pub enum Step {
     Stuck,
 }
 
-/// One step at a token.
+/// One step at a token, of which the grammar sees this terminal.
 pub fn step_at<L: Language>(
     alloc: Global,
     frames: &mut Vec<Frame<L::Production, L::Value>>,
     meters: &mut L::Meters,
     token: &Token,
+    seen: L::Terminal,
 ) -> Result<Step, AllocError>
+    requires { seen ≡ L.grammar.terminal_of token.now }
     ensures steps { IfOk result (λ s. Stepped L.grammar L.certificate.predict L.meter s (items L.view frames.old.items) meters.old token.now (items L.view frames.new.items) meters.new) }
     ensures linked { IfOk result (λ s. StaysLinked L.grammar s (items L.view frames.old.items) (items L.view frames.new.items)) }
     ensures closer { IfOk result (λ s. ComesCloser L.grammar L.certificate s (items L.view frames.old.items) (items L.view frames.new.items)) }
@@ -45,7 +47,7 @@ pub fn step_at<L: Language>(
             Ok(Step::Again)
         }
         Some(Symbol::Terminal(terminal)) => {
-            if !L::is_terminal(token, terminal) {
+            if !L::same_terminal(seen, terminal) {
                 return Ok(Step::Stuck);
             }
             *meters = L::next_meters(*meters, Event::Take(terminal))?;
@@ -54,7 +56,7 @@ pub fn step_at<L: Language>(
             Ok(Step::Taken)
         }
         Some(Symbol::Nonterminal(nonterminal)) => {
-            let Some(production) = L::predict(nonterminal, L::terminal_of(token)) else {
+            let Some(production) = L::predict(nonterminal, seen) else {
                 return Ok(Step::Stuck);
             };
             *meters = L::next_meters(*meters, Event::Open(production))?;
@@ -75,8 +77,9 @@ pub fn take_token<L: Language>(
     ensures takes { IfOk result (λ b. MatchBool b (Takes L.grammar L.certificate.predict L.meter (items L.view frames.old.items) meters.old token.now (items L.view frames.new.items) meters.new) (Refuses L.grammar L.certificate.predict L.meter (items L.view frames.old.items) meters.old token.now)) }
     ensures linked { IfOk result (λ b. IsTrue b → Linked L.grammar (items L.view frames.old.items) → Linked L.grammar (items L.view frames.new.items)) }
 {
+    let seen = L::terminal_of(token);
     loop {
-        match step_at::<L>(alloc, frames, meters, token)? {
+        match step_at::<L>(alloc, frames, meters, token, seen)? {
             Step::Taken => return Ok(true),
             Step::Stuck => return Ok(false),
             Step::Again => {}

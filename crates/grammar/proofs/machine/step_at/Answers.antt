@@ -4,7 +4,7 @@ use Rattle.grammar.specs.Descent.{left, behind, with_value, opened, whole, Linke
 use Rattle.grammar.specs.Stack.{item, items}
 use Rattle.grammar.proofs.StepLemmas.{refuses_terminal, refuses_nonterminal, refuses_whole}
 use Rattle.grammar.proofs.DistanceLemmas.{linked_with, distance_at, distance_close, distance_open}
-use Rattle.grammar.proofs.LookaheadLemmas.{predicted_nonterminal}
+use Rattle.grammar.proofs.LookaheadLemmas.{predicted_nonterminal, other_terminal}
 use Rattle.grammar.proofs.RunLemmas.{turn_close, turn_open, take_shift, refuse}
 use Rattle.grammar.proofs.machine.step_at.Goals as goal
 
@@ -16,13 +16,14 @@ returns-in_default-pop_frame-clause-steps g c =
     refuse l g.L.Language.certificate.predict g.L.Language.meter _ (top ∷ []) _ c.args.token.now (c.in-Some.ensures ∙ ap (λ fs. top ∷ fs) c.in_default-pop_frame.ensures)
     (refuses_whole l g.L.Language.certificate.predict top c.args.token.now c.in-None.ensures)
 
-pub returns-then-not-is_terminal-clause-steps : goal.returns-then-not-is_terminal-clause-steps
-returns-then-not-is_terminal-clause-steps g c =
+pub returns-then-not-same_terminal-clause-steps : goal.returns-then-not-same_terminal-clause-steps
+returns-then-not-same_terminal-clause-steps g c =
     let l = g.L.Language.grammar in
     let view = g.L.Language.view in
     let top = item view c.in-Some.top in
     let next : left l top ≡ Terminal c.in-Some-Terminal.terminal ∷ behind l top = c.in-Some-Terminal.ensures ∙ ap (λ x. x ∷ behind l top) c.in-Some-Terminal.field-0-is in
-    let other : l.terminal_of c.args.token.now ≡ c.in-Some-Terminal.terminal → ⊥ = λ e. let holds = c.is_terminal.ensures.1 e in search rules in
+    let other : l.terminal_of c.args.token.now ≡ c.in-Some-Terminal.terminal → ⊥ =
+    λ e. other_terminal l g.L.Language.certificate g.met.L.Language.sound _ _ c.same_terminal.result c.same_terminal.ensures (search rules) (c.requires ∙ e) in
     refuse l g.L.Language.certificate.predict g.L.Language.meter _ (top ∷ items view c.pop_frame.new.frames.items) _ c.args.token.now c.in-Some.ensures
     (refuses_terminal l g.L.Language.certificate.predict top (items view c.pop_frame.new.frames.items) c.in-Some-Terminal.terminal (behind l top) c.args.token.now next other)
 
@@ -33,7 +34,7 @@ returns-in_default-predict-clause-steps g c =
     let predict = g.L.Language.certificate.predict in
     let top = item view c.in-Some.top in
     let predicted : predict c.in-Some-Nonterminal.nonterminal (l.terminal_of c.args.token.now) ≡ None =
-    ap (predict c.in-Some-Nonterminal.nonterminal) (sym c.terminal_of.ensures) ∙ sym c.in_default-predict.ensures in
+    ap (predict c.in-Some-Nonterminal.nonterminal) (sym c.requires) ∙ sym c.in_default-predict.ensures in
     let next : left l top ≡ Nonterminal c.in-Some-Nonterminal.nonterminal ∷ behind l top = c.in-Some-Nonterminal.ensures ∙ ap (λ x. x ∷ behind l top) c.in-Some-Nonterminal.field-0-is in
     refuse l predict g.L.Language.meter _ (top ∷ items view c.pop_frame.new.frames.items) _ c.args.token.now c.in-Some.ensures
     (refuses_nonterminal l predict top (items view c.pop_frame.new.frames.items) c.in-Some-Nonterminal.nonterminal (behind l top) c.args.token.now next predicted)
@@ -57,7 +58,8 @@ returns-in_ok-push_with-in-Some-Terminal-clause-steps g c =
     let top = item view c.in-Some.top in
     let rest = items view c.pop_frame.new.frames.items in
     let next : left l top ≡ Terminal c.in-Some-Terminal.terminal ∷ behind l top = c.in-Some-Terminal.ensures ∙ ap (λ x. x ∷ behind l top) c.in-Some-Terminal.field-0-is in
-    let same : l.terminal_of c.args.token.now ≡ c.in-Some-Terminal.terminal = c.is_terminal.ensures.0 (search rules) in
+    let same : l.terminal_of c.args.token.now ≡ c.in-Some-Terminal.terminal =
+    sym c.requires ∙ g.met.L.Language.sound.same_terminal.is _ _ (sym c.same_terminal.ensures ∙ (search rules)) in
     take_shift l g.L.Language.certificate.predict g.L.Language.meter top rest _ _ _ _ c.args.token.now c.in-Some-Terminal.terminal next same c.in-Some.ensures
     (c.in_ok-push_with-in-Some-Terminal.ensures ∙ ap (λ v. with_value top v ∷ rest) c.in_ok-value-in-Some-Terminal.ensures)
     c.in_ok-meters-in-Some-Terminal.ensures
@@ -71,7 +73,7 @@ returns-in_ok-push_new-in-Some-Nonterminal-clause-steps g c =
     let rest = items view c.pop_frame.new.frames.items in
     let next : left l top ≡ Nonterminal c.in-Some-Nonterminal.nonterminal ∷ behind l top = c.in-Some-Nonterminal.ensures ∙ ap (λ x. x ∷ behind l top) c.in-Some-Nonterminal.field-0-is in
     let predicted : predict c.in-Some-Nonterminal.nonterminal (l.terminal_of c.args.token.now) ≡ Some c.in-Some-predict.production =
-    ap (predict c.in-Some-Nonterminal.nonterminal) (sym c.terminal_of.ensures) ∙ sym c.in-Some-predict.ensures in
+    ap (predict c.in-Some-Nonterminal.nonterminal) (sym c.requires) ∙ sym c.in-Some-predict.ensures in
     turn_open l predict g.L.Language.meter top rest _ _ _ _ c.args.token.now c.in-Some-Nonterminal.nonterminal c.in-Some-predict.production next predicted c.in-Some.ensures
     (c.in_ok-push_new-in-Some-Nonterminal.ensures ∙ ap (λ fs. opened c.in-Some-predict.production ∷ fs) c.in_ok-push_back-in-Some-Nonterminal.ensures)
     c.in_ok-meters-in-Some-Nonterminal.ensures
@@ -106,7 +108,7 @@ returns-in_ok-push_new-in-Some-Nonterminal-clause-linked g c h =
     c.in_ok-push_new-in-Some-Nonterminal.ensures ∙ ap (λ fs. opened c.in-Some-predict.production ∷ fs) c.in_ok-push_back-in-Some-Nonterminal.ensures in
     let next : left l top ≡ Nonterminal c.in-Some-Nonterminal.nonterminal ∷ behind l top = c.in-Some-Nonterminal.ensures ∙ ap (λ x. x ∷ behind l top) c.in-Some-Nonterminal.field-0-is in
     let predicted : predict c.in-Some-Nonterminal.nonterminal (l.terminal_of c.args.token.now) ≡ Some c.in-Some-predict.production =
-    ap (predict c.in-Some-Nonterminal.nonterminal) (sym c.terminal_of.ensures) ∙ sym c.in-Some-predict.ensures in
+    ap (predict c.in-Some-Nonterminal.nonterminal) (sym c.requires) ∙ sym c.in-Some-predict.ensures in
     let owned : l.nonterminal_of c.in-Some-predict.production ≡ c.in-Some-Nonterminal.nonterminal =
     predicted_nonterminal l g.L.Language.certificate g.met.L.Language.sound _ _ _ predicted in
     let was : Linked l (top ∷ rest) = subst (Linked l) c.in-Some.ensures h in
@@ -133,7 +135,7 @@ returns-in_ok-push_new-in-Some-Nonterminal-clause-closer g c =
     c.in_ok-push_new-in-Some-Nonterminal.ensures ∙ ap (λ fs. opened c.in-Some-predict.production ∷ fs) c.in_ok-push_back-in-Some-Nonterminal.ensures in
     let next : left l top ≡ Nonterminal c.in-Some-Nonterminal.nonterminal ∷ behind l top = c.in-Some-Nonterminal.ensures ∙ ap (λ x. x ∷ behind l top) c.in-Some-Nonterminal.field-0-is in
     let predicted : predict c.in-Some-Nonterminal.nonterminal (l.terminal_of c.args.token.now) ≡ Some c.in-Some-predict.production =
-    ap (predict c.in-Some-Nonterminal.nonterminal) (sym c.terminal_of.ensures) ∙ sym c.in-Some-predict.ensures in
+    ap (predict c.in-Some-Nonterminal.nonterminal) (sym c.requires) ∙ sym c.in-Some-predict.ensures in
     let owned : l.nonterminal_of c.in-Some-predict.production ≡ c.in-Some-Nonterminal.nonterminal =
     predicted_nonterminal l g.L.Language.certificate g.met.L.Language.sound _ _ _ predicted in
     distance_at l g.L.Language.certificate _ _ _ _ new c.in-Some.ensures
