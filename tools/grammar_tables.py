@@ -206,6 +206,10 @@ class Grammar:
         self.settle(outer)
 
 
+def snake(name):
+    return ''.join('_' + c.lower() if c.isupper() else c for c in name).strip('_')
+
+
 def symbol(grammar, word):
     return f'Nonterminal nonterminals.{word}' if grammar.is_nonterminal(word) else f'Terminal terminals.{word}'
 
@@ -236,6 +240,7 @@ def write_rust(grammar, crate):
         '',
         'ghost use Rattle.std.specs.Prelude.{◌≡◌, slice_get};',
         f'ghost use Rattle.{crate}.specs.Table.{{symbols, predict_at}};',
+        f'ghost use Rattle.{crate}.specs.declared.table.Nonterminal.TheVariants as nonterminals;',
         '',
         'use grammar::Symbol;',
         '',
@@ -245,26 +250,23 @@ def write_rust(grammar, crate):
     out += enum(('Production', 'The productions, each of one nonterminal.'), grammar.productions)
     out += ['/// The production by which a nonterminal goes on at a terminal.', 'pub fn predict(nonterminal: Nonterminal, terminal: Terminal) -> Option<Production>',
             '    ensures { result ≡ predict_at nonterminal terminal }', '{', '    match nonterminal {']
+    out += [f'        Nonterminal::{n} => predict_{snake(n)}(terminal),' for n in grammar.nonterminals] + ['    }', '}', '']
     for n in grammar.nonterminals:
-        out.append(f'        Nonterminal::{n} => match terminal {{')
+        out += [f'fn predict_{snake(n)}(terminal: Terminal) -> Option<Production>', f'    ensures {{ result ≡ predict_at nonterminals.{n} terminal }}', '{', '    match terminal {']
         for p in grammar.of(n):
-            keys = [k for k in grammar.terminals if grammar.table[n].get(k) == p and grammar.rest.get(n) != p]
-            out += [f'            Terminal::{k} => Some(Production::{p}),' for k in keys]
+            keys = [f'Terminal::{k}' for k in grammar.terminals if grammar.table[n].get(k) == p and grammar.rest.get(n) != p]
+            if keys:
+                out.append('        ' + ' | '.join(keys) + f' => Some(Production::{p}),')
         default = f'Some(Production::{grammar.rest[n]})' if n in grammar.rest else 'None'
-        out += [f'            _ => {default},', '        },']
-    out += ['    }', '}', '', '/// The symbol at a place of a production.', 'pub fn symbol_at(production: Production, place: usize) -> Option<Symbol<Terminal, Nonterminal>>',
+        out += [f'        _ => {default},', '    }', '}', '']
+    out += ['/// The symbol at a place of a production.', 'pub fn symbol_at(production: Production, place: usize) -> Option<Symbol<Terminal, Nonterminal>>',
             '    ensures { result ≡ slice_get (symbols production) place }', '{', '    match production {']
     for p in grammar.productions:
-        words = grammar.rows[p][1]
-        if not words:
-            out.append(f'        Production::{p} => None,')
-            continue
-        out.append(f'        Production::{p} => match place {{')
-        for at, w in enumerate(words):
-            kind = 'Nonterminal' if grammar.is_nonterminal(w) else 'Terminal'
-            out.append(f'            {at} => Some(Symbol::{kind}({kind}::{w})),')
-        out += ['            _ => None,', '        },']
-    return out + ['    }', '}']
+        words = [f'{kind}(' + ('Nonterminal' if grammar.is_nonterminal(w) else 'Terminal') + f'::{w})' for w in grammar.rows[p][1]
+                 for kind in ['Symbol::Nonterminal' if grammar.is_nonterminal(w) else 'Symbol::Terminal']]
+        out.append(f'        Production::{p} => ' + (f'at(&[{", ".join(words)}], place),' if words else 'None,'))
+    return out + ['    }', '}', '', 'fn at(symbols: &[Symbol<Terminal, Nonterminal>], place: usize) -> Option<Symbol<Terminal, Nonterminal>>',
+                  '    ensures { result ≡ slice_get symbols.now place }', '{', '    symbols.get(place).copied()', '}']
 
 
 def write_table(grammar, crate):

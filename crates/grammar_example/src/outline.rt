@@ -98,8 +98,8 @@ impl Language for Outline {
         terminal_at(token)
     }
 
-    fn is_terminal(token: &Token, terminal: Terminal) -> bool {
-        terminal_at(token) == terminal
+    fn same_terminal(one: Terminal, other: Terminal) -> bool {
+        one == other
     }
 
     fn predict(nonterminal: Nonterminal, terminal: Terminal) -> Option<Production> {

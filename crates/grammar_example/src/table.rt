@@ -2,6 +2,7 @@
 
 ghost use Rattle.std.specs.Prelude.{◌≡◌, slice_get};
 ghost use Rattle.grammar_example.specs.Table.{symbols, predict_at};
+ghost use Rattle.grammar_example.specs.declared.table.Nonterminal.TheVariants as nonterminals;
 
 use grammar::Symbol;
 
@@ -51,44 +52,62 @@ pub fn predict(nonterminal: Nonterminal, terminal: Terminal) -> Option<Productio
     ensures { result ≡ predict_at nonterminal terminal }
 {
     match nonterminal {
-        Nonterminal::Outline => match terminal {
-            Terminal::Name => Some(Production::Whole),
-            Terminal::Then => Some(Production::Whole),
-            Terminal::OpenBrace => Some(Production::Whole),
-            Terminal::LineEnd => Some(Production::Whole),
-            Terminal::TextEnd => Some(Production::Whole),
-            _ => None,
-        },
-        Nonterminal::Items => match terminal {
-            Terminal::LineEnd => Some(Production::Line),
-            Terminal::Name => Some(Production::More),
-            Terminal::Then => Some(Production::More),
-            Terminal::OpenBrace => Some(Production::More),
-            _ => Some(Production::Done),
-        },
-        Nonterminal::Item => match terminal {
-            Terminal::OpenBrace => Some(Production::Braces),
-            Terminal::Then => Some(Production::Choice),
-            Terminal::Name => Some(Production::Single),
-            _ => None,
-        },
-        Nonterminal::ElsePart => match terminal {
-            Terminal::Else => Some(Production::Otherwise),
-            Terminal::Name => Some(Production::Nothing),
-            Terminal::Then => Some(Production::Nothing),
-            Terminal::OpenBrace => Some(Production::Nothing),
-            Terminal::CloseBrace => Some(Production::Nothing),
-            Terminal::LineEnd => Some(Production::Nothing),
-            Terminal::TextEnd => Some(Production::Nothing),
-            _ => None,
-        },
-        Nonterminal::Stop => match terminal {
-            Terminal::LineEnd => Some(Production::StopLine),
-            Terminal::Semicolon => Some(Production::StopSign),
-            Terminal::CloseBrace => Some(Production::StopNone),
-            Terminal::TextEnd => Some(Production::StopNone),
-            _ => None,
-        },
+        Nonterminal::Outline => predict_outline(terminal),
+        Nonterminal::Items => predict_items(terminal),
+        Nonterminal::Item => predict_item(terminal),
+        Nonterminal::ElsePart => predict_else_part(terminal),
+        Nonterminal::Stop => predict_stop(terminal),
+    }
+}
+
+fn predict_outline(terminal: Terminal) -> Option<Production>
+    ensures { result ≡ predict_at nonterminals.Outline terminal }
+{
+    match terminal {
+        Terminal::Name | Terminal::Then | Terminal::OpenBrace | Terminal::LineEnd | Terminal::TextEnd => Some(Production::Whole),
+        _ => None,
+    }
+}
+
+fn predict_items(terminal: Terminal) -> Option<Production>
+    ensures { result ≡ predict_at nonterminals.Items terminal }
+{
+    match terminal {
+        Terminal::LineEnd => Some(Production::Line),
+        Terminal::Name | Terminal::Then | Terminal::OpenBrace => Some(Production::More),
+        _ => Some(Production::Done),
+    }
+}
+
+fn predict_item(terminal: Terminal) -> Option<Production>
+    ensures { result ≡ predict_at nonterminals.Item terminal }
+{
+    match terminal {
+        Terminal::OpenBrace => Some(Production::Braces),
+        Terminal::Then => Some(Production::Choice),
+        Terminal::Name => Some(Production::Single),
+        _ => None,
+    }
+}
+
+fn predict_else_part(terminal: Terminal) -> Option<Production>
+    ensures { result ≡ predict_at nonterminals.ElsePart terminal }
+{
+    match terminal {
+        Terminal::Else => Some(Production::Otherwise),
+        Terminal::Name | Terminal::Then | Terminal::OpenBrace | Terminal::CloseBrace | Terminal::LineEnd | Terminal::TextEnd => Some(Production::Nothing),
+        _ => None,
+    }
+}
+
+fn predict_stop(terminal: Terminal) -> Option<Production>
+    ensures { result ≡ predict_at nonterminals.Stop terminal }
+{
+    match terminal {
+        Terminal::LineEnd => Some(Production::StopLine),
+        Terminal::Semicolon => Some(Production::StopSign),
+        Terminal::CloseBrace | Terminal::TextEnd => Some(Production::StopNone),
+        _ => None,
     }
 }
 
@@ -97,53 +116,23 @@ pub fn symbol_at(production: Production, place: usize) -> Option<Symbol<Terminal
     ensures { result ≡ slice_get (symbols production) place }
 {
     match production {
-        Production::Whole => match place {
-            0 => Some(Symbol::Nonterminal(Nonterminal::Items)),
-            1 => Some(Symbol::Terminal(Terminal::TextEnd)),
-            _ => None,
-        },
-        Production::Line => match place {
-            0 => Some(Symbol::Terminal(Terminal::LineEnd)),
-            1 => Some(Symbol::Nonterminal(Nonterminal::Items)),
-            _ => None,
-        },
-        Production::More => match place {
-            0 => Some(Symbol::Nonterminal(Nonterminal::Item)),
-            1 => Some(Symbol::Nonterminal(Nonterminal::Items)),
-            _ => None,
-        },
+        Production::Whole => at(&[Symbol::Nonterminal(Nonterminal::Items), Symbol::Terminal(Terminal::TextEnd)], place),
+        Production::Line => at(&[Symbol::Terminal(Terminal::LineEnd), Symbol::Nonterminal(Nonterminal::Items)], place),
+        Production::More => at(&[Symbol::Nonterminal(Nonterminal::Item), Symbol::Nonterminal(Nonterminal::Items)], place),
         Production::Done => None,
-        Production::Braces => match place {
-            0 => Some(Symbol::Terminal(Terminal::OpenBrace)),
-            1 => Some(Symbol::Nonterminal(Nonterminal::Items)),
-            2 => Some(Symbol::Terminal(Terminal::CloseBrace)),
-            _ => None,
-        },
-        Production::Choice => match place {
-            0 => Some(Symbol::Terminal(Terminal::Then)),
-            1 => Some(Symbol::Nonterminal(Nonterminal::Item)),
-            2 => Some(Symbol::Nonterminal(Nonterminal::ElsePart)),
-            _ => None,
-        },
-        Production::Single => match place {
-            0 => Some(Symbol::Terminal(Terminal::Name)),
-            1 => Some(Symbol::Nonterminal(Nonterminal::Stop)),
-            _ => None,
-        },
-        Production::Otherwise => match place {
-            0 => Some(Symbol::Terminal(Terminal::Else)),
-            1 => Some(Symbol::Nonterminal(Nonterminal::Item)),
-            _ => None,
-        },
+        Production::Braces => at(&[Symbol::Terminal(Terminal::OpenBrace), Symbol::Nonterminal(Nonterminal::Items), Symbol::Terminal(Terminal::CloseBrace)], place),
+        Production::Choice => at(&[Symbol::Terminal(Terminal::Then), Symbol::Nonterminal(Nonterminal::Item), Symbol::Nonterminal(Nonterminal::ElsePart)], place),
+        Production::Single => at(&[Symbol::Terminal(Terminal::Name), Symbol::Nonterminal(Nonterminal::Stop)], place),
+        Production::Otherwise => at(&[Symbol::Terminal(Terminal::Else), Symbol::Nonterminal(Nonterminal::Item)], place),
         Production::Nothing => None,
-        Production::StopLine => match place {
-            0 => Some(Symbol::Terminal(Terminal::LineEnd)),
-            _ => None,
-        },
-        Production::StopSign => match place {
-            0 => Some(Symbol::Terminal(Terminal::Semicolon)),
-            _ => None,
-        },
+        Production::StopLine => at(&[Symbol::Terminal(Terminal::LineEnd)], place),
+        Production::StopSign => at(&[Symbol::Terminal(Terminal::Semicolon)], place),
         Production::StopNone => None,
     }
+}
+
+fn at(symbols: &[Symbol<Terminal, Nonterminal>], place: usize) -> Option<Symbol<Terminal, Nonterminal>>
+    ensures { result ≡ slice_get symbols.now place }
+{
+    symbols.get(place).copied()
 }
