@@ -255,8 +255,8 @@ def write_rust(grammar, crate):
         out += [f'fn predict_{snake(n)}(terminal: Terminal) -> Option<Production>', f'    ensures {{ result ≡ predict_at nonterminals.{n} terminal }}', '{', '    match terminal {']
         for p in grammar.of(n):
             keys = [f'Terminal::{k}' for k in grammar.terminals if grammar.table[n].get(k) == p and grammar.rest.get(n) != p]
-            if keys:
-                out.append('        ' + ' | '.join(keys) + f' => Some(Production::{p}),')
+            for at in range(0, len(keys), 8):
+                out.append('        ' + ' | '.join(keys[at:at + 8]) + f' => Some(Production::{p}),')
         default = f'Some(Production::{grammar.rest[n]})' if n in grammar.rest else 'None'
         out += [f'        _ => {default},', '    }', '}', '']
     out += ['/// The symbol at a place of a production.', 'pub fn symbol_at(production: Production, place: usize) -> Option<Symbol<Terminal, Nonterminal>>',

@@ -200,10 +200,8 @@ module _ {Token T N P V : Type 0} (g : Grammar Token T N P V) (predict : N → T
         guided_last cs m h.1 h.2 h.5 (ends_next h.0 h.1 last) (λ k. suits_next m h.0 h.1 k (suit k)),
       )
 
+  pub guided_trees : (ts : List Token) → (parse : Parse g ts) → GoesAll g predict parse.trees (g.symbols g.start) ts []
+  guided_trees ts parse = guided_last parse.trees (g.nonterminal_of g.start) (g.symbols g.start) ts parse.derives ll.start_ends (ll.suited g.start)
+
   pub guided_parse : (ts : List Token) → (parse : Parse g ts) → IsGuided g predict ts (result_of g parse) (history_of g parse)
-  guided_parse ts parse = (
-    parse.trees,
-    guided_last parse.trees (g.nonterminal_of g.start) (g.symbols g.start) ts parse.derives ll.start_ends (ll.suited g.start),
-    refl,
-    refl,
-  )
+  guided_parse ts parse = (parse.trees, guided_trees ts parse, refl, refl)

@@ -1,12 +1,12 @@
--- A text has at most one value, for every language.
+-- A text has at most one derivation, and so one value, for every language.
 use Rattle.std.proofs.Common.{◌≡◌, List, [], ◌∷◌, Option, Some, refl, sym, ◌∙◌, ap, subst}
 use Rattle.grammar.specs.declared.language.Symbol.{Symbol}
 use Rattle.grammar.specs.declared.language.Symbol.TheVariants.{Terminal, Nonterminal}
-use Rattle.grammar.specs.Grammar.{Grammar, Tree, Trees, leaf, node, none, some, values_of, IsProgram, result_of}
+use Rattle.grammar.specs.Grammar.{Grammar, Tree, Trees, leaf, node, none, some, values_of, Parse, IsProgram}
 use Rattle.grammar.specs.Lookahead.{Predicts, Goes, GoesAll}
 use Rattle.grammar.specs.Certificate.{Certificate, IsSound}
 use Rattle.grammar.proofs.LookaheadLemmas.{sets_of, ll1}
-use Rattle.grammar.proofs.DerivationLemmas.{guided_parse}
+use Rattle.grammar.proofs.DerivationLemmas.{guided_trees}
 
 module _ {Token T N P V : Type 0} (g : Grammar Token T N P V) (predict : N → T → Option P) where
   same_production : (n m : N) → (p q : P) → (ts : List Token) → n ≡ m → Predicts g predict n p ts → Predicts g predict m q ts → p ≡ q
@@ -44,10 +44,12 @@ module _ {Token T N P V : Type 0} (g : Grammar Token T N P V) (predict : N → T
         let next = one_all cs js h.1 h.2 r s h.5 (subst (λ m. GoesAll g predict js h.1 m s) (sym first.1) (subst (λ ys. GoesAll g predict js ys k.2 s) others k.5)) in
         (ap (λ i. some i cs) first.0 ∙ ap (some d) next.0, next.1)
 
-pub one_value : {Token T N P V : Type 0} → (g : Grammar Token T N P V) → (c : Certificate Token T N P) → IsSound g c → (ts : List Token) → (a b : V) →
-    IsProgram g ts a → IsProgram g ts b → a ≡ b
-one_value g c sound ts a b h k =
-    let x = guided_parse g c.predict (sets_of c) (ll1 g c sound) ts h.0 in
-    let y = guided_parse g c.predict (sets_of c) (ll1 g c sound) ts k.0 in
-    let same = one_all g c.predict x.0 y.0 (g.symbols g.start) ts [] [] x.1 y.1 in
-    sym h.1 ∙ (sym x.2 ∙ (ap (λ cs. g.build g.start (values_of g cs [])) same.0 ∙ (y.2 ∙ k.1)))
+module _ {Token T N P V : Type 0} (g : Grammar Token T N P V) (c : Certificate Token T N P) (sound : IsSound g c) where
+  pub one_derivation : (ts : List Token) → (a b : Parse g ts) → a.trees ≡ b.trees
+  one_derivation ts a b =
+      let x = guided_trees g c.predict (sets_of c) (ll1 g c sound) ts a in
+      let y = guided_trees g c.predict (sets_of c) (ll1 g c sound) ts b in
+      (one_all g c.predict a.trees b.trees (g.symbols g.start) ts [] [] x y).0
+
+  pub one_value : (ts : List Token) → (a b : V) → IsProgram g ts a → IsProgram g ts b → a ≡ b
+  one_value ts a b h k = sym h.1 ∙ (ap (λ cs. g.build g.start (values_of g cs [])) (one_derivation ts h.0 k.0) ∙ k.1)

@@ -6,3 +6,6 @@ mod table;
 
 pub use outline::{read, Outline};
 pub use table::{Nonterminal, Production, Terminal};
+
+#[cfg(test)]
+mod tests;
