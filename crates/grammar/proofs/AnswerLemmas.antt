@@ -1,18 +1,17 @@
 -- The parser's answers at the token that it has come to.
-use Rattle.std.proofs.Common.{◌≡◌, ◌<◌, ◌+◌, ℕ, zero, suc, add-one, arith, List, [], ◌∷◌, ◌++◌, length, take, get_or, Option, Some, None, refl, sym, ◌∙◌, ap, subst, inl, inr}
-use Rattle.std.specs.Prelude.{Result, Ok, Err, slice_get}
+use Rattle.std.proofs.Common.{◌≡◌, ◌<◌, ◌+◌, ℕ, zero, suc, add-one, arith, List, [], ◌∷◌, ◌++◌, length, take, get_or, Some, None, refl, sym, ◌∙◌, ap, subst, inl, inr}
+use Rattle.std.specs.Prelude.{Err, slice_get}
 use Rattle.std.proofs.Math.Seq.{take-suc, take-length}
 use Rattle.ground.specs.declared.token.Token.{Token}
 use Rattle.ground.specs.declared.fault.FaultKind.TheVariants.{Syntax, Limit}
 use Rattle.ground.specs.declared.fault.Refusal.{Refusal}
 use Rattle.ground.specs.declared.fault.Refusal.TheVariants as refusals
-use Rattle.grammar.specs.Grammar.{Grammar, Begins, EndsWith}
-use Rattle.grammar.specs.Limits.{Meter, IsWithin, Passes, IsAccepted}
+use Rattle.grammar.specs.Grammar.{Grammar, Begins}
+use Rattle.grammar.specs.Limits.{Meter, IsWithin, Passes}
 use Rattle.grammar.specs.Certificate.{Certificate, IsSound}
 use Rattle.grammar.specs.Descent.{Item, Linked, Takes, Refuses}
-use Rattle.grammar.specs.Stack.{Finishes}
 use Rattle.grammar.specs.Answers.{Answers}
-use Rattle.grammar.proofs.RunLemmas.{Reached, reached_next, reached_begins, refused, within, taken_begins, passes, accepted, never_unfinished}
+use Rattle.grammar.proofs.RunLemmas.{Reached, reached_next, reached_begins, refused, within, taken_begins, passes}
 
 at_is : {A : Type 0} → (ts : List A) → (i : ℕ) → (t : A) → i < length ts → t ≡ get_or ts i t → slice_get ts i ≡ Some t
 at_is [] i t l e = absurd (omega arith)

@@ -1,6 +1,6 @@
 -- Every stack can be closed: a short text for each nonterminal, and behind it a short text of what stands there.
-use Rattle.std.proofs.Common.{◌≡◌, ◌<◌, ◌≤◌, ℕ, zero, suc, Bool, true, false, List, [], ◌∷◌, ◌++◌, length, drop, Option, Some, None, refl, sym, ◌∙◌, ap, subst, append_assoc, arith}
-use Rattle.std.specs.Prelude.{◌&&◌, nat_lt}
+use Rattle.std.proofs.Common.{◌≡◌, ◌<◌, ℕ, zero, suc, Bool, true, false, List, [], ◌∷◌, ◌++◌, length, drop, Some, refl, sym, ◌∙◌, ap, subst, append_assoc, arith}
+use Rattle.std.specs.Prelude.{nat_lt}
 use Rattle.std.proofs.lemmas.Grind.{common_steps}
 use Rattle.grammar.specs.declared.language.Symbol.{Symbol}
 use Rattle.grammar.specs.declared.language.Symbol.TheVariants.{Terminal, Nonterminal}
@@ -9,8 +9,8 @@ use Rattle.grammar.specs.declared.language.Event.TheVariants.{Close}
 use Rattle.grammar.specs.Grammar.{Grammar, Tree, Trees, leaf, node, none, some, values_of}
 use Rattle.grammar.specs.Limits.{history_all}
 use Rattle.grammar.specs.Lookahead.{Predicts, Goes, GoesAll}
-use Rattle.grammar.specs.Certificate.{Certificate, member, subset, is_some_production, predicts, closings, same_list, is_below, begins_by, closes_before, can_close, IsSound}
-use Rattle.grammar.specs.Descent.{Item, left, behind, whole, Linked, Receives, Continues}
+use Rattle.grammar.specs.Certificate.{Certificate, member, subset, closings, same_list, is_below, begins_by, closes_before, can_close, IsSound}
+use Rattle.grammar.specs.Descent.{Item, left, behind, Linked, Receives, Continues}
 use Rattle.grammar.proofs.BoolLemmas.{and_left, and_right, no_true}
 use Rattle.grammar.proofs.LookaheadLemmas.{sets_of, subset_member, is_predicted, predicted, ll1}
 use Rattle.grammar.proofs.DerivationLemmas.{offers, offers_nonterminal}

@@ -1,5 +1,5 @@
 -- The grammar and its parse table derive the same: what a production begins with is in FIRST, what follows it in FOLLOW.
-use Rattle.std.proofs.Common.{◌≡◌, Bool, true, false, List, [], ◌∷◌, Option, Some, refl, sym, ◌∙◌, subst, ◌⊎◌, inl, inr}
+use Rattle.std.proofs.Common.{◌≡◌, Bool, true, List, [], ◌∷◌, Option, Some, refl, sym, ◌∙◌, subst, ◌⊎◌, inl, inr}
 use Rattle.std.specs.Prelude.{◌&&◌, ◌||◌}
 use Rattle.grammar.specs.declared.language.Symbol.{Symbol}
 use Rattle.grammar.specs.declared.language.Symbol.TheVariants.{Terminal, Nonterminal}
@@ -122,9 +122,9 @@ module _ {Token T N P V : Type 0} (g : Grammar Token T N P V) (predict : N → T
   ready_behind q ys m (t ∷ ts) v r s =
       apply (first_list sets ys (g.terminal_of t) || (nullable_list sets ys (g.terminal_of t) && sets.follow m (g.terminal_of t))) (sets.follow q (g.terminal_of t))
       (and_left (implies (first_list sets ys (g.terminal_of t) || (nullable_list sets ys (g.terminal_of t) && sets.follow m (g.terminal_of t))) (sets.follow q (g.terminal_of t)))
-          (suits sets m ys (g.terminal_of t)) (s (g.terminal_of t)))
+      (suits sets m ys (g.terminal_of t)) (s (g.terminal_of t)))
       (or_right (first_list sets ys (g.terminal_of t)) (nullable_list sets ys (g.terminal_of t) && sets.follow m (g.terminal_of t))
-          (and_both (nullable_list sets ys (g.terminal_of t)) (sets.follow m (g.terminal_of t)) v r))
+      (and_both (nullable_list sets ys (g.terminal_of t)) (sets.follow m (g.terminal_of t)) v r))
 
   ready_for : (x : Symbol T N) → (ys : List (Symbol T N)) → (m : N) → (middle rest : List Token) →
       Begun (first_list sets ys) (nullable_list sets ys) (ys ≡ []) middle rest → Ready m rest → ((k : T) → suits sets m (x ∷ ys) k ≡ true) → ReadyFor x middle

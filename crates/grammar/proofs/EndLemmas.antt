@@ -1,10 +1,9 @@
 -- The end of the text stands at the end of a program alone, so a text that ends with it is a program or has a fault.
-use Rattle.std.proofs.Common.{◌≡◌, Bool, true, false, List, [], ◌∷◌, ◌++◌, refl, sym, ◌∙◌, ap, subst, append_assoc, append-nil}
+use Rattle.std.proofs.Common.{◌≡◌, true, List, [], ◌∷◌, ◌++◌, refl, sym, ◌∙◌, ap, subst, append_assoc, append-nil}
 use Rattle.std.specs.Prelude.{◌&&◌, not}
 use Rattle.grammar.specs.declared.language.Symbol.{Symbol}
-use Rattle.grammar.specs.declared.language.Symbol.TheVariants.{Terminal, Nonterminal}
+use Rattle.grammar.specs.declared.language.Symbol.TheVariants.{Terminal}
 use Rattle.grammar.specs.Grammar.{Grammar, Tree, Trees, leaf, node, none, some, Derives, DerivesAll, Parse, Begins, EndsWith}
-use Rattle.grammar.specs.Lookahead.{implies}
 use Rattle.grammar.specs.Certificate.{Certificate, is_inner, all_inner, is_end, ends_once, IsSound}
 use Rattle.grammar.proofs.BoolLemmas.{and_left, and_right, apply, never_both, no_true}
 use Rattle.grammar.proofs.LookaheadLemmas.{sets_of, ll1}

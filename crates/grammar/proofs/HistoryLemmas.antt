@@ -1,5 +1,5 @@
 -- A history only grows: what passed a limit first stays so, and what comes later passes it later.
-use Rattle.std.proofs.Common.{◌≡◌, ◌≤◌, ℕ, suc, ◌+◌, arith, ◌++◌, List, [], ◌∷◌, Option, Some, None, refl, sym, ◌∙◌, ap, subst, append_assoc}
+use Rattle.std.proofs.Common.{◌≡◌, ◌≤◌, ℕ, arith, ◌++◌, List, [], ◌∷◌, Option, Some, None, refl, sym, ◌∙◌, ap, subst, append_assoc}
 use Rattle.grammar.specs.declared.language.Event.{Event}
 use Rattle.grammar.specs.declared.language.Event.TheVariants.{Open, Take, Close}
 use Rattle.grammar.specs.Grammar.{Grammar, Tree, Trees, leaf, node, none, some, values_of}

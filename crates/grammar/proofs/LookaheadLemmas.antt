@@ -1,12 +1,12 @@
 -- The certificate's tests say that the parse table is that of the grammar: from the lists to what holds of each terminal.
-use Rattle.std.proofs.Common.{◌≡◌, ◌++◌, Bool, true, false, List, [], ◌∷◌, Option, Some, None, refl, sym, ◌∙◌, ap, subst, ◌⊎◌, inl, inr}
-use Rattle.std.specs.Prelude.{◌&&◌, ◌||◌, not}
+use Rattle.std.proofs.Common.{◌≡◌, ◌++◌, Bool, true, false, List, [], ◌∷◌, Option, Some, None, refl, sym, ap, subst, inl, inr}
+use Rattle.std.specs.Prelude.{◌&&◌, ◌||◌}
 use Rattle.grammar.specs.declared.language.Symbol.{Symbol}
 use Rattle.grammar.specs.declared.language.Symbol.TheVariants.{Terminal, Nonterminal}
 use Rattle.grammar.specs.Grammar.{Grammar}
-use Rattle.grammar.specs.Lookahead.{implies, Sets, first_of, first_list, nullable_list, ends_in_terminal, suits, Offered, IsLl1}
+use Rattle.grammar.specs.Lookahead.{implies, Sets, first_list, nullable_list, ends_in_terminal, suits, Offered, IsLl1}
 use Rattle.grammar.specs.Certificate.{Certificate, Nullable, Never, Before, Always, may_be_empty, both, when, member, subset, allowed_by, nullable_symbols, through, first_symbols, is_some_production, predicts, follows, is_inner, ends_once, is_offered, all_offered, predicts_allowed, empties, covers, IsSound}
-use Rattle.grammar.proofs.BoolLemmas.{or_left, or_right, or_cases, and_both, and_left, and_right, apply, implied, never_both, no_true}
+use Rattle.grammar.proofs.BoolLemmas.{or_left, or_right, or_cases, and_both, and_left, and_right, apply, implied, no_true}
 
 module _ {Token T N P : Type 0} (c : Certificate Token T N P) where
   -- the sets as tests
@@ -21,7 +21,7 @@ module _ {Token T N P : Type 0} (c : Certificate Token T N P) where
   pub member-append_left : (k : T) → (xs ys : List T) → member c k xs ≡ true → member c k (xs ++ ys) ≡ true
   member-append_left k [] ys h = absurd (no_true h)
   member-append_left k (x ∷ xs) ys h = elim (or_cases (c.same_terminal x k) (member c k xs) h) [
-    inl e ↦ or_left (c.same_terminal x k) (member c k (xs ++ ys)) e
+    | inl e ↦ or_left (c.same_terminal x k) (member c k (xs ++ ys)) e
     | inr e ↦ or_right (c.same_terminal x k) (member c k (xs ++ ys)) (member-append_left k xs ys e)
   ]
 
@@ -55,7 +55,7 @@ module _ {Token T N P V : Type 0} (g : Grammar Token T N P V) (c : Certificate T
   pub subset_member : (xs ys : List T) → (k : T) → subset c xs ys ≡ true → member c k xs ≡ true → member c k ys ≡ true
   subset_member [] ys k s h = absurd (no_true h)
   subset_member (x ∷ xs) ys k s h = elim (or_cases (c.same_terminal x k) (member c k xs) h) [
-    inl e ↦ subst (λ j. member c j ys ≡ true) (sound.same_terminal.is x k e) (and_left (member c x ys) (subset c xs ys) s)
+    | inl e ↦ subst (λ j. member c j ys ≡ true) (sound.same_terminal.is x k e) (and_left (member c x ys) (subset c xs ys) s)
     | inr e ↦ subset_member xs ys k (and_right (member c x ys) (subset c xs ys) s) e
   ]
 
@@ -66,8 +66,8 @@ module _ {Token T N P V : Type 0} (g : Grammar Token T N P V) (c : Certificate T
   pub predicted : (n : N) → (p : P) → (ks : List T) → (k : T) → predicts c n p ks ≡ true → member c k ks ≡ true → c.predict n k ≡ Some p
   predicted n p [] k s h = absurd (no_true h)
   predicted n p (j ∷ js) k s h = elim (or_cases (c.same_terminal j k) (member c k js) h) [
-    inl e ↦ subst (λ i. c.predict n i ≡ Some p) (sound.same_terminal.is j k e)
-          (is_predicted (c.predict n j) p (and_left (is_some_production c (c.predict n j) p) (predicts c n p js) s))
+    | inl e ↦ subst (λ i. c.predict n i ≡ Some p) (sound.same_terminal.is j k e)
+        (is_predicted (c.predict n j) p (and_left (is_some_production c (c.predict n j) p) (predicts c n p js) s))
     | inr e ↦ predicted n p js k (and_right (is_some_production c (c.predict n j) p) (predicts c n p js) s) e
   ]
 
@@ -75,18 +75,18 @@ module _ {Token T N P V : Type 0} (g : Grammar Token T N P V) (c : Certificate T
       c.predict n k ≡ Some p
   predicted_allowed n p [] k s h a = absurd (no_true h)
   predicted_allowed n p (j ∷ js) k s h a = elim (or_cases (c.same_terminal j k) (member c k js) h) [
-    inl e ↦ let same = sound.same_terminal.is j k e in
-          subst (λ i. c.predict n i ≡ Some p) same (is_predicted (c.predict n j) p
-          (apply (g.allows p j) (is_some_production c (c.predict n j) p)
-          (and_left (implies (g.allows p j) (is_some_production c (c.predict n j) p)) (predicts_allowed g c n p js) s)
-          (subst (λ i. g.allows p i ≡ true) (sym same) a)))
+    | inl e ↦ let same = sound.same_terminal.is j k e in
+        subst (λ i. c.predict n i ≡ Some p) same (is_predicted (c.predict n j) p
+        (apply (g.allows p j) (is_some_production c (c.predict n j) p)
+        (and_left (implies (g.allows p j) (is_some_production c (c.predict n j) p)) (predicts_allowed g c n p js) s)
+        (subst (λ i. g.allows p i ≡ true) (sym same) a)))
     | inr e ↦ predicted_allowed n p js k (and_right (implies (g.allows p j) (is_some_production c (c.predict n j) p)) (predicts_allowed g c n p js) s) e a
   ]
 
   in_through_before : (js ks : List T) → (k : T) → member c k js ≡ true → member c k ks ≡ true → member c k (through c (Before js) ks) ≡ true
   in_through_before js [] k h m = absurd (no_true m)
   in_through_before js (i ∷ ks) k h m = elim (or_cases (c.same_terminal i k) (member c k ks) m) [
-    inl e ↦ member_when c k i (member c i js) (through c (Before js) ks) e (subst (λ j. member c j js ≡ true) (sym (sound.same_terminal.is i k e)) h)
+    | inl e ↦ member_when c k i (member c i js) (through c (Before js) ks) e (subst (λ j. member c j js ≡ true) (sym (sound.same_terminal.is i k e)) h)
     | inr e ↦ member_behind c k i (member c i js) (through c (Before js) ks) (in_through_before js ks k h e)
   ]
 
@@ -99,18 +99,18 @@ module _ {Token T N P V : Type 0} (g : Grammar Token T N P V) (c : Certificate T
   in_first [] k h = absurd (no_true h)
   in_first (Terminal j ∷ xs) k h = h
   in_first (Nonterminal n ∷ xs) k h = elim (or_cases (member c k (c.first n)) (allowed_by c (c.nullable n) k && first_list (sets_of c) xs k) h) [
-    inl e ↦ member-append_left c k (c.first n) (through c (c.nullable n) (first_symbols c xs)) e
+    | inl e ↦ member-append_left c k (c.first n) (through c (c.nullable n) (first_symbols c xs)) e
     | inr e ↦ member-append_right c k (c.first n) (through c (c.nullable n) (first_symbols c xs))
-          (in_through (c.nullable n) (first_symbols c xs) k (and_left (allowed_by c (c.nullable n) k) (first_list (sets_of c) xs k) e)
-          (in_first xs k (and_right (allowed_by c (c.nullable n) k) (first_list (sets_of c) xs k) e)))
+        (in_through (c.nullable n) (first_symbols c xs) k (and_left (allowed_by c (c.nullable n) k) (first_list (sets_of c) xs k) e)
+        (in_first xs k (and_right (allowed_by c (c.nullable n) k) (first_list (sets_of c) xs k) e)))
   ]
 
   emptied : (p : P) → (v : Nullable T) → (ks : List T) → (k : T) → empties g c p v ks ≡ true → member c k ks ≡ true → g.allows p k ≡ true → allowed_by c v k ≡ true
   emptied p v [] k s m a = absurd (no_true m)
   emptied p v (j ∷ js) k s m a = elim (or_cases (c.same_terminal j k) (member c k js) m) [
-    inl e ↦ let same = sound.same_terminal.is j k e in
-          subst (λ i. allowed_by c v i ≡ true) same
-          (apply (g.allows p j) (allowed_by c v j) (and_left (implies (g.allows p j) (allowed_by c v j)) (empties g c p v js) s) (subst (λ i. g.allows p i ≡ true) (sym same) a))
+    | inl e ↦ let same = sound.same_terminal.is j k e in
+        subst (λ i. allowed_by c v i ≡ true) same
+        (apply (g.allows p j) (allowed_by c v j) (and_left (implies (g.allows p j) (allowed_by c v j)) (empties g c p v js) s) (subst (λ i. g.allows p i ≡ true) (sym same) a))
     | inr e ↦ emptied p v js k (and_right (implies (g.allows p j) (allowed_by c v j)) (empties g c p v js) s) e a
   ]
 
@@ -129,8 +129,8 @@ module _ {Token T N P V : Type 0} (g : Grammar Token T N P V) (c : Certificate T
   offered_in : (n : N) → (ks : List T) → (k : T) → all_offered g c n ks ≡ true → member c k ks ≡ true → Offered g c.predict n (c.predict n k) k
   offered_in n [] k s h = absurd (no_true h)
   offered_in n (j ∷ js) k s h = elim (or_cases (c.same_terminal j k) (member c k js) h) [
-    inl e ↦ subst (λ i. Offered g c.predict n (c.predict n i) i) (sound.same_terminal.is j k e)
-          (is_offered_fact n j (c.predict n j) (and_left (is_offered g c n j (c.predict n j)) (all_offered g c n js) s))
+    | inl e ↦ subst (λ i. Offered g c.predict n (c.predict n i) i) (sound.same_terminal.is j k e)
+        (is_offered_fact n j (c.predict n j) (and_left (is_offered g c n j (c.predict n j)) (all_offered g c n js) s))
     | inr e ↦ offered_in n js k (and_right (is_offered g c n j (c.predict n j)) (all_offered g c n js) s) e
   ]
 
@@ -145,11 +145,11 @@ module _ {Token T N P V : Type 0} (g : Grammar Token T N P V) (c : Certificate T
       and_both (implies all (member c k (c.follow m))) (suits (sets_of c) n xs k)
       (implied all (member c k (c.follow m))
       (λ e. elim (or_cases (first_list (sets_of c) xs k) (nullable_list (sets_of c) xs k && member c k (c.follow n)) e) [
-        inl f ↦ subset_member (first_symbols c xs) (c.follow m) k (and_left firsts lasts front) (in_first xs k f)
+        | inl f ↦ subset_member (first_symbols c xs) (c.follow m) k (and_left firsts lasts front) (in_first xs k f)
         | inr f ↦ subset_member (through c (nullable_symbols c xs) (c.follow n)) (c.follow m) k (and_right firsts lasts front)
-              (in_through (nullable_symbols c xs) (c.follow n) k
-              (in_nullable c xs k (and_left (nullable_list (sets_of c) xs k) (member c k (c.follow n)) f))
-              (and_right (nullable_list (sets_of c) xs k) (member c k (c.follow n)) f))
+            (in_through (nullable_symbols c xs) (c.follow n) k
+            (in_nullable c xs k (and_left (nullable_list (sets_of c) xs k) (member c k (c.follow n)) f))
+            (and_right (nullable_list (sets_of c) xs k) (member c k (c.follow n)) f))
       ]))
       (suited n xs k (and_right (firsts && lasts) (follows c n xs) h))
 

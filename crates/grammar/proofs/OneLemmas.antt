@@ -1,7 +1,6 @@
 -- A text has at most one derivation, and so one value, for every language.
 use Rattle.std.proofs.Common.{◌≡◌, List, [], ◌∷◌, Option, Some, refl, sym, ◌∙◌, ap, subst}
 use Rattle.grammar.specs.declared.language.Symbol.{Symbol}
-use Rattle.grammar.specs.declared.language.Symbol.TheVariants.{Terminal, Nonterminal}
 use Rattle.grammar.specs.Grammar.{Grammar, Tree, Trees, leaf, node, none, some, values_of, Parse, IsProgram}
 use Rattle.grammar.specs.Lookahead.{Predicts, Goes, GoesAll}
 use Rattle.grammar.specs.Certificate.{Certificate, IsSound}

@@ -1,5 +1,5 @@
 -- From the stack to the text: what the items say of the tokens so far, and what that makes of the parser's answers.
-use Rattle.std.proofs.Common.{◌≡◌, ◌≤◌, ◌+◌, ℕ, suc, Bool, List, [], ◌∷◌, ◌++◌, length, length-append, arith, Option, Some, None, refl, sym, ◌∙◌, ap, subst, append_assoc, append-nil}
+use Rattle.std.proofs.Common.{◌≡◌, ◌≤◌, ℕ, suc, List, [], ◌∷◌, ◌++◌, length, length-append, arith, Option, Some, None, refl, sym, ◌∙◌, ap, subst, append_assoc, append-nil}
 use Rattle.grammar.specs.declared.language.Event.{Event}
 use Rattle.grammar.specs.declared.language.Event.TheVariants.{Open, Take, Close}
 use Rattle.grammar.specs.declared.language.Symbol.{Symbol}
@@ -8,7 +8,7 @@ use Rattle.grammar.specs.Grammar.{Grammar, Parse, result_of, Begins, EndsWith, I
 use Rattle.grammar.specs.Limits.{history_of, Meter, Passing, taken, passing_at, earlier_of, reading, first_passing, IsWithin, Passes, IsAccepted}
 use Rattle.grammar.specs.Lookahead.{GoesAll, IsGuided}
 use Rattle.grammar.specs.Certificate.{Certificate, IsSound}
-use Rattle.grammar.specs.Descent.{Item, opened, with_value, left, behind, whole, Linked, Continues, Same, Stands, Turned, Took, Turns, Takes, Refuses}
+use Rattle.grammar.specs.Descent.{Item, opened, with_value, left, behind, whole, Linked, Continues, Same, Stands, Turns, Takes, Refuses}
 use Rattle.grammar.specs.Stack.{Finishes}
 use Rattle.grammar.proofs.LookaheadLemmas.{sets_of, ll1}
 use Rattle.grammar.proofs.DerivationLemmas.{parse_of, guided_parse}

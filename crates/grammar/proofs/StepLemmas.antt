@@ -7,7 +7,7 @@ use Rattle.grammar.specs.declared.language.Event.TheVariants.{Open, Take, Close}
 use Rattle.grammar.specs.Grammar.{Grammar, Trees, leaf, node, none, some, values_of}
 use Rattle.grammar.specs.Limits.{history_all}
 use Rattle.grammar.specs.Lookahead.{GoesAll}
-use Rattle.grammar.specs.Descent.{Item, opened, with_value, left, behind, whole, Receives, Continues, Same}
+use Rattle.grammar.specs.Descent.{Item, opened, with_value, left, whole, Receives, Continues, Same}
 
 -- the list behind the first of what is left
 drop_next : {A : Type 0} → (n : ℕ) → (xs : List A) → (x : A) → (ys : List A) → drop n xs ≡ x ∷ ys → drop (suc n) xs ≡ ys

@@ -1,7 +1,6 @@
 -- What a language shows of its grammar by computation alone: the parse table with FIRST and FOLLOW, how each nonterminal
 -- is closed, that none opens for ever, and where the end of the text stands.
 use Rattle.std.specs.Prelude.{◌≡◌, ◌&&◌, ◌||◌, ◌++◌, ℕ, suc, ◌+◌, nat_lt, not, Bool, true, false, Option, Some, None, List, [], ◌∷◌}
-use Rattle.std.specs.List.{list_all, list_any}
 use Rattle.grammar.specs.declared.language.Symbol.{Symbol}
 use Rattle.grammar.specs.declared.language.Symbol.TheVariants.{Terminal, Nonterminal}
 use Rattle.grammar.specs.Grammar.{Grammar}

@@ -1,7 +1,7 @@
 -- The productions under way, and what each step of the machine does to what may follow.
-use Rattle.std.specs.Prelude.{◌≡◌, ◌++◌, ℕ, suc, ◌+◌, length, drop, Bool, true, false, Option, Some, None, List, [], ◌∷◌}
+use Rattle.std.specs.Prelude.{◌≡◌, ◌++◌, suc, length, drop, Option, List, [], ◌∷◌}
 use Rattle.grammar.specs.declared.language.Symbol.{Symbol}
-use Rattle.grammar.specs.declared.language.Symbol.TheVariants.{Terminal, Nonterminal}
+use Rattle.grammar.specs.declared.language.Symbol.TheVariants.{Nonterminal}
 use Rattle.grammar.specs.declared.language.Event.{Event}
 use Rattle.grammar.specs.declared.language.Event.TheVariants.{Take, Close}
 use Rattle.grammar.specs.Grammar.{Grammar, Trees, values_of}

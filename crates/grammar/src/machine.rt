@@ -5,7 +5,7 @@ ghost use Rattle.grammar.specs.Descent.{Takes, Refuses, Linked};
 ghost use Rattle.grammar.specs.Stack.{items, Stepped, StaysLinked, ComesCloser, Finishes};
 
 use crate::language::{Event, Language, Symbol};
-use crate::stack::{awaited, close_frame, pop_frame, push_back, push_new, push_with, Frame};
+use crate::stack::{Frame, awaited, close_frame, pop_frame, push_back, push_new, push_with};
 use ground::Token;
 use std::alloc::{AllocError, Global};
 

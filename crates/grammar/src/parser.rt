@@ -38,5 +38,9 @@ fn refusal_at(token: &Token, kind: FaultKind, number: u64) -> Refusal
     ensures { result ≡ Refusal.Fault (record { kind = kind; place = token.now.place; number = number }) }
 {
     let place = token.place;
-    Refusal::Fault(Fault { kind, place, number })
+    Refusal::Fault(Fault {
+        kind,
+        place,
+        number,
+    })
 }

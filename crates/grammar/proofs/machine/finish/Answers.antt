@@ -1,5 +1,5 @@
-use Rattle.std.proofs.Common.{◌≡◌, [], ◌∷◌, ap, ◌∙◌, sym}
-use Rattle.grammar.specs.Descent.{left, behind, with_value}
+use Rattle.std.proofs.Common.{◌∷◌, ap, ◌∙◌}
+use Rattle.grammar.specs.Descent.{with_value}
 use Rattle.grammar.specs.Stack.{item, items}
 use Rattle.grammar.proofs.ListLemmas.{some_of, none_of}
 use Rattle.grammar.proofs.RunLemmas.{comes_to_itself, comes_closer, finishes_whole, finishes_stuck, finishes_empty}

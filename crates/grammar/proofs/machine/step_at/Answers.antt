@@ -1,6 +1,6 @@
 use Rattle.std.proofs.Common.{◌≡◌, ◌∷◌, [], ap, ◌∙◌, sym, subst, Some, None, rules}
 use Rattle.grammar.specs.declared.language.Symbol.TheVariants.{Terminal, Nonterminal}
-use Rattle.grammar.specs.Descent.{left, behind, with_value, opened, whole, Linked}
+use Rattle.grammar.specs.Descent.{left, behind, with_value, opened, Linked}
 use Rattle.grammar.specs.Stack.{item, items}
 use Rattle.grammar.proofs.StepLemmas.{refuses_terminal, refuses_nonterminal, refuses_whole}
 use Rattle.grammar.proofs.DistanceLemmas.{linked_with, distance_at, distance_close, distance_open}

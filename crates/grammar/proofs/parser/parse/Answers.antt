@@ -1,4 +1,4 @@
-use Rattle.std.proofs.Common.{◌≡◌, ◌∷◌, [], ap, ◌∙◌, sym, subst, length, arith, Some, None}
+use Rattle.std.proofs.Common.{◌≡◌, ◌∷◌, [], ap, ◌∙◌, sym, subst, length, arith}
 use Rattle.std.specs.Prelude.{MatchBool}
 use Rattle.grammar.specs.declared.language.Event.TheVariants.{Open}
 use Rattle.grammar.specs.Descent.{opened, Takes, Refuses}
@@ -27,7 +27,7 @@ returns-then-not-branch g c =
     let t = c.token-item.result in
     let refuses : Refuses l predict g.L.Language.meter fs c.loop-token.meters t =
     subst (λ b. MatchBool b (Takes l predict g.L.Language.meter fs c.loop-token.meters t (items g.L.Language.view c.take_token.new.frames.items) c.take_token.new.meters)
-        (Refuses l predict g.L.Language.meter fs c.loop-token.meters t)) c.if-not-branch.true c.in_ok-take_token.ensures.takes in
+    (Refuses l predict g.L.Language.meter fs c.loop-token.meters t)) c.if-not-branch.true c.in_ok-take_token.ensures.takes in
     syntax_fault l g.L.Language.certificate g.L.Language.meter g.met.L.Language.sound g.L.Language.view c.args.tokens.now c.loop-token.token-index t fs c.loop-token.meters
     c.loop-token-test.true c.token-item.is c.loop-token.invariant refuses c.refusal_at.result c.refusal_at.ensures
 
@@ -40,7 +40,7 @@ returns-in-Some g c =
     let t = c.token-item.result in
     let takes : Takes l predict g.L.Language.meter fs c.loop-token.meters t gs c.take_token.new.meters =
     subst (λ b. MatchBool b (Takes l predict g.L.Language.meter fs c.loop-token.meters t gs c.take_token.new.meters)
-        (Refuses l predict g.L.Language.meter fs c.loop-token.meters t)) c.if-not-branch.false c.in_ok-take_token.ensures.takes in
+    (Refuses l predict g.L.Language.meter fs c.loop-token.meters t)) c.if-not-branch.false c.in_ok-take_token.ensures.takes in
     limit_fault l g.L.Language.certificate g.L.Language.meter g.met.L.Language.sound g.L.Language.view c.args.tokens.now c.loop-token.token-index t fs c.loop-token.meters
     gs c.take_token.new.meters c.in-Some.number c.loop-token-test.true c.token-item.is c.loop-token.invariant takes (c.in_ok-take_token.ensures.linked c.if-not-branch.false)
     (sym c.in-Some.ensures) c.refusal_at-in-Some.result c.refusal_at-in-Some.ensures
@@ -54,7 +54,7 @@ loop-token-preserved g c =
     let t = c.token-item.result in
     let takes : Takes l predict g.L.Language.meter fs c.loop-token.meters t gs c.take_token.new.meters =
     subst (λ b. MatchBool b (Takes l predict g.L.Language.meter fs c.loop-token.meters t gs c.take_token.new.meters)
-        (Refuses l predict g.L.Language.meter fs c.loop-token.meters t)) c.if-not-branch.false c.in_ok-take_token.ensures.takes in
+    (Refuses l predict g.L.Language.meter fs c.loop-token.meters t)) c.if-not-branch.false c.in_ok-take_token.ensures.takes in
     reached_more l g.L.Language.certificate g.L.Language.meter g.met.L.Language.sound c.args.tokens.now c.loop-token.token-index t fs c.loop-token.meters
     gs c.take_token.new.meters c.loop-token-test.true c.token-item.is c.loop-token.invariant takes (c.in_ok-take_token.ensures.linked c.if-not-branch.false)
     (sym c.in_default.ensures)
