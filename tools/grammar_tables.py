@@ -1,13 +1,14 @@
 #!/usr/bin/env python3
 """Writes the tables of a language of crate `grammar` from its productions.
 
-usage: grammar_tables.py GRAMMAR CRATE FOLDER
+usage: grammar_tables.py GRAMMAR CRATE FOLDER NAME
 
 GRAMMAR is a text: a line `terminals: A B C`, a line `end: TextEnd`, and a line for each production,
 `Nonterminal.Production = Symbol Symbol ..`; the first production is the start. A production that may stand before some
 terminals alone has `only A B` behind its symbols, and one that may not stand before some `except A B`. `#` begins a comment.
-It writes FOLDER/src/table.rt and FOLDER/specs/Table.antt and Certificate.antt, which the check proves against each other,
-and says where the productions need more than one token of lookahead. `rt fmt` lays the files out.
+It writes FOLDER/src/table.rt and FOLDER/specs/Table.antt, LookaheadTables.antt and NAMESound.antt, over a file NAME.antt that
+defines `grammar` and `certificate` of these tables, and says where the productions need more than one token of lookahead.
+`rt tidy` lays the files out.
 """
 import sys
 
@@ -332,7 +333,7 @@ def write_certificate(grammar, crate):
 
 def write_laws(grammar, crate, language):
     out = [
-        '-- Each test of the certificate computes to true, production by production.',
+        '-- The tables are sound: each test computes to true, for each terminal, nonterminal and production.',
         'use Rattle.std.specs.Prelude.{◌≡◌, Bool, true, false, suc, nat_lt, List, refl}',
     ]
     for name in ('Terminal', 'Nonterminal', 'Production'):
@@ -350,7 +351,7 @@ def write_laws(grammar, crate, language):
     ]
 
     def law(name, kind, letter, statement, keys):
-        return ['', f'{name} : ({letter} : {kind}) → {statement} ≡ true'] + [f'{name} {kind.lower()}s.{key} = refl' for key in keys]
+        return ['', f'{name} : ({letter} : {kind}) → {statement} ≡ true', f'{name} {kind.lower()}s.{keys[0]} = refl', f'{name} _ = refl']
 
     t, n, p = grammar.terminals, grammar.nonterminals, grammar.productions
     out += law('terminals_law', 'Terminal', 'k', 'member certificate k all_terminals', t)
@@ -366,7 +367,7 @@ def write_laws(grammar, crate, language):
     out += law('begins_law', 'Nonterminal', 'n', 'begins_by certificate n (shortest n) (closing n)', n)
     out += law('fits_law', 'Production', 'p', 'can_close certificate (λ m. subset certificate (before (nonterminal_of p)) (before m)) (symbols p)', p)
     out += law('inner_law', 'Production', 'p', 'implies (inner (nonterminal_of p)) (all_inner certificate (symbols p))', p)
-    out += ['', 'example_law : (k : Terminal) → grammar.terminal_of (certificate.example k) ≡ k'] + [f'example_law terminals.{key} = refl' for key in t]
+    out += ['', 'example_law : (k : Terminal) → grammar.terminal_of (certificate.example k) ≡ k', f'example_law terminals.{t[0]} = refl', 'example_law _ = refl']
     same = [f"    same_{x} = record {{ is = same_true {x}_type tt; own = λ a. true_same {x}_type a a refl }};" for x in ('terminal', 'nonterminal', 'production')]
     fields = ['terminals', 'first', 'nullable', 'predicts_first', 'predicts_empty', 'follow', 'offers', 'cost', 'example', 'closing', 'height', 'begins', 'fits', 'inner']
     out += ['', 'pub sound : IsSound grammar certificate', 'sound = record {'] + same

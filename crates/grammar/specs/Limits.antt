@@ -1,4 +1,9 @@
 -- What happens along a derivation, and the meters that count it against limits.
+--
+-- A limit counts something of the derivation: how many blocks are open around a token, how many units began, how many tokens one
+-- unit has. So a limit is read off the derivation's events, from left to right, up to the token: a production opens, a token is
+-- taken, a production closes. A production opens before its first token is taken, so the token that opens a block counts as inside it.
+-- The reading at a token depends on the tokens up to it alone, since these settle the derivation so far.
 use Rattle.std.specs.Prelude.{◌≡◌, ◌↔◌, ℕ, suc, ◌≤◌, ◌++◌, Option, Some, None, List, [], ◌∷◌}
 use Rattle.grammar.specs.declared.language.Event.{Event}
 use Rattle.grammar.specs.declared.language.Event.TheVariants.{Open, Take, Close}

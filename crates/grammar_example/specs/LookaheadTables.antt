@@ -27,10 +27,10 @@ follow _ = terminals.Name ∷ terminals.Then ∷ terminals.Else ∷ terminals.Op
 
 -- before which it may be empty
 abbrev pub nullable : Nonterminal → Nullable Terminal
-nullable nonterminals.Outline = Never
-nullable nonterminals.Item = Never
+nullable nonterminals.Items = Always
+nullable nonterminals.ElsePart = Always
 nullable nonterminals.Stop = Before (terminals.CloseBrace ∷ terminals.TextEnd ∷ [])
-nullable _ = Always
+nullable _ = Never
 
 -- more than all that it may begin with
 abbrev pub cost : Nonterminal → ℕ
@@ -41,25 +41,25 @@ cost _ = 3
 -- a short text of it
 abbrev pub closing : Nonterminal → List Terminal
 closing nonterminals.Outline = terminals.TextEnd ∷ []
+closing nonterminals.Items = []
 closing nonterminals.Item = terminals.OpenBrace ∷ terminals.CloseBrace ∷ []
 closing nonterminals.ElsePart = terminals.Else ∷ terminals.OpenBrace ∷ terminals.CloseBrace ∷ []
-closing nonterminals.Stop = terminals.LineEnd ∷ []
-closing _ = []
+closing _ = terminals.LineEnd ∷ []
 
 -- the production of that text
 abbrev pub shortest : Nonterminal → Production
 shortest nonterminals.Outline = productions.Whole
 shortest nonterminals.Items = productions.Done
+shortest nonterminals.Item = productions.Braces
 shortest nonterminals.ElsePart = productions.Otherwise
-shortest nonterminals.Stop = productions.StopLine
-shortest _ = productions.Braces
+shortest _ = productions.StopLine
 
 -- how deep that text is
 abbrev pub height : Nonterminal → ℕ
-height nonterminals.Outline = 2
-height nonterminals.Item = 2
+height nonterminals.Items = 1
 height nonterminals.ElsePart = 3
-height _ = 1
+height nonterminals.Stop = 1
+height _ = 2
 
 -- before which terminals that text stands
 abbrev pub before : Nonterminal → List Terminal
