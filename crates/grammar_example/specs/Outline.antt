@@ -1,5 +1,5 @@
 -- Outlines: their grammar, what their productions make, and their limits.
-use Rattle.std.specs.Prelude.{ℕ, suc, ◌-◌, nat_lt, pos, if◌then◌else◌, Option, Some, None, List, [], ◌∷◌, ◌++◌}
+use Rattle.std.specs.Prelude.{ℕ, suc, ◌-◌, nat_lt, pos, if◌then◌else◌, Some, None, List, [], ◌∷◌, ◌++◌}
 use denote.Enum.Bare.{sameb}
 use Rattle.ground.specs.declared.token.Token.{Token}
 use Rattle.ground.specs.declared.token.TokenKind.{TokenKind}

@@ -1,5 +1,5 @@
 -- The tables are sound: each test computes to true, for each terminal, nonterminal and production.
-use Rattle.std.specs.Prelude.{◌≡◌, Bool, true, false, suc, nat_lt, List, refl}
+use Rattle.std.specs.Prelude.{◌≡◌, true, suc, nat_lt, refl}
 use Rattle.grammar_example.specs.declared.table.Terminal.{Terminal}
 use Rattle.grammar_example.specs.declared.table.Terminal.TheVariants as terminals
 use Rattle.grammar_example.specs.declared.table.Nonterminal.{Nonterminal}
@@ -74,23 +74,23 @@ example_law _ = refl
 
 pub sound : IsSound grammar certificate
 sound = record {
-    same_terminal = record { is = same_true terminal_type tt; own = λ a. true_same terminal_type a a refl };
-    same_nonterminal = record { is = same_true nonterminal_type tt; own = λ a. true_same nonterminal_type a a refl };
-    same_production = record { is = same_true production_type tt; own = λ a. true_same production_type a a refl };
-    terminals = terminals_law;
-    first = first_law;
-    nullable = nullable_law;
-    predicts_first = predicts_first_law;
-    predicts_empty = predicts_empty_law;
-    follow = follow_law;
-    offers = offers_law;
-    cost = cost_law;
-    example = example_law;
-    closing = closing_law;
-    height = height_law;
-    begins = begins_law;
-    fits = fits_law;
-    inner = inner_law;
-    start_fits = refl;
-    ends = refl;
+  same_terminal = record { is = same_true terminal_type tt; own = λ a. true_same terminal_type a a refl };
+  same_nonterminal = record { is = same_true nonterminal_type tt; own = λ a. true_same nonterminal_type a a refl };
+  same_production = record { is = same_true production_type tt; own = λ a. true_same production_type a a refl };
+  terminals = terminals_law;
+  first = first_law;
+  nullable = nullable_law;
+  predicts_first = predicts_first_law;
+  predicts_empty = predicts_empty_law;
+  follow = follow_law;
+  offers = offers_law;
+  cost = cost_law;
+  example = example_law;
+  closing = closing_law;
+  height = height_law;
+  begins = begins_law;
+  fits = fits_law;
+  inner = inner_law;
+  start_fits = refl;
+  ends = refl;
 }

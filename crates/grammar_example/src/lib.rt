@@ -4,7 +4,7 @@
 mod outline;
 mod table;
 
-pub use outline::{read, Outline};
+pub use outline::{Outline, read};
 pub use table::{Nonterminal, Production, Terminal};
 
 #[cfg(test)]

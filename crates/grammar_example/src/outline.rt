@@ -117,11 +117,7 @@ impl Language for Outline {
         }
     }
 
-    fn build(
-        alloc: Global,
-        production: Production,
-        values: Vec<Text>,
-    ) -> Result<Text, AllocError>
+    fn build(alloc: Global, production: Production, values: Vec<Text>) -> Result<Text, AllocError>
         ensures { IfOk result (λ v. text_of v ≡ outlines.build production (piled text_of values.items [])) }
     {
         join(alloc, production, values)
@@ -134,10 +130,7 @@ impl Language for Outline {
         }
     }
 
-    fn next_meters(
-        meters: Counts,
-        event: Event<Terminal, Production>,
-    ) -> Result<Counts, AllocError>
+    fn next_meters(meters: Counts, event: Event<Terminal, Production>) -> Result<Counts, AllocError>
         ensures { IfOk result (λ m. m ≡ meter.next event meters) }
     {
         counted(meters, event)

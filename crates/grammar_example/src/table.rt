@@ -64,7 +64,11 @@ fn predict_outline(terminal: Terminal) -> Option<Production>
     ensures { result ≡ predict_at nonterminals.Outline terminal }
 {
     match terminal {
-        Terminal::Name | Terminal::Then | Terminal::OpenBrace | Terminal::LineEnd | Terminal::TextEnd => Some(Production::Whole),
+        Terminal::Name
+        | Terminal::Then
+        | Terminal::OpenBrace
+        | Terminal::LineEnd
+        | Terminal::TextEnd => Some(Production::Whole),
         _ => None,
     }
 }
@@ -95,7 +99,12 @@ fn predict_else_part(terminal: Terminal) -> Option<Production>
 {
     match terminal {
         Terminal::Else => Some(Production::Otherwise),
-        Terminal::Name | Terminal::Then | Terminal::OpenBrace | Terminal::CloseBrace | Terminal::LineEnd | Terminal::TextEnd => Some(Production::Nothing),
+        Terminal::Name
+        | Terminal::Then
+        | Terminal::OpenBrace
+        | Terminal::CloseBrace
+        | Terminal::LineEnd
+        | Terminal::TextEnd => Some(Production::Nothing),
         _ => None,
     }
 }
@@ -116,14 +125,58 @@ pub fn symbol_at(production: Production, place: usize) -> Option<Symbol<Terminal
     ensures { result ≡ slice_get (symbols production) place }
 {
     match production {
-        Production::Whole => at(&[Symbol::Nonterminal(Nonterminal::Items), Symbol::Terminal(Terminal::TextEnd)], place),
-        Production::Line => at(&[Symbol::Terminal(Terminal::LineEnd), Symbol::Nonterminal(Nonterminal::Items)], place),
-        Production::More => at(&[Symbol::Nonterminal(Nonterminal::Item), Symbol::Nonterminal(Nonterminal::Items)], place),
+        Production::Whole => at(
+            &[
+                Symbol::Nonterminal(Nonterminal::Items),
+                Symbol::Terminal(Terminal::TextEnd),
+            ],
+            place,
+        ),
+        Production::Line => at(
+            &[
+                Symbol::Terminal(Terminal::LineEnd),
+                Symbol::Nonterminal(Nonterminal::Items),
+            ],
+            place,
+        ),
+        Production::More => at(
+            &[
+                Symbol::Nonterminal(Nonterminal::Item),
+                Symbol::Nonterminal(Nonterminal::Items),
+            ],
+            place,
+        ),
         Production::Done => None,
-        Production::Braces => at(&[Symbol::Terminal(Terminal::OpenBrace), Symbol::Nonterminal(Nonterminal::Items), Symbol::Terminal(Terminal::CloseBrace)], place),
-        Production::Choice => at(&[Symbol::Terminal(Terminal::Then), Symbol::Nonterminal(Nonterminal::Item), Symbol::Nonterminal(Nonterminal::ElsePart)], place),
-        Production::Single => at(&[Symbol::Terminal(Terminal::Name), Symbol::Nonterminal(Nonterminal::Stop)], place),
-        Production::Otherwise => at(&[Symbol::Terminal(Terminal::Else), Symbol::Nonterminal(Nonterminal::Item)], place),
+        Production::Braces => at(
+            &[
+                Symbol::Terminal(Terminal::OpenBrace),
+                Symbol::Nonterminal(Nonterminal::Items),
+                Symbol::Terminal(Terminal::CloseBrace),
+            ],
+            place,
+        ),
+        Production::Choice => at(
+            &[
+                Symbol::Terminal(Terminal::Then),
+                Symbol::Nonterminal(Nonterminal::Item),
+                Symbol::Nonterminal(Nonterminal::ElsePart),
+            ],
+            place,
+        ),
+        Production::Single => at(
+            &[
+                Symbol::Terminal(Terminal::Name),
+                Symbol::Nonterminal(Nonterminal::Stop),
+            ],
+            place,
+        ),
+        Production::Otherwise => at(
+            &[
+                Symbol::Terminal(Terminal::Else),
+                Symbol::Nonterminal(Nonterminal::Item),
+            ],
+            place,
+        ),
         Production::Nothing => None,
         Production::StopLine => at(&[Symbol::Terminal(Terminal::LineEnd)], place),
         Production::StopSign => at(&[Symbol::Terminal(Terminal::Semicolon)], place),
@@ -131,7 +184,10 @@ pub fn symbol_at(production: Production, place: usize) -> Option<Symbol<Terminal
     }
 }
 
-fn at(symbols: &[Symbol<Terminal, Nonterminal>], place: usize) -> Option<Symbol<Terminal, Nonterminal>>
+fn at(
+    symbols: &[Symbol<Terminal, Nonterminal>],
+    place: usize,
+) -> Option<Symbol<Terminal, Nonterminal>>
     ensures { result ≡ slice_get symbols.now place }
 {
     symbols.get(place).copied()

@@ -95,7 +95,14 @@ fn faults(rt: HostRuntime) -> Result<(), Fail> {
         let outcome = reading(rt.alloc(), text)?;
         let fault = outcome.err().ok_or("no fault")?;
         let place = Place { file: 0, line };
-        assert_eq!(rt; fault, Fault { kind, place, number });
+        assert_eq!(rt;
+            fault,
+            Fault {
+                kind,
+                place,
+                number
+            }
+        );
     }
     Ok(())
 }
