@@ -1,0 +1,50 @@
+-- The stack and its values, as the machine holds them.
+use Rattle.std.proofs.Common.{◌≡◌, true, false, ℕ, zero, suc, ◌+◌, arith, length, drop, ◌++◌, Option, Some, None, List, [], ◌∷◌, refl, sym, ◌∙◌, ap, subst}
+use Rattle.std.specs.Prelude.{slice_get, MatchOption, option_to_list, is_some}
+use Rattle.grammar.specs.Stack.{piled}
+
+drop_at : {A : Type 0} → (xs : List A) → (n : ℕ) → (x : A) → slice_get xs n ≡ Some x → drop n xs ≡ x ∷ drop (suc n) xs
+drop_at [] n x e = cc
+drop_at (y ∷ xs) zero x e = cc
+drop_at (y ∷ xs) (suc n) x e = drop_at xs n x e
+
+drop_past : {A : Type 0} → (xs : List A) → (n : ℕ) → slice_get xs n ≡ None → drop n xs ≡ []
+drop_past [] zero e = refl
+drop_past [] (suc n) e = refl
+drop_past (y ∷ xs) zero e = cc
+drop_past (y ∷ xs) (suc n) e = drop_past xs n e
+
+length-piled : {A B : Type 0} → (f : A → B) → (xs : List A) → (old : List B) → length (piled f xs old) ≡ length xs + length old
+length-piled f [] old = omega arith
+length-piled f (y ∷ xs) old = omega (arith, length-piled f xs (f y ∷ old))
+
+pub piled-append : {A B : Type 0} → (f : A → B) → (xs : List A) → (x : A) → (old : List B) → piled f (xs ++ x ∷ []) old ≡ f x ∷ piled f xs old
+piled-append f [] x old = refl
+piled-append f (y ∷ xs) x old = piled-append f xs x (f y ∷ old)
+
+pub length-values : {A B : Type 0} → (f : A → B) → (xs : List A) → length (piled f xs []) ≡ length xs
+length-values f xs = omega (arith, length-piled f xs [])
+
+-- what stands at a place, and what stands from there on
+pub found : {S : Type 0} → (o : Option S) → (xs : List S) → (n m : ℕ) → o ≡ slice_get xs n → m ≡ n →
+    MatchOption o (drop m xs ≡ []) (λ x. drop m xs ≡ x ∷ drop (suc m) xs)
+found None xs n m e h = subst (λ k. drop k xs ≡ []) (sym h) (drop_past xs n (sym e))
+found (Some x) xs n m e h = subst (λ k. drop k xs ≡ x ∷ drop (suc k) xs) (sym h) (drop_at xs n x (sym e))
+
+nil_of : {A : Type 0} → (xs : List A) → length xs ≡ 0 → xs ≡ []
+nil_of [] h = refl
+nil_of (x ∷ xs) h = absurd (omega arith)
+
+pub popped : {A B : Type 0} → (f : A → B) → (o : Option A) → (old new : List A) → (n m k : ℕ) → old ≡ new ++ option_to_list o → n ≡ length old →
+    MatchOption o ((n ≡ 0) × (m ≡ 0)) (λ x. k ≡ n) →
+    MatchOption o (piled f old [] ≡ []) (λ x. piled f old [] ≡ f x ∷ piled f new [])
+popped f None old new n m k e l h = ap (λ xs. piled f xs []) (nil_of old (omega arith))
+popped f (Some x) old new n m k e l h = ap (λ xs. piled f xs []) e ∙ piled-append f new x []
+
+pub some_of : {A : Type 0} → (o : Option A) → (B : Type 0) → (C : A → Type 0) → MatchOption o B C → true ≡ is_some o → (x : A) × C x
+some_of None B C h e = absurd (let f : true ≡ false = e in cc)
+some_of (Some x) B C h e = (x, h)
+
+pub none_of : {A : Type 0} → (o : Option A) → (B : Type 0) → (C : A → Type 0) → MatchOption o B C → false ≡ is_some o → B
+none_of None B C h e = h
+none_of (Some x) B C h e = absurd (let f : false ≡ true = e in cc)

@@ -1,0 +1,7 @@
+pub mod Grammar
+pub mod Limits
+pub mod Lookahead
+pub mod Descent
+pub mod Certificate
+pub mod Stack
+pub mod Answers

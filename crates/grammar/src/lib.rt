@@ -1,0 +1,10 @@
+//! The parsing machine, for every language whose grammar is a table with one token of lookahead.
+#![tactic(auto)]
+
+mod language;
+mod machine;
+mod parser;
+mod stack;
+
+pub use language::{Event, Language, Symbol};
+pub use parser::parse;

@@ -1,0 +1,4 @@
+pub mod Table
+pub mod LookaheadTables
+pub mod Outline
+pub mod OutlineSound
