@@ -1,5 +1,5 @@
 -- The tokens of a text, up to its first fault.
-use Rattle.std.specs.Prelude.{ℕ, zero, suc, ◌+◌, ◌-◌, ◌<◌, ◌≤◌, ⊤, Bool, true, false, not, ◌==◌, ◌&&◌, ◌||◌, List, [], ◌∷◌, ◌++◌, length, take, drop, Option, Some, None, codes, nat_lt, if◌then◌else◌}
+use Rattle.std.specs.Prelude.{ℕ, zero, suc, ◌+◌, ◌-◌, ⊤, Bool, true, false, not, ◌==◌, ◌||◌, List, [], ◌∷◌, ◌++◌, length, drop, Option, Some, None, codes, nat_lt, if◌then◌else◌}
 use Rattle.std.specs.List.{list_any, list_all}
 use Rattle.ground.specs.declared.fault.Fault.{Fault}
 use Rattle.ground.specs.declared.fault.FaultKind.TheVariants.{BadByte, PercentLine}
@@ -9,7 +9,6 @@ use Rattle.ground.specs.declared.token.Token.{Token}
 use Rattle.ground.specs.declared.token.TokenKind.{TokenKind}
 use Rattle.ground.specs.declared.token.TokenKind.TheVariants.{Word, Quoted, Sign as SignToken, LineEnd, TextEnd}
 use Rattle.ground.specs.declared.token.Sign.TheVariants.{Open, Close}
-use Rattle.ground.specs.declared.place.Place.{Place}
 use Rattle.free_scan.specs.declared.lines.Character.{Character}
 use Rattle.free_scan.specs.declared.lines.LineEnding.{LineEnding}
 use Rattle.free_scan.specs.declared.scanner.LineStart.{LineStart}
