@@ -36,7 +36,7 @@ same_line c =
     let l : Line = record { characters = c.args.characters.now; ending = c.args.ending } in
     let word = c.new-word.ensures ∙ c.in_ok-bytes-in-Some.ensures ∙ ap (λ cs. bytes_of cs 7) c.begun-line.ensures in
     ap (λ w. include_line c.args.text.now c.args.file w c.in-Some.first c.in-Some.last) word
-    ∙ ap (line_by_word c.args.dialect c.args.text.now c.args.file c.args.start.opened l) (found c)
+    ∙ ap (line_by_word c.args.dialect c.args.text.now c.args.file c.args.start l) (found c)
 
 -- what the next line's start is known to be
 raised : (r : Result Outcome AllocError) (P Q : LineStart → Type 0) → ((s : LineStart) → P s → Q s) → IfOk r (λ o. IfGoes o P) → IfOk r (λ o. IfGoes o Q)
