@@ -1,14 +1,11 @@
 -- Small texts and their tokens, by the definition.
-use Rattle.std.specs.Prelude.{◌≡◌, ℕ, ◌+◌, Bool, true, false, List, [], ◌∷◌, ◌++◌, map, pos, Option, Some, None, refl, codes}
-use Rattle.ground.specs.declared.fault.Fault.{Fault}
+use Rattle.std.specs.Prelude.{◌≡◌, ℕ, List, [], ◌∷◌, ◌++◌, map, pos, Some, None, refl, codes}
 use Rattle.ground.specs.declared.fault.FaultKind.{FaultKind}
-use Rattle.ground.specs.declared.fault.FaultKind.TheVariants.{BadByte, UnclosedQuote, NumberTooLarge, PercentLine, Limit}
-use Rattle.ground.specs.declared.token.Dialect.{Dialect}
 use Rattle.ground.specs.declared.token.Dialect.TheVariants.{Ratfor, Efl}
 use Rattle.ground.specs.declared.token.Token.{Token}
 use Rattle.ground.specs.declared.token.TokenKind.{TokenKind}
-use Rattle.ground.specs.declared.token.TokenKind.TheVariants.{Word, Number, Quoted, Semicolon, LineEnd, TextEnd, Sign as SignToken}
-use Rattle.ground.specs.declared.token.Sign.TheVariants.{Plus, Open, Close, OpenBrace, Eq, Ne, Or, Assign, AddAssign, Point}
+use Rattle.ground.specs.declared.token.TokenKind.TheVariants.{Word, Number, LineEnd, TextEnd, Sign as SignToken}
+use Rattle.ground.specs.declared.token.Sign.TheVariants.{Plus, Assign, AddAssign}
 use Rattle.free_scan.specs.Lexemes.{Reading}
 use Rattle.free_scan.specs.Tokens.{scanned}
 
