@@ -32,7 +32,11 @@ fn main(rt: HostRuntime) -> Result<()> {
             println!(rt; "{count} tokens")?;
             if let Some(fault) = all.fault {
                 let line = fault.place.line;
-                println!(rt; "fault {} {} at line {line}", fault.kind.number(), fault.kind.word())?;
+                println!(rt;
+                    "fault {} {} at line {line}",
+                    fault.kind.number(),
+                    fault.kind.word()
+                )?;
             }
             Ok(())
         }
