@@ -1,5 +1,5 @@
 -- The tokens of a text, up to its first fault.
-use Rattle.std.specs.Prelude.{ℕ, zero, suc, ◌+◌, ◌-◌, ⊤, Bool, true, false, not, ◌==◌, ◌||◌, ◌&&◌, List, [], ◌∷◌, ◌++◌, length, drop, Option, Some, None, codes, nat_lt, if◌then◌else◌}
+use Rattle.std.specs.Prelude.{◌≡◌, ℕ, zero, suc, ◌+◌, ◌-◌, ⊤, Bool, true, false, not, ◌==◌, ◌||◌, ◌&&◌, List, [], ◌∷◌, ◌++◌, length, drop, Option, Some, None, codes, nat_lt, if◌then◌else◌}
 use Rattle.std.specs.List.{list_any, list_all}
 use Rattle.ground.specs.declared.fault.Fault.{Fault}
 use Rattle.ground.specs.declared.fault.FaultKind.TheVariants.{BadByte, PercentLine}
@@ -129,3 +129,7 @@ scanned d text file = lines_from d text file text_start 0 text
 abbrev pub IfGoes : Outcome → (LineStart → Type 0) → Type 0
 IfGoes (GoesOn after) P = P after
 IfGoes (StopsThere fault) P = ⊤
+
+-- r is what a text says in this dialect, as the file of this number
+abbrev pub IsReading : Dialect → List ℕ → ℕ → Reading → Type 0
+IsReading d text file r = r ≡ scanned d text file
