@@ -1,2 +1,4 @@
 mod Examples
+pub mod RelatedCommands
+pub mod AnyCommands
 pub mod Widens
