@@ -8,6 +8,7 @@ pub mod RelatedRuns
 pub mod AnyNames
 pub mod Grows
 pub mod Longer
+pub mod PlacesAlone
 pub mod ExampleParts
 mod ExamplesOfValues
 mod ExamplesOfControl

@@ -1,9 +1,9 @@
 -- Laws of runs.
-use Rattle.std.specs.Prelude.{◌≡◌, ℕ, ◌≤◌, List}
+use Rattle.std.specs.Prelude.{◌≡◌, ℕ, ◌≤◌, List, map}
 use Rattle.f66_tree.specs.Forms.{Line}
-use Rattle.f66_tree.specs.World.{Record, Shown, Finish, Ended, IsPrefix}
+use Rattle.f66_tree.specs.World.{Record, Shown, Finish, Trapped, End, Ended, IsPrefix}
 use Rattle.f66_tree.specs.Units.{Linkage}
-use Rattle.f66_tree.specs.Execution.{f66}
+use Rattle.f66_tree.specs.Execution.{nowhere, f66}
 
 -- A run at a greater bound: where the first has ended it shows the same, and else its records begin with those of the first.
 pub record Extends (s t : Shown) : Type 0 where
@@ -13,3 +13,19 @@ pub record Extends (s t : Shown) : Type 0 where
 -- a run of linked units that has ended at a bound is the same at every greater one
 abbrev pub RunsExtend : Type 0
 RunsExtend = (l : Linkage) (codes : ℕ → List Line) (input : List Record) (a b : ℕ) → a ≤ b → Extends (f66 l codes input a) (f66 l codes input b)
+
+-- a statement without its place, and what a run shows without the place of its trap
+abbrev pub placeless : Line → Line
+placeless s = record { label = s.label; place = nowhere; act = s.act }
+
+abbrev pub end_placeless : End → End
+end_placeless (Ended (Trapped t p)) = Ended (Trapped t nowhere)
+end_placeless e = e
+
+abbrev pub shown_placeless : Shown → Shown
+shown_placeless s = record { records = s.records; end = end_placeless s.end; work = s.work }
+
+-- units that differ in places alone have runs that differ in the trap's place alone
+abbrev pub PlacesTellTrapsAlone : Type 0
+PlacesTellTrapsAlone =
+    (l : Linkage) (codes1 codes2 : ℕ → List Line) → ((v : ℕ) → map placeless (codes1 v) ≡ map placeless (codes2 v)) → (input : List Record) (n : ℕ) → shown_placeless (f66 l codes1 input n) ≡ shown_placeless (f66 l codes2 input n)

@@ -2,3 +2,4 @@ mod Examples
 pub mod RelatedCommands
 pub mod AnyCommands
 pub mod Widens
+pub mod PlacesAlone
