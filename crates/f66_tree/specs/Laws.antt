@@ -1,5 +1,7 @@
 -- Laws of runs.
-use Rattle.std.specs.Prelude.{◌≡◌, ℕ, ◌≤◌, List, map}
+use Rattle.std.specs.Prelude.{◌≡◌, ◌≢◌, ◌++◌, ℕ, ◌≤◌, List, map}
+use Rattle.ground.specs.declared.place.Place.{Place}
+use Rattle.ground.specs.declared.trap.Trap.TheVariants.{EndOfInput}
 use Rattle.f66_tree.specs.Forms.{Line}
 use Rattle.f66_tree.specs.World.{Record, Shown, Finish, Trapped, End, Ended, IsPrefix}
 use Rattle.f66_tree.specs.Units.{Linkage}
@@ -29,3 +31,8 @@ shown_placeless s = record { records = s.records; end = end_placeless s.end; wor
 abbrev pub PlacesTellTrapsAlone : Type 0
 PlacesTellTrapsAlone =
     (l : Linkage) (codes1 codes2 : ℕ → List Line) → ((v : ℕ) → map placeless (codes1 v) ≡ map placeless (codes2 v)) → (input : List Record) (n : ℕ) → shown_placeless (f66 l codes1 input n) ≡ shown_placeless (f66 l codes2 input n)
+
+-- records that a run does not ask for don't change it: it asks for one that is not there only where it ends so
+abbrev pub UnaskedChangeNothing : Type 0
+UnaskedChangeNothing =
+    (l : Linkage) (codes : ℕ → List Line) (input more : List Record) (n : ℕ) → ((p : Place) → (f66 l codes input n).end ≢ Ended (Trapped EndOfInput p)) → f66 l codes (input ++ more) n ≡ f66 l codes input n

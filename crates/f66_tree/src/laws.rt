@@ -1,6 +1,6 @@
 // Laws of the definitions. The functions do nothing: their contracts are the laws.
 ghost use Rattle.f66_tree.specs.FirstLaws.{StoreKeeps, RecordsStay};
-ghost use Rattle.f66_tree.specs.Laws.{RunsExtend, PlacesTellTrapsAlone};
+ghost use Rattle.f66_tree.specs.Laws.{RunsExtend, PlacesTellTrapsAlone, UnaskedChangeNothing};
 
 /// A store holds what was put last.
 pub fn store_keeps()
@@ -21,4 +21,9 @@ pub fn runs_extend()
 /// Units that differ in the places of their statements alone have runs that differ in the place of the trap alone.
 pub fn places_tell_traps_alone()
     ensures { PlacesTellTrapsAlone }
+{}
+
+/// Records of input that a run does not ask for do not change it.
+pub fn unasked_change_nothing()
+    ensures { UnaskedChangeNothing }
 {}
