@@ -3,3 +3,4 @@ pub mod RelatedCommands
 pub mod AnyCommands
 pub mod Widens
 pub mod PlacesAlone
+pub mod UnaskedMeanings
