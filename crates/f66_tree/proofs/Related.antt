@@ -19,14 +19,15 @@ use Rattle.f66_tree.specs.declared.editing.Way.{Way}
 use Rattle.f66_tree.specs.declared.editing.Way.TheVariants.{Reading, Writing}
 use Rattle.f66_tree.specs.Fields.{Fields}
 use Rattle.f66_tree.specs.Forms.{Text, Formula, Number, Fact, Letter, Variable, Applied, Grouped, Positive, Negative, Negated, Joined, Formulas, Nought, Also, Par, Constant, Named, Entry, One, Many, Entries, NoEntry, AndEntry, Act, Assigns, Goes, Selects, Signs, Chooses, Loops, Invokes, Passes, Stops, Returns, Reads, Writes, Formats, Types, Dimensions, Commons, Equivalences, Presets}
-use Rattle.f66_tree.specs.World.{Tape, World, Done, Stopped, Trapped, Finish, Ended, Wrong, Out, Gives, Halts, bind, Try, Yields, Traps, Fails, IfYields, settle, choose}
+use Rattle.f66_tree.specs.World.{Record, Tape, World, Done, Stopped, Trapped, Finish, Ended, Wrong, Out, Gives, Halts, bind, Try, Yields, Traps, Fails, IfYields, settle, choose}
 use Rattle.f66_tree.specs.Records.{due, put, take, closed}
-use Rattle.f66_tree.specs.FirstLaws.{Keeps}
+use Rattle.f66_tree.specs.FirstLaws.{Keeps, longer, Unasked}
 use Rattle.f66_tree.specs.Units.{is_main, kind_of, format_of, sizes_of, places_of, position, dummies_of, Spot, Held, Lent, Linkage, Setting, Frame}
 use Rattle.f66_tree.specs.Uses.{Names, NamesOfAll, NameOfPar, NamesOfPars, NamesOfEntry, NamesOfEntries, NamesOfAct}
 use Rattle.f66_tree.specs.Evaluation.{Intrinsic, Sort, AnArray, AnIntrinsic, AFunction, known, intrinsics, array_or, is_array, sort_of, base, base_by, load, store_at, variable_in, par_in, pars_in, distance, moved, element, called, referred, place_by, place_of, names_place, actual_of, operate, opposite, denied, same_whole, intrinsic, truth_in, ticked, value_of, values_of, subscripts_of, spots_of, locate, asks}
 use Rattle.f66_tree.specs.Statements.{Exit, Next, To, Back, Loop, fit_loop_in, loop_start, turn_of, loop_turn, transfer, edited, taped, took, row, extent, one_or_row, item, item_turns, items, entry, on_unit, opened_by, record_by, label_at, by_sign_of, returned, invoked, does}
 use Rattle.f66_tree.proofs.EditingLemmas.{records_stay}
+use Rattle.f66_tree.proofs.Unasked.{records_unasked}
 use Rattle.f66_tree.proofs.Posts.{Post, post_any, post_settle, AllFair, IsScope, base_fair, moved_fair, element_fair, place_fair, spots_fair}
 
 -- both sides of a comparison
@@ -86,28 +87,30 @@ pub record Good {I : Type 0} (d : Sides I) (f : Frames) : Type 0 where
   pub places : d.At f.here f.there
   pub actuals : AllFair d.Fair f.actuals
 
--- a step of editing: the records written stay
+-- a step of editing: the records written stay, and records that are not asked for change nothing
 pub record IsStep (h : Tape → Try Tape) : Type 0 where
   pub keeps : (t : Tape) → IfYields (Keeps t) (h t)
+  pub unasked : (more : List Record) (t : Tape) → Unasked (longer more) (h t) (h (longer more t))
 
 pub record IsTake (h : Tape → Try (Content × Tape)) : Type 0 where
   pub keeps : (t : Tape) → IfYields (λ x. Keeps t x.1) (h t)
+  pub unasked : (more : List Record) (t : Tape) → Unasked (λ x. (x.0, longer more x.1)) (h t) (h (longer more t))
 
 pub due_steps : (k : Kind) → IsStep (due k)
-due_steps k = record { keeps = records_stay.dues k }
+due_steps k = record { keeps = records_stay.dues k; unasked = λ more t. records_unasked.dues more k t }
 
 pub put_steps : (c : Content) → IsStep (put c)
-put_steps c = record { keeps = records_stay.puts c }
+put_steps c = record { keeps = records_stay.puts c; unasked = λ more t. records_unasked.puts more c t }
 
 pub take_steps : IsTake take
-take_steps = record { keeps = records_stay.takes }
+take_steps = record { keeps = records_stay.takes; unasked = records_unasked.takes }
 
 pub closed_steps : IsStep closed
-closed_steps = record { keeps = records_stay.closes }
+closed_steps = record { keeps = records_stay.closes; unasked = records_unasked.closes }
 
 pub opened_steps : (way : Way) (o : Option Fields) → IsStep (opened_by way o)
-opened_steps way (Some fs) = record { keeps = records_stay.opens way fs }
-opened_steps way None = record { keeps = λ t. tt }
+opened_steps way (Some fs) = record { keeps = records_stay.opens way fs; unasked = λ more t. records_unasked.opens more way fs t }
+opened_steps way None = record { keeps = λ t. tt; unasked = λ more t. refl }
 
 -- the names in an array's dimensions
 abbrev SortNames : (Text → Type 0) → Sort → Type 0

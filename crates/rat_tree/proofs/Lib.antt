@@ -1,2 +1,6 @@
 mod Examples
+pub mod RelatedCommands
+pub mod AnyCommands
 pub mod Widens
+pub mod PlacesAlone
+pub mod UnaskedMeanings
