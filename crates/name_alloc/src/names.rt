@@ -2,7 +2,7 @@
 ghost use Rattle.std.specs.Prelude.{◌≡◌, ◌+◌, ◌<◌, ◌≤◌, [], ◌∷◌, length, min, false, OnOk, OnErr, IfOk, IfSome, if◌then◌else◌};
 ghost use Rattle.std.specs.List.{list_any};
 ghost use Rattle.std.specs.Str.{bytes_eq};
-ghost use Rattle.name_alloc.specs.Numbers.{is_in, next_number, taking, making};
+ghost use Rattle.name_alloc.specs.Numbers.{is_in, next_number, starting, taking, making};
 ghost use Rattle.name_alloc.specs.MadeNames.{digit_at, digit_of, holds_number, made_name, number_of, is_used, is_free, intrinsics, next_name, keeping, naming, labelling};
 
 use crate::Numbers;
@@ -37,8 +37,8 @@ impl Names {
     pub fn new(alloc: Global) -> Names
         ensures letter { result.letter ≡ 90 }
         ensures kept { result.kept ≡ [] }
-        ensures made { result.numbers.made ≡ [] }
-        ensures labels { (result.labels.taken ≡ []) × (result.labels.made ≡ []) }
+        ensures numbers { result.numbers ≡ starting 1 }
+        ensures labels { result.labels ≡ starting 23000 }
     {
         Names {
             alloc,
@@ -53,8 +53,8 @@ impl Names {
     pub fn external(alloc: Global) -> Names
         ensures letter { result.letter ≡ 88 }
         ensures kept { result.kept ≡ [] }
-        ensures made { result.numbers.made ≡ [] }
-        ensures labels { (result.labels.taken ≡ []) × (result.labels.made ≡ []) }
+        ensures numbers { result.numbers ≡ starting 1 }
+        ensures labels { result.labels ≡ starting 23000 }
     {
         Names {
             alloc,

@@ -1,3 +1,4 @@
+pub mod Rows
 mod Examples
 pub mod RelatedCommands
 pub mod AnyCommands
