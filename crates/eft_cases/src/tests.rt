@@ -210,13 +210,11 @@ fn failures(rt: HostRuntime) -> Result<(), Fail> {
 // A text of this many bytes: assignments, blank lines and the end of the program.
 fn long_text(alloc: Global, length: usize) -> Result<Vec<u8>, Fail> {
     let mut text = Vec::new(alloc);
-    while text.len() + 13 < length {
+    for _ in 0..length.saturating_sub(9) / 6 {
         text.extend_from_slice(b"k = 1\n")?;
     }
     text.extend_from_slice(b"stop\nend\n")?;
-    while text.len() < length {
-        text.push(b'\n')?;
-    }
+    text.resize(length, b'\n')?;
     Ok(text)
 }
 
