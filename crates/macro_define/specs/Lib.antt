@@ -1,3 +1,4 @@
 pub mod Made
 pub mod Macros
 pub mod Defines
+pub mod Uses

@@ -32,8 +32,12 @@ counted place m = if m.left == 0 then Err (fault_at place Limit 2) else Ok (reco
 abbrev pub put : Token → Made → Result Made Fault
 put t m = if m.left == 0 then Err (fault_at (t.place) Limit 2) else Ok (record { tokens = m.tokens ++ t ∷ []; left = m.left - 1 })
 
--- what a call answers, and what it leaves, are those of the definition; want of memory says nothing
+-- A call goes from what is told to what it leaves to be done, or to the fault that is told; want of memory says nothing.
+abbrev pub Goes : {A B : Type 0} → Result A Fault → Result B Refusal → Result A Fault → Type 0
+Goes told (Ok b) later = told ≡ later
+Goes told (Err (Faulty fault)) later = told ≡ Err fault
+Goes told (Err WantOfMemory) later = ⊤
+
+-- what a call answers, and what it leaves, are those that are told
 abbrev pub Came : {A B : Type 0} → Result A Fault → Result B Refusal → A → Type 0
-Came told (Ok b) after = told ≡ Ok after
-Came told (Err (Faulty fault)) after = told ≡ Err fault
-Came told (Err WantOfMemory) after = ⊤
+Came told r after = Goes told r (Ok after)
