@@ -1,3 +1,4 @@
 mod ListLemmas
 mod GoesLemmas
+mod TableLemmas
 mod UseLemmas

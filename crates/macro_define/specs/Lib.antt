@@ -2,3 +2,4 @@ pub mod Made
 pub mod Macros
 pub mod Defines
 pub mod Uses
+pub mod Ends
