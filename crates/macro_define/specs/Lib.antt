@@ -3,3 +3,6 @@ pub mod Macros
 pub mod Defines
 pub mod Uses
 pub mod Ends
+pub mod Answers
+pub mod Expansion
+pub mod Gathered

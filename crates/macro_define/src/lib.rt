@@ -2,8 +2,12 @@
 #![tactic(auto)]
 
 mod defines;
+mod gathering;
 mod macros;
 mod output;
+mod refusal;
+
+pub use refusal::GatherRefusal;
 
 #[cfg(test)]
 mod tests;

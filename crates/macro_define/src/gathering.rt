@@ -1,0 +1,31 @@
+// What goes from one token of a text to the next.
+ghost use Rattle.std.specs.Prelude.{◌≡◌, [], ◌≤◌, length, IfOk, OnOk};
+
+use crate::macros::Macros;
+use crate::output::Output;
+use indexmap::IndexSet;
+use std::alloc::Global;
+
+/// The number of bytes of a text and of all its includes, each time that they are included.
+const BYTE_LIMIT: usize = 4_194_304;
+
+/// The tokens made, the macros so far, the different names of files in the order of their first use, and how many more
+/// bytes may come.
+#[derive(Drop)]
+pub struct Gathering {
+    pub output: Output,
+    pub macros: Macros,
+    pub files: IndexSet<Vec<u8>>,
+    pub room: usize,
+}
+
+impl Gathering {
+    pub fn new(alloc: Global) -> Self {
+        Gathering {
+            output: Output::new(alloc),
+            macros: Macros::new(alloc),
+            files: IndexSet::new(alloc),
+            room: BYTE_LIMIT,
+        }
+    }
+}
