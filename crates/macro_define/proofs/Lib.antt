@@ -1,4 +1,5 @@
 mod ListLemmas
 mod GoesLemmas
 mod TableLemmas
+mod ThroughLemmas
 mod UseLemmas

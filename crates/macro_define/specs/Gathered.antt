@@ -1,5 +1,5 @@
 -- What the calls of gather say, by the definition.
-use Rattle.std.specs.Prelude.{◌≡◌, ◌⊎◌, ⊤, ℕ, List, map, Result, Ok, Err, Vec, Option}
+use Rattle.std.specs.Prelude.{◌≡◌, ◌⊎◌, ⊤, ℕ, List, map, Result, Ok, Err, Vec, Option, Some, None}
 use Rattle.std.specs.declared.alloc.Global.{Global}
 use Rattle.ports.specs.Causes.{Rose}
 use Rattle.ground.specs.declared.fault.Fault.{Fault}
@@ -8,7 +8,7 @@ use Rattle.ground.specs.declared.fault.Refusal.TheVariants.{Fault as Faulty, Mem
 use Rattle.macro_define.specs.declared.gathering.Gathering.{Gathering}
 use Rattle.macro_define.specs.declared.refusal.GatherRefusal.{GatherRefusal}
 use Rattle.macro_define.specs.declared.refusal.GatherRefusal.TheVariants as refusals
-use Rattle.macro_define.specs.Answers.{Answers}
+use Rattle.macro_define.specs.Answers.{Answers, later}
 use Rattle.macro_define.specs.Expansion.{Stop, World}
 use Rattle.macro_define.specs.Made.{made}
 use Rattle.macro_define.specs.Uses.{table}
@@ -42,3 +42,23 @@ HasCause before now (Err refusals.Memory) = now ≡ before
 abbrev pub IsInFile : List ℕ → Refusal → GatherRefusal → Type 0
 IsInFile name (Faulty fault) refusal = (refusal ≡ refusals.Fault fault name) ⊎ (refusal ≡ refusals.Memory)
 IsInFile name WantOfMemory refusal = refusal ≡ refusals.Memory
+
+-- what a library was asked for
+abbrev pub Asks : Option (List ℕ) → Result (Option (Vec ℕ Global)) GatherRefusal → Answers → Answers → Type 0
+Asks told (Ok None) before after = told ≡ None
+Asks told (Ok (Some text)) before after = (told ≡ Some text.items) × (after ≡ later before)
+Asks told (Err refusal) before after = ⊤
+
+-- no fault of the text
+abbrev pub IsNoFault : {B : Type 0} → Result B GatherRefusal → Type 0
+IsNoFault (Ok b) = ⊤
+IsNoFault (Err (refusals.Fault fault name)) = ⊥
+IsNoFault (Err refusals.Library) = ⊤
+IsNoFault (Err refusals.Memory) = ⊤
+
+-- no failed fetch
+abbrev pub IsUnasked : {B : Type 0} → Result B GatherRefusal → Type 0
+IsUnasked (Ok b) = ⊤
+IsUnasked (Err (refusals.Fault fault name)) = ⊤
+IsUnasked (Err refusals.Library) = ⊥
+IsUnasked (Err refusals.Memory) = ⊤

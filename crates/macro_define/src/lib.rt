@@ -2,6 +2,7 @@
 #![tactic(auto)]
 
 mod defines;
+mod fetches;
 mod gathering;
 mod macros;
 mod output;
