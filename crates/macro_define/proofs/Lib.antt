@@ -1,4 +1,5 @@
 mod ListLemmas
+mod FileLemmas
 mod GoesLemmas
 mod TableLemmas
 mod ThroughLemmas

@@ -3,7 +3,7 @@
 -- An include stands for the tokens of its file. The recursion goes down the number of files that may still be nested,
 -- and within a file down its tokens. What is known of the library is taken as it is asked: nothing is fetched past the
 -- first fault, and each file each time that it is included.
-use Rattle.std.specs.Prelude.{ℕ, zero, suc, ◌-◌, ◌==◌, ◌&&◌, Bool, true, false, not, List, [], ◌∷◌, length, map, min, position, Option, Some, None, Result, Ok, Err, nat_lt, if◌then◌else◌}
+use Rattle.std.specs.Prelude.{ℕ, zero, suc, ◌-◌, ◌==◌, ◌&&◌, Bool, true, false, not, List, [], ◌∷◌, drop, length, map, min, position, Option, Some, None, Result, Ok, Err, nat_lt, if◌then◌else◌}
 use Rattle.std.specs.Option.{option_map_or}
 use Rattle.std.specs.Str.{bytes_eq, is_utf8}
 use Rattle.indexmap.specs.IndexSet.{insert_key}
@@ -64,10 +64,6 @@ abbrev pub is_text_end : TokenKind → Bool
 is_text_end TextEnd = true
 is_text_end kind = false
 
-abbrev pub quoted_in : TokenKind → Option (List ℕ)
-quoted_in (Quoted name) = Some name
-quoted_in kind = None
-
 abbrev pub with_made : World → Result Made Fault → Result World Fault
 with_made w (Ok m) = Ok (record w { made = m })
 with_made w (Err fault) = Err fault
@@ -84,37 +80,45 @@ plain_token d outermost name t w = if not outermost && is_text_end (t.kind) then
 abbrev pub define_token : Dialect → List ℕ → Place → List Token → World → Result Left Stop
 define_token d name place ts w = and_then (in_file name (define_of d place w.macros ts)) (λ p. Ok (p.0, record w { macros = p.1 }))
 
-module _ (d : Dialect) (include : Place → List ℕ → World → Result World Stop) (outermost : Bool) (name : List ℕ) (fault : Option Fault) where
-  -- An include: the scan gives its name as a quoted text behind the word, unless it stops there. The LineEnd of its line
-  -- stays.
-  abbrev pub include_token : Place → Option (List ℕ) → List Token → World → Result Left Stop
-  include_token place (Some file) ts w = and_then (include place file w) (λ v. Ok (ts, v))
-  include_token place None ts w = Ok (ts, w)
+abbrev pub quoted_at : Place → TokenKind → Option (Place × List ℕ)
+quoted_at place (Quoted name) = Some (place, name)
+quoted_at place kind = None
 
-  abbrev pub include_tokens : List Token → World → Result Left Stop
-  include_tokens [] w = Ok ([], w)
-  include_tokens (t ∷ ts) w = include_token (t.place) (quoted_in (t.kind)) ts w
+-- the name of an include: the scan gives it as a quoted text behind the word, unless it stops there
+abbrev pub quoted_next : List Token → Option (Place × List ℕ)
+quoted_next [] = None
+quoted_next (t ∷ ts) = quoted_at (t.place) (t.kind)
 
-  abbrev pub part : FirstWord → Token → List Token → World → Result Left Stop
-  part Define t ts w = define_token d name (t.place) ts w
-  part Include t ts w = include_tokens ts w
-  part Other t ts w = and_then (plain_token d outermost name t w) (λ v. Ok (ts, v))
+-- `include` says what the file of a name makes, which is wanted at a place.
+module _ (include : Place → List ℕ → World → Result World Stop) where
+  -- an include of a file: the LineEnd of its line stays
+  abbrev pub include_token : Option (Place × List ℕ) → List Token → World → Result Left Stop
+  include_token (Some (place, file)) ts w = and_then (include place file w) (λ v. Ok (ts, v))
+  include_token None ts w = Ok (ts, w)
 
-  -- the fault of the scan, where it stopped
-  abbrev pub end_of : World → Result World Stop
-  end_of w = elim fault [ Some f ↦ Err (f, name) | None ↦ Ok w ]
+  module _ (d : Dialect) (outermost : Bool) (name : List ℕ) where
+    -- a token and those behind it that belong to it
+    abbrev pub part : FirstWord → Token → List Token → World → Result Left Stop
+    part Define t ts w = define_token d name (t.place) ts w
+    part Include t ts w = include_token (quoted_next ts) (drop 1 ts) w
+    part Other t ts w = and_then (plain_token d outermost name t w) (λ v. Ok (ts, v))
 
-  -- the tokens of a file from here on, of which there are at most n
-  abbrev pub from_tokens : ℕ → Bool → List Token → World → Result World Stop
-  from_tokens zero begins ts w = end_of w
-  from_tokens (suc n) begins [] w = end_of w
-  from_tokens (suc n) begins (t ∷ ts) w = and_then (part (first_word begins (t.kind)) t ts w) (λ p. from_tokens n (ends_line (t.kind)) (p.0) (p.1))
+    -- the end of a file's tokens, or the fault at which the scan stopped
+    abbrev pub end_of : Option Fault → World → Result World Stop
+    end_of (Some fault) w = Err (fault, name)
+    end_of None w = Ok w
+
+    -- the tokens of a file from here on, of which there are at most n, and then their end
+    abbrev pub from_tokens : ℕ → Bool → List Token → Option Fault → World → Result World Stop
+    from_tokens zero begins ts fault w = end_of fault w
+    from_tokens (suc n) begins [] fault w = end_of fault w
+    from_tokens (suc n) begins (t ∷ ts) fault w = and_then (part (first_word begins (t.kind)) t ts w) (λ p. from_tokens n (ends_line (t.kind)) (p.0) fault (p.1))
 
 -- a file's text
 abbrev pub file_made : Dialect → (Place → List ℕ → World → Result World Stop) → Bool → List ℕ → List ℕ → World → Result World Stop
 file_made d include outermost name text w =
     let r = scanned d text (file_number w.files name) in
-    from_tokens d include outermost name r.fault (length r.tokens) true r.tokens w
+    from_tokens include d outermost name (length r.tokens) true r.tokens r.fault w
 
 -- the file of an include in a file, where so many more may be nested
 abbrev pub include_made : Dialect → ℕ → List ℕ → Place → List ℕ → World → Result World Stop
@@ -123,11 +127,15 @@ include_made d zero includer place name w =
 include_made d (suc depth) includer place name w =
     and_then (in_file includer (fetched_file place false (nat_lt 255 (length name)) name w)) (λ p. file_made d (include_made d depth name) false name (p.0) (p.1))
 
+-- the whole text under a name
+abbrev pub text_made : Dialect → List ℕ → World → Result World Stop
+text_made d name w =
+    and_then (in_file name (fetched_file (record { file = 0; line = 0 }) false false name w))
+        (λ p. file_made d (include_made d 10 name) true name (p.0) (p.1))
+
 abbrev pub start : Answers → World
 start answers = record { made = record { tokens = []; left = 200000 }; macros = []; files = []; room = 4194304; answers = answers }
 
 -- The tokens of the text under this name, with its macros and includes, and the names of its files; or the first fault.
 abbrev pub gathered : Dialect → List ℕ → Answers → Result World Stop
-gathered d name answers =
-    and_then (in_file name (fetched_file (record { file = 0; line = 0 }) false false name (start answers)))
-        (λ p. file_made d (include_made d 10 name) true name (p.0) (p.1))
+gathered d name answers = text_made d name (start answers)

@@ -6,3 +6,4 @@ pub mod Ends
 pub mod Answers
 pub mod Expansion
 pub mod Gathered
+pub mod GatherAnswers

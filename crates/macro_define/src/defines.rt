@@ -6,7 +6,7 @@ ghost use Rattle.ground.specs.declared.fault.FaultKind.TheVariants.{BadDefine};
 ghost use Rattle.ground.specs.declared.fault.Refusal.TheVariants.{Fault as Faulty};
 ghost use Rattle.macro_define.specs.Made.{Came, fault_at};
 ghost use Rattle.macro_define.specs.Uses.{table};
-ghost use Rattle.macro_define.specs.Defines.{define_of, enclosed_define as enclosed_define_of, enclosed_text as enclosed_text_of, ends_text as ends_text_of, first_word as first_word_of, is_close as is_close_of, is_comma as is_comma_of, is_full as is_full_of, is_open as is_open_of, is_reserved as is_reserved_of, is_spelled as is_spelled_of, line_define as line_define_of, line_text as line_text_of, named_define, name_in, with_macro, word_begins as word_begins_of};
+ghost use Rattle.macro_define.specs.Defines.{define_of, enclosed_define as enclosed_define_of, enclosed_text as enclosed_text_of, ends_line as ends_line_of, ends_text as ends_text_of, first_word as first_word_of, is_close as is_close_of, is_comma as is_comma_of, is_full as is_full_of, is_open as is_open_of, is_reserved as is_reserved_of, is_spelled as is_spelled_of, line_define as line_define_of, line_text as line_text_of, named_define, name_in, with_macro, word_begins as word_begins_of};
 ghost use Rattle.macro_define.specs.Ends.{IsEnd, IsAtEnd};
 
 use crate::macros::{Macros, key, number_of};
@@ -87,7 +87,8 @@ pub fn define(
     macros: &mut Macros,
     tokens: &mut VecDeque<Token>,
 ) -> Result<(), Refusal>
-    ensures { Came (define_of dialect place (table macros.old) tokens.old.items) result (tokens.new.items, table macros.new) }
+    ensures made { Came (define_of dialect place (table macros.old) tokens.old.items) result (tokens.new.items, table macros.new) }
+    ensures fewer { length tokens.new.items ≤ length tokens.old.items }
 {
     match next_token(tokens) {
         None => Ok(()),
@@ -101,7 +102,8 @@ pub fn define(
 
 /// Takes the next token.
 pub fn next_token(tokens: &mut VecDeque<Token>) -> Option<Token>
-    ensures { MatchOption result ((tokens.old.items ≡ []) × (tokens.new.items ≡ [])) (λ token. tokens.old.items ≡ token ∷ tokens.new.items) }
+    ensures token { MatchOption result ((tokens.old.items ≡ []) × (tokens.new.items ≡ [])) (λ token. tokens.old.items ≡ token ∷ tokens.new.items) }
+    ensures fewer { length tokens.new.items ≤ length tokens.old.items }
 {
     tokens.pop_front()
 }
@@ -116,7 +118,8 @@ fn define_named(
     macros: &mut Macros,
     tokens: &mut VecDeque<Token>,
 ) -> Result<(), Refusal>
-    ensures { Came (named_define dialect place enclosed (table macros.old) token.place (name_in token.kind) tokens.old.items) result (tokens.new.items, table macros.new) }
+    ensures made { Came (named_define dialect place enclosed (table macros.old) token.place (name_in token.kind) tokens.old.items) result (tokens.new.items, table macros.new) }
+    ensures fewer { length tokens.new.items ≤ length tokens.old.items }
 {
     let Token { kind, place: at } = token;
     let TokenKind::Word(name) = kind else {
@@ -154,7 +157,8 @@ fn define_enclosed(
     macros: &mut Macros,
     tokens: &mut VecDeque<Token>,
 ) -> Result<(), Refusal>
-    ensures { Came (enclosed_define_of place (table macros.old) name.items tokens.old.items) result (tokens.new.items, table macros.new) }
+    ensures made { Came (enclosed_define_of place (table macros.old) name.items tokens.old.items) result (tokens.new.items, table macros.new) }
+    ensures fewer { length tokens.new.items ≤ length tokens.old.items }
 {
     match next_token(tokens) {
         None => Ok(()),
@@ -169,7 +173,8 @@ fn define_enclosed(
 
 /// Takes the text up to the parenthesis that closes the define.
 fn enclosed_text(alloc: Global, tokens: &mut VecDeque<Token>) -> Result<Enclosed, AllocError>
-    ensures { IfOk result (λ end. IsEnd (enclosed_text_of 0 [] tokens.old.items) end tokens.new.items) }
+    ensures end { IfOk result (λ end. IsEnd (enclosed_text_of 0 [] tokens.old.items) end tokens.new.items) }
+    ensures fewer { length tokens.new.items ≤ length tokens.old.items }
 {
     let mut text = Vec::new(alloc);
     let mut opened = 0usize;
@@ -206,7 +211,8 @@ fn define_line(
     macros: &mut Macros,
     tokens: &mut VecDeque<Token>,
 ) -> Result<(), Refusal>
-    ensures { Came (line_define_of (table macros.old) name.items tokens.old.items) result (tokens.new.items, table macros.new) }
+    ensures made { Came (line_define_of (table macros.old) name.items tokens.old.items) result (tokens.new.items, table macros.new) }
+    ensures fewer { length tokens.new.items ≤ length tokens.old.items }
 {
     let text = line_text(alloc, tokens)?;
     keep(macros, name, text)?;
@@ -215,7 +221,8 @@ fn define_line(
 
 /// Takes the text up to the end of the line.
 fn line_text(alloc: Global, tokens: &mut VecDeque<Token>) -> Result<Vec<TokenKind>, AllocError>
-    ensures { IfOk result (λ text. line_text_of [] tokens.old.items ≡ (text.items, tokens.new.items)) }
+    ensures text { IfOk result (λ text. line_text_of [] tokens.old.items ≡ (text.items, tokens.new.items)) }
+    ensures fewer { length tokens.new.items ≤ length tokens.old.items }
 {
     let mut text = Vec::new(alloc);
     while let Some(token) = next_in_line(tokens) {
@@ -226,8 +233,9 @@ fn line_text(alloc: Global, tokens: &mut VecDeque<Token>) -> Result<Vec<TokenKin
 
 /// Takes the next token, if it stands before the end of the line.
 fn next_in_line(tokens: &mut VecDeque<Token>) -> Option<Token>
-    ensures { MatchOption result ((tokens.new.items ≡ tokens.old.items) × IsAtEnd tokens.old.items)
+    ensures token { MatchOption result ((tokens.new.items ≡ tokens.old.items) × IsAtEnd tokens.old.items)
         (λ token. (tokens.old.items ≡ token ∷ tokens.new.items) × (ends_text_of token.kind ≡ false)) }
+    ensures fewer { length tokens.new.items ≤ length tokens.old.items }
 {
     let next = tokens.front()?;
     if ends_text(&next.kind) {
@@ -242,6 +250,13 @@ fn keep(macros: &mut Macros, name: Vec<u8>, text: Vec<TokenKind>) -> Result<(), 
 {
     macros.insert(name, text)?;
     Ok(())
+}
+
+/// Whether a token ends its line.
+pub fn ends_line(kind: &TokenKind) -> bool
+    ensures { result ≡ ends_line_of kind.now }
+{
+    matches!(kind, TokenKind::LineEnd)
 }
 
 fn is_open(kind: &TokenKind) -> bool

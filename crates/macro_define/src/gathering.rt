@@ -1,5 +1,5 @@
 // What goes from one token of a text to the next.
-ghost use Rattle.std.specs.Prelude.{◌≡◌, [], ◌≤◌, length, IfOk, OnOk};
+ghost use Rattle.std.specs.Prelude.{◌≡◌, []};
 
 use crate::macros::Macros;
 use crate::output::Output;
@@ -20,7 +20,13 @@ pub struct Gathering {
 }
 
 impl Gathering {
-    pub fn new(alloc: Global) -> Self {
+    pub fn new(alloc: Global) -> Self
+        ensures tokens { result.output.tokens.items ≡ [] }
+        ensures left { result.output.left ≡ 200000 }
+        ensures macros { result.macros.entries ≡ [] }
+        ensures files { result.files.keys ≡ [] }
+        ensures room { result.room ≡ 4194304 }
+    {
         Gathering {
             output: Output::new(alloc),
             macros: Macros::new(alloc),

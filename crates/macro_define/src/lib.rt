@@ -3,11 +3,15 @@
 
 mod defines;
 mod fetches;
+mod files;
+
 mod gathering;
 mod macros;
 mod output;
 mod refusal;
+mod whole_text;
 
+pub use whole_text::{Gathered, gather};
 pub use refusal::GatherRefusal;
 
 #[cfg(test)]

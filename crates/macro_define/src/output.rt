@@ -1,5 +1,5 @@
 // The tokens that are made, of which there are at most 200,000.
-ghost use Rattle.std.specs.Prelude.{OnOk, ◌≡◌};
+ghost use Rattle.std.specs.Prelude.{◌≡◌, []};
 ghost use Rattle.macro_define.specs.Made.{Came, counted, made, put as put_token};
 
 use ground::{Fault, FaultKind, Place, Refusal, Token};
@@ -18,7 +18,10 @@ pub struct Output {
 }
 
 impl Output {
-    pub fn new(alloc: Global) -> Self {
+    pub fn new(alloc: Global) -> Self
+        ensures tokens { result.tokens.items ≡ [] }
+        ensures left { result.left ≡ 200000 }
+    {
         Output {
             tokens: Vec::new(alloc),
             left: TOKEN_LIMIT,
