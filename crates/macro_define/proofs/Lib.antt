@@ -4,3 +4,4 @@ mod GoesLemmas
 mod TableLemmas
 mod ThroughLemmas
 mod UseLemmas
+mod WholeLemmas

@@ -127,15 +127,15 @@ include_made d zero includer place name w =
 include_made d (suc depth) includer place name w =
     and_then (in_file includer (fetched_file place false (nat_lt 255 (length name)) name w)) (λ p. file_made d (include_made d depth name) false name (p.0) (p.1))
 
--- the whole text under a name
-abbrev pub text_made : Dialect → List ℕ → World → Result World Stop
-text_made d name w =
+-- the whole text under a name, where so many files may be nested
+abbrev pub text_made : Dialect → ℕ → List ℕ → World → Result World Stop
+text_made d depth name w =
     and_then (in_file name (fetched_file (record { file = 0; line = 0 }) false false name w))
-        (λ p. file_made d (include_made d 10 name) true name (p.0) (p.1))
+        (λ p. file_made d (include_made d depth name) true name (p.0) (p.1))
 
 abbrev pub start : Answers → World
 start answers = record { made = record { tokens = []; left = 200000 }; macros = []; files = []; room = 4194304; answers = answers }
 
 -- The tokens of the text under this name, with its macros and includes, and the names of its files; or the first fault.
 abbrev pub gathered : Dialect → List ℕ → Answers → Result World Stop
-gathered d name answers = text_made d name (start answers)
+gathered d name answers = text_made d 10 name (start answers)

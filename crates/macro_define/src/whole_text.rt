@@ -41,7 +41,14 @@ pub fn gather<L: Library>(
 {
     let name = name.as_bytes();
     let mut gathering = Gathering::new(alloc);
-    add_text(alloc, dialect, library, name, &mut gathering)?;
+    add_text(
+        alloc,
+        dialect,
+        library,
+        DEPTH_LIMIT,
+        name,
+        &mut gathering,
+    )?;
     let Gathering { output, files, .. } = gathering;
     let files = texts(alloc, files)?;
     Ok(Gathered {
@@ -50,17 +57,18 @@ pub fn gather<L: Library>(
     })
 }
 
-/// Adds the tokens of the text under this name.
+/// Adds the tokens of the text under this name, where so many files may be nested.
 fn add_text<L: Library>(
     alloc: Global,
     dialect: Dialect,
     library: &mut L,
+    depth: usize,
     name: &[u8],
     gathering: &mut Gathering,
 ) -> Result<(), GatherRefusal>
     requires { gathering.old.room ≡ 4194304 }
     ensures made { Through (L.files library.old) (λ before after.
-        Gathers (text_made dialect name.now (world gathering.old before)) result (Ok (world gathering.new after))) }
+        Gathers (text_made dialect depth name.now (world gathering.old before)) result (Ok (world gathering.new after))) }
     ensures same { L.files library.new ≡ L.files library.old }
     ensures becomes { L.becomes library.old library.new }
     ensures cause { HasCause (L.faults library.old) (L.faults library.new) result }
@@ -71,7 +79,7 @@ fn add_text<L: Library>(
         alloc,
         dialect,
         library,
-        DEPTH_LIMIT,
+        depth,
         true,
         name,
         &text,
