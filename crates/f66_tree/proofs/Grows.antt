@@ -12,7 +12,7 @@ use Rattle.f66_tree.specs.Statements.{Loop, loop_turn, item_turns}
 use Rattle.f66_tree.specs.Execution.{Stand, stand, Onward, Progress, fetch, past_end, runnable, no_loops, nowhere, target, exec}
 use Rattle.f66_tree.proofs.Prefixes.{prefix_self, prefix_in}
 use Rattle.f66_tree.proofs.Posts.{IfGives}
-use Rattle.f66_tree.proofs.Related.{Sides, Frames, Good, Holds, turn_holds}
+use Rattle.f66_tree.proofs.Related.{same_names, Sides, Frames, Good, Holds, turn_holds}
 use Rattle.f66_tree.proofs.RelatedRuns.{like_itself, performs}
 use Rattle.f66_tree.proofs.AnyNames.{Any, AnySpot, any_scope, any_act, any_lines, any_fair}
 
@@ -58,7 +58,8 @@ module _ (l : Linkage) (call : ℕ → List Spot → World → Out ⊤) (begin :
 
   abbrev pub alone : Sides ⊤
   alone = record {
-    linked = l;
+    linked1 = l;
+    linked2 = l;
     call1 = λ i. call;
     begin1 = λ i. begin;
     most1 = λ i. most;
@@ -78,6 +79,7 @@ module _ (l : Linkage) (call : ℕ → List Spot → World → Out ⊤) (begin :
   pub grows_hold : Holds ⊤ alone G
   grows_hold = record {
     scope = any_scope l;
+    same = same_names (λ u. Any) AnySpot l;
     gives = λ a w. prefix_self w.state.tape.written;
     ends = λ e w. prefix_self w.state.tape.written;
     traps = λ t p q at w. prefix_self w.state.tape.written;

@@ -1,6 +1,7 @@
 pub mod Prefixes
 pub mod Stores
 pub mod EditingLemmas
+pub mod Unasked
 pub mod Rows
 pub mod Posts
 pub mod Related
@@ -8,6 +9,8 @@ pub mod RelatedRuns
 pub mod AnyNames
 pub mod Grows
 pub mod Longer
+pub mod PlacesAlone
+pub mod UnaskedRuns
 pub mod ExampleParts
 mod ExamplesOfValues
 mod ExamplesOfControl

@@ -14,7 +14,7 @@ use Rattle.f66_tree.specs.Execution.{Stand, stand, Onward, Progress, fetch, past
 use Rattle.f66_tree.specs.Laws.{Extends}
 use Rattle.f66_tree.proofs.Prefixes.{prefix_self, prefix_in}
 use Rattle.f66_tree.proofs.Posts.{IfGives}
-use Rattle.f66_tree.proofs.Related.{Sides, Frames, Good, Holds, turn_holds}
+use Rattle.f66_tree.proofs.Related.{same_names, Sides, Frames, Good, Holds, turn_holds}
 use Rattle.f66_tree.proofs.RelatedRuns.{LikeLines, like_itself, like_same, performs}
 use Rattle.f66_tree.proofs.AnyNames.{Any, AnySpot, any_scope, any_act, any_lines, any_fair}
 use Rattle.f66_tree.proofs.Grows.{out_of, Grows, bind_grows, bind_grows_if, alone, G, grows_hold, many_grow, turn_grows, fetch_grows, begin_grows, exec_grows}
@@ -97,7 +97,8 @@ module _ (l : Linkage) (call1 call2 : ℕ → List Spot → World → Out ⊤) (
   -- both sides, at the same places
   abbrev short_and_long : Sides ⊤
   short_and_long = record {
-    linked = l;
+    linked1 = l;
+    linked2 = l;
     call1 = λ i. call1;
     begin1 = λ i. take_one;
     most1 = λ i. most1;
@@ -123,6 +124,7 @@ module _ (l : Linkage) (call1 call2 : ℕ → List Spot → World → Out ⊤) (
   longer_holds : Holds ⊤ short_and_long L
   longer_holds = record {
     scope = any_scope l;
+    same = same_names (λ u. Any) AnySpot l;
     gives = λ a. record { grows = grow2.gives a; longer = λ s k c le. (omega arith, refl) };
     ends = λ f. record { grows = λ w. prefix_self w.state.tape.written; longer = λ s k c le. (omega arith, refl) };
     traps = λ t p q same. record { grows = λ w. prefix_self w.state.tape.written; longer = λ s k c le. trapped t p q same s k c };

@@ -6,11 +6,12 @@
 --
 -- The relation may rest on what names are used: K says which in each unit, and Fair of which spots a read or a store may
 -- then be. And the places of statements may differ between the sides, as At says.
-use Rattle.std.proofs.Common.{◌≡◌, ℕ, zero, suc, ◌+◌, pos, Bool, true, false, List, [], ◌∷◌, Option, Some, None, refl}
-use Rattle.std.specs.Prelude.{if◌then◌else◌, ◌+ℤ◌, int_le, ⊤}
+use Rattle.std.proofs.Common.{◌≡◌, ℕ, zero, suc, ◌+◌, pos, Bool, true, false, List, [], ◌∷◌, Option, Some, None, refl, sym, ap, subst}
+use Rattle.std.specs.Prelude.{if◌then◌else◌, ◌+ℤ◌, int_le, nat_lt, ⊤}
 use Rattle.std.specs.Str.{bytes_eq}
 use Rattle.ground.specs.declared.place.Place.{Place}
 use Rattle.ground.specs.declared.trap.Trap.{Trap}
+use Rattle.ground.specs.declared.trap.Trap.TheVariants.{Subscript}
 use Rattle.ground.specs.declared.value.Kind.{Kind}
 use Rattle.ground.specs.declared.value.Kind.TheVariants.{Integer}
 use Rattle.ground.specs.Content.{Content, Nothing, Whole, Truth}
@@ -18,19 +19,21 @@ use Rattle.f66_tree.specs.declared.editing.Way.{Way}
 use Rattle.f66_tree.specs.declared.editing.Way.TheVariants.{Reading, Writing}
 use Rattle.f66_tree.specs.Fields.{Fields}
 use Rattle.f66_tree.specs.Forms.{Text, Formula, Number, Fact, Letter, Variable, Applied, Grouped, Positive, Negative, Negated, Joined, Formulas, Nought, Also, Par, Constant, Named, Entry, One, Many, Entries, NoEntry, AndEntry, Act, Assigns, Goes, Selects, Signs, Chooses, Loops, Invokes, Passes, Stops, Returns, Reads, Writes, Formats, Types, Dimensions, Commons, Equivalences, Presets}
-use Rattle.f66_tree.specs.World.{Tape, World, Done, Stopped, Trapped, Finish, Ended, Wrong, Out, Gives, Halts, bind, Try, Yields, Traps, Fails, IfYields, settle, choose}
+use Rattle.f66_tree.specs.World.{Record, Tape, World, Done, Stopped, Trapped, Finish, Ended, Wrong, Out, Gives, Halts, bind, Try, Yields, Traps, Fails, IfYields, settle, choose}
 use Rattle.f66_tree.specs.Records.{due, put, take, closed}
-use Rattle.f66_tree.specs.FirstLaws.{Keeps}
-use Rattle.f66_tree.specs.Units.{is_main, kind_of, format_of, sizes_of, Spot, Held, Lent, Linkage, Setting, Frame}
+use Rattle.f66_tree.specs.FirstLaws.{Keeps, longer, Unasked}
+use Rattle.f66_tree.specs.Units.{is_main, kind_of, format_of, sizes_of, places_of, position, dummies_of, Spot, Held, Lent, Linkage, Setting, Frame}
 use Rattle.f66_tree.specs.Uses.{Names, NamesOfAll, NameOfPar, NamesOfPars, NamesOfEntry, NamesOfEntries, NamesOfAct}
-use Rattle.f66_tree.specs.Evaluation.{Intrinsic, Sort, AnArray, AnIntrinsic, AFunction, known, intrinsics, array_or, sort_of, base, load, store_at, variable_in, par_in, pars_in, distance, moved, element, called, referred, place_by, place_of, names_place, actual_of, operate, opposite, denied, same_whole, intrinsic, truth_in, ticked, value_of, values_of, subscripts_of, spots_of, locate, asks}
+use Rattle.f66_tree.specs.Evaluation.{Intrinsic, Sort, AnArray, AnIntrinsic, AFunction, known, intrinsics, array_or, is_array, sort_of, base, base_by, load, store_at, variable_in, par_in, pars_in, distance, moved, element, called, referred, place_by, place_of, names_place, actual_of, operate, opposite, denied, same_whole, intrinsic, truth_in, ticked, value_of, values_of, subscripts_of, spots_of, locate, asks}
 use Rattle.f66_tree.specs.Statements.{Exit, Next, To, Back, Loop, fit_loop_in, loop_start, turn_of, loop_turn, transfer, edited, taped, took, row, extent, one_or_row, item, item_turns, items, entry, on_unit, opened_by, record_by, label_at, by_sign_of, returned, invoked, does}
 use Rattle.f66_tree.proofs.EditingLemmas.{records_stay}
+use Rattle.f66_tree.proofs.Unasked.{records_unasked}
 use Rattle.f66_tree.proofs.Posts.{Post, post_any, post_settle, AllFair, IsScope, base_fair, moved_fair, element_fair, place_fair, spots_fair}
 
 -- both sides of a comparison
 pub record Sides (I : Type 0) : Type 1 where
-  pub linked : Linkage
+  pub linked1 : Linkage
+  pub linked2 : Linkage
   pub call1 : I → ℕ → List Spot → World → Out ⊤
   pub begin1 : I → World → Out ⊤
   pub most1 : I → ℕ
@@ -44,10 +47,27 @@ pub record Sides (I : Type 0) : Type 1 where
   pub At : Place → Place → Type 0
 
 abbrev pub side1 : {I : Type 0} → Sides I → I → Setting
-side1 d i = record { linked = d.linked; call = d.call1 i; begin = d.begin1 i; most = d.most1 i; tick = d.tick1 i }
+side1 d i = record { linked = d.linked1; call = d.call1 i; begin = d.begin1 i; most = d.most1 i; tick = d.tick1 i }
 
 abbrev pub side2 : {I : Type 0} → Sides I → Setting
-side2 d = record { linked = d.linked; call = d.call2; begin = d.begin2; most = d.most2; tick = d.tick2 }
+side2 d = record { linked = d.linked2; call = d.call2; begin = d.begin2; most = d.most2; tick = d.tick2 }
+
+-- The two linkages may differ in the numbers of storage units, and in names that are not used.
+pub record SameNames (K : ℕ → Text → Type 0) (Fair : Spot → Type 0) (l1 l2 : Linkage) : Type 0 where
+  pub find : (u : ℕ) (x : Text) → K u x → l1.find x ≡ l2.find x
+  pub header : (u : ℕ) → (l1.context u).header ≡ (l2.context u).header
+  pub sizes : (u : ℕ) (x : Text) → K u x → sizes_of x (l1.context u).notes ≡ sizes_of x (l2.context u).notes
+  pub kinds : (u : ℕ) (x : Text) → K u x → kind_of (l1.context u) x ≡ kind_of (l2.context u) x
+  pub formats : (u m : ℕ) → format_of m (l1.context u).notes ≡ format_of m (l2.context u).notes
+  pub extents : (u : ℕ) (x : Text) (o : ℕ) → Fair (Held u x o) → sizes_of x (l1.context u).notes ≡ sizes_of x (l2.context u).notes
+
+pub same_names : (K : ℕ → Text → Type 0) (Fair : Spot → Type 0) (l : Linkage) → SameNames K Fair l l
+same_names K Fair l = record { find = λ u x used. refl; header = λ u. refl; sizes = λ u x used. refl; kinds = λ u x used. refl; formats = λ u m. refl; extents = λ u x o fair. refl }
+
+moved_same : (K : ℕ → Text → Type 0) (Fair : Spot → Type 0) (l1 l2 : Linkage) → SameNames K Fair l1 l2 → (p : Spot) (n : ℕ) → Fair p → moved l1 p n ≡ moved l2 p n
+moved_same K Fair l1 l2 h (Held u x o) n fair = ap (λ ns. if nat_lt (o + n) (places_of ns) then Yields (Held u x (o + n)) else Traps Subscript) (h.extents u x o fair)
+moved_same K Fair l1 l2 h (Lent c) zero fair = refl
+moved_same K Fair l1 l2 h (Lent c) (suc n) fair = refl
 
 -- a frame on both sides, which differ in the place alone
 pub record Frames : Type 0 where
@@ -67,28 +87,30 @@ pub record Good {I : Type 0} (d : Sides I) (f : Frames) : Type 0 where
   pub places : d.At f.here f.there
   pub actuals : AllFair d.Fair f.actuals
 
--- a step of editing: the records written stay
+-- a step of editing: the records written stay, and records that are not asked for change nothing
 pub record IsStep (h : Tape → Try Tape) : Type 0 where
   pub keeps : (t : Tape) → IfYields (Keeps t) (h t)
+  pub unasked : (more : List Record) (t : Tape) → Unasked (longer more) (h t) (h (longer more t))
 
 pub record IsTake (h : Tape → Try (Content × Tape)) : Type 0 where
   pub keeps : (t : Tape) → IfYields (λ x. Keeps t x.1) (h t)
+  pub unasked : (more : List Record) (t : Tape) → Unasked (λ x. (x.0, longer more x.1)) (h t) (h (longer more t))
 
 pub due_steps : (k : Kind) → IsStep (due k)
-due_steps k = record { keeps = records_stay.dues k }
+due_steps k = record { keeps = records_stay.dues k; unasked = λ more t. records_unasked.dues more k t }
 
 pub put_steps : (c : Content) → IsStep (put c)
-put_steps c = record { keeps = records_stay.puts c }
+put_steps c = record { keeps = records_stay.puts c; unasked = λ more t. records_unasked.puts more c t }
 
 pub take_steps : IsTake take
-take_steps = record { keeps = records_stay.takes }
+take_steps = record { keeps = records_stay.takes; unasked = records_unasked.takes }
 
 pub closed_steps : IsStep closed
-closed_steps = record { keeps = records_stay.closes }
+closed_steps = record { keeps = records_stay.closes; unasked = records_unasked.closes }
 
 pub opened_steps : (way : Way) (o : Option Fields) → IsStep (opened_by way o)
-opened_steps way (Some fs) = record { keeps = records_stay.opens way fs }
-opened_steps way None = record { keeps = λ t. tt }
+opened_steps way (Some fs) = record { keeps = records_stay.opens way fs; unasked = λ more t. records_unasked.opens more way fs t }
+opened_steps way None = record { keeps = λ t. tt; unasked = λ more t. refl }
 
 -- the names in an array's dimensions
 abbrev SortNames : (Text → Type 0) → Sort → Type 0
@@ -109,8 +131,11 @@ sort_names K [] x h = known_names K intrinsics x
 sort_names K (n ∷ ns) x h = h
 
 module _ (I : Type 0) (d : Sides I) (R : (A : Type 0) → (I → World → Out A) → (World → Out A) → Type 0) where
+  abbrev l1 : Linkage
+  l1 = d.linked1
+
   abbrev l : Linkage
-  l = d.linked
+  l = d.linked2
 
   abbrev s1 : I → Setting
   s1 i = side1 d i
@@ -119,7 +144,8 @@ module _ (I : Type 0) (d : Sides I) (R : (A : Type 0) → (I → World → Out A
   s2 = side2 d
 
   pub record Holds : Type 1 where
-    pub scope : IsScope d.K d.Fair d.linked
+    pub scope : IsScope d.K d.Fair d.linked2
+    pub same : SameNames d.K d.Fair d.linked1 d.linked2
     pub gives : {A : Type 0} → (a : A) → R A (λ i w. Gives a w) (λ w. Gives a w)
     pub ends : {A : Type 0} → (e : Finish) → R A (λ i w. Halts (Ended e) w) (λ w. Halts (Ended e) w)
     pub traps : {A : Type 0} → (t : Trap) (p q : Place) → d.At p q → R A (λ i w. Halts (Ended (Trapped t p)) w) (λ w. Halts (Ended (Trapped t q)) w)
@@ -129,7 +155,7 @@ module _ (I : Type 0) (d : Sides I) (R : (A : Type 0) → (I → World → Out A
     pub tapes : (f : Frames) → Good d f → (h : Tape → Try Tape) → IsStep h → R ⊤ (λ i. taped f.here h) (taped f.there h)
     pub takes : (f : Frames) → Good d f → (h : Tape → Try (Content × Tape)) → IsTake h → R Content (λ i. took f.here h) (took f.there h)
     pub ticks : {A : Type 0} {m1 : I → World → Out A} {m2 : World → Out A} → R A m1 m2 → R A (λ i w. m1 i (ticked (s1 i) w)) (λ w. m2 (ticked s2 w))
-    pub calls : (u : ℕ) (x : Text) (v : ℕ) (ps : List Spot) → d.K u x → d.linked.find x ≡ Some v → AllFair d.Fair ps → R ⊤ (λ i. d.call1 i v ps) (d.call2 v ps)
+    pub calls : (u : ℕ) (x : Text) (v : ℕ) (ps : List Spot) → d.K u x → d.linked2.find x ≡ Some v → AllFair d.Fair ps → R ⊤ (λ i. d.call1 i v ps) (d.call2 v ps)
 
   module _ (r : Holds) where
     -- whatever the first part gives
@@ -140,6 +166,31 @@ module _ (I : Type 0) (d : Sides I) (R : (A : Type 0) → (I → World → Out A
     settles f g (Yields a) = r.gives a
     settles f g (Traps t) = r.traps t f.here f.there g.places
     settles f g Fails = r.ends Wrong
+
+    -- an operation that is the same on both sides, and a read of the same type
+    settles_as : {A : Type 0} → (f : Frames) → Good d f → (o1 o2 : Try A) → o1 ≡ o2 → R A (λ i. settle f.here o1) (settle f.there o2)
+    settles_as {A} f g o1 o2 e = subst (λ o. R A (λ i. settle f.here o) (settle f.there o2)) (sym e) (settles f g o2)
+
+    loads_as : (f : Frames) → Good d f → (k1 k2 : Kind) → k1 ≡ k2 → (p : Spot) → d.Fair p → R Content (λ i. load (s1 i) (one f) k1 p) (load s2 (two f) k2 p)
+    loads_as f g k1 k2 e p fair = subst (λ k. R Content (λ i. load (s1 i) (one f) k p) (load s2 (two f) k2 p)) (sym e) (r.loads f g k2 p fair)
+
+    base_same : (f : Frames) (x : Text) → base_by (position x (dummies_of (l1.context f.unit).header)) f.unit f.actuals x ≡ base_by (position x (dummies_of (l.context f.unit).header)) f.unit f.actuals x
+    base_same f x = ap (λ h. base_by (position x (dummies_of h)) f.unit f.actuals x) (r.same.header f.unit)
+
+    sort_same : (f : Frames) (x : Text) → d.K f.unit x → sort_of (l1.context f.unit) x ≡ sort_of (l.context f.unit) x
+    sort_same f x used = ap (λ ns. array_or ns x) (r.same.sizes f.unit x used)
+
+    place_same : (f : Frames) (e : Formula) → Names (d.K f.unit) e → names_place (l1.context f.unit) e ≡ names_place (l.context f.unit) e
+    place_same f (Number z) used = refl
+    place_same f (Fact b) used = refl
+    place_same f (Letter c) used = refl
+    place_same f (Variable x) used = refl
+    place_same f (Applied x es) used = ap is_array (sort_same f x used.0)
+    place_same f (Grouped a) used = refl
+    place_same f (Positive a) used = refl
+    place_same f (Negative a) used = refl
+    place_same f (Negated a) used = refl
+    place_same f (Joined op a b) used = refl
 
     pub choice : {A : Type 0} {m1 n1 : I → World → Out A} {m2 n2 : World → Out A} → (b : Bool) → R A m1 m2 → R A n1 n2 → R A (λ i w. choose b (m1 i w) (n1 i w)) (λ w. choose b (m2 w) (n2 w))
     choice true h k = h
@@ -152,10 +203,10 @@ module _ (I : Type 0) (d : Sides I) (R : (A : Type 0) → (I → World → Out A
     -- the place of a name, and what is done with it
     pub base_then : {B : Type 0} {g1 : Spot → I → World → Out B} {g2 : Spot → World → Out B} → (f : Frames) → Good d f → (x : Text) → d.K f.unit x → ((p : Spot) → d.Fair p → R B (g1 p) (g2 p)) → R B (λ i w. bind (settle f.here (base (s1 i) (one f) x) w) (λ p w1. g1 p i w1)) (λ w. bind (settle f.there (base s2 (two f) x) w) (λ p w1. g2 p w1))
     base_then f g x used k =
-        r.binds {P = d.Fair} (settles f g (base s2 (two f) x)) (post_settle d.Fair f.there (base s2 (two f) x) (base_fair d.K d.Fair s2 r.scope (two f) x used g.actuals)) k
+        r.binds {P = d.Fair} (settles_as f g _ _ (base_same f x)) (post_settle d.Fair f.there (base s2 (two f) x) (base_fair d.K d.Fair s2 r.scope (two f) x used g.actuals)) k
 
     pub variable_holds : (f : Frames) → Good d f → (x : Text) → d.K f.unit x → R Content (λ i. variable_in (s1 i) (one f) x) (variable_in s2 (two f) x)
-    variable_holds f g x used = base_then f g x used (λ p fair. r.loads f g (kind_of (l.context f.unit) x) p fair)
+    variable_holds f g x used = base_then f g x used (λ p fair. loads_as f g _ _ (r.same.kinds f.unit x used) p fair)
 
     pub par_holds : (f : Frames) → Good d f → (n : Par) → NameOfPar (d.K f.unit) n → R Content (λ i. par_in (s1 i) (one f) n) (par_in s2 (two f) n)
     par_holds f g (Constant z) used = r.gives (Whole z)
@@ -167,7 +218,7 @@ module _ (I : Type 0) (d : Sides I) (R : (A : Type 0) → (I → World → Out A
 
     element_holds : (f : Frames) → Good d f → (x : Text) → d.K f.unit x → (ns : List Par) → NamesOfPars (d.K f.unit) ns → {m1 : I → World → Out (List Content)} {m2 : World → Out (List Content)} → R (List Content) m1 m2 → R Spot (λ i. element (s1 i) (one f) x ns (m1 i)) (element s2 (two f) x ns m2)
     element_holds f g x used ns sizes h =
-        base_then f g x used (λ p fair. thens h (λ vs. thens (pars_hold f g ns sizes) (λ ds. thens (settles f g (distance 1 vs ds)) (λ n. settles f g (moved l p n)))))
+        base_then f g x used (λ p fair. thens h (λ vs. thens (pars_hold f g ns sizes) (λ ds. thens (settles f g (distance 1 vs ds)) (λ n. settles_as f g (moved l1 p n) (moved l p n) (moved_same d.K d.Fair l1 l r.same p n fair)))))
 
     -- an element is fair: the last step leads on from the place of its name
     element_then : {B : Type 0} {g1 : Spot → I → World → Out B} {g2 : Spot → World → Out B} → (f : Frames) → Good d f → (x : Text) → d.K f.unit x → (ns : List Par) → NamesOfPars (d.K f.unit) ns → {m1 : I → World → Out (List Content)} {m2 : World → Out (List Content)} → R (List Content) m1 m2 → ((p : Spot) → d.Fair p → R B (g1 p) (g2 p)) → R B (λ i w. bind (element (s1 i) (one f) x ns (m1 i) w) (λ p w1. g1 p i w1)) (λ w. bind (element s2 (two f) x ns m2 w) (λ p w1. g2 p w1))
@@ -177,22 +228,24 @@ module _ (I : Type 0) (d : Sides I) (R : (A : Type 0) → (I → World → Out A
     called_holds f g x used None e h fair = r.ends Wrong
     called_holds f g x used (Some v) e h fair =
         let own : d.Fair (Held v x 0) = r.scope.callee f.unit x v used e in
-        r.binds {P = AllFair d.Fair} h fair (λ ps all. thens (thens (r.stores f g (Held v x 0) own Nothing) (λ _. r.calls f.unit x v ps used e all)) (λ _. r.loads f g (kind_of (l.context f.unit) x) (Held v x 0) own))
+        r.binds {P = AllFair d.Fair} h fair (λ ps all. thens (thens (r.stores f g (Held v x 0) own Nothing) (λ _. r.calls f.unit x v ps used e all)) (λ _. loads_as f g _ _ (r.same.kinds f.unit x used) (Held v x 0) own))
 
     sized : (f : Frames) (x : Text) → d.K f.unit x → SortNames (d.K f.unit) (sort_of (l.context f.unit) x)
     sized f x used = sort_names (d.K f.unit) (sizes_of x (l.context f.unit).notes) x (r.scope.dimensions f.unit x used)
 
     referred_holds : (f : Frames) → Good d f → (x : Text) → d.K f.unit x → (o : Sort) → SortNames (d.K f.unit) o → {m1 : I → World → Out (List Content)} {m2 : World → Out (List Content)} {n1 : I → World → Out (List Spot)} {n2 : World → Out (List Spot)} → R (List Content) m1 m2 → R (List Spot) n1 n2 → Post (AllFair d.Fair) n2 → R Content (λ i. referred (s1 i) (one f) x o (m1 i) (n1 i)) (referred s2 (two f) x o m2 n2)
-    referred_holds f g x used (AnArray ns) sizes h k fair = element_then f g x used ns sizes h (λ p ok. r.loads f g (kind_of (l.context f.unit) x) p ok)
+    referred_holds f g x used (AnArray ns) sizes h k fair = element_then f g x used ns sizes h (λ p ok. loads_as f g _ _ (r.same.kinds f.unit x used) p ok)
     referred_holds f g x used (AnIntrinsic q) sizes h k fair = thens h (λ vs. settles f g (intrinsic q vs))
-    referred_holds f g x used AFunction sizes h k fair = called_holds f g x used (l.find x) refl k fair
+    referred_holds f g x used AFunction sizes {m1} {m2} {n1} {n2} h k fair =
+        subst (λ o. R Content (λ i. called (s1 i) (one f) x o (n1 i)) (called s2 (two f) x (l.find x) n2)) (sym (r.same.find f.unit x used)) (called_holds f g x used (l.find x) refl k fair)
 
     place_holds : (f : Frames) → Good d f → (e : Formula) → Names (d.K f.unit) e → {m1 : I → World → Out (List Content)} {m2 : World → Out (List Content)} → R (List Content) m1 m2 → R Spot (λ i. place_of (s1 i) (one f) e (m1 i)) (place_of s2 (two f) e m2)
     place_holds f g (Number z) used h = r.ends Wrong
     place_holds f g (Fact b) used h = r.ends Wrong
     place_holds f g (Letter c) used h = r.ends Wrong
-    place_holds f g (Variable x) used h = r.ticks (settles f g (base s2 (two f) x))
-    place_holds f g (Applied x es) used {m1} {m2} h = r.ticks (by_sort (sort_of (l.context f.unit) x) (sized f x used.0))
+    place_holds f g (Variable x) used h = r.ticks (settles_as f g _ _ (base_same f x))
+    place_holds f g (Applied x es) used {m1} {m2} h =
+        r.ticks (subst (λ o. R Spot (λ i. place_by (s1 i) (one f) x o (m1 i)) (place_by s2 (two f) x (sort_of (l.context f.unit) x) m2)) (sym (sort_same f x used.0)) (by_sort (sort_of (l.context f.unit) x) (sized f x used.0)))
       where
         by_sort : (o : Sort) → SortNames (d.K f.unit) o → R Spot (λ i. place_by (s1 i) (one f) x o (m1 i)) (place_by s2 (two f) x o m2)
         by_sort (AnArray ns) sizes = element_holds f g x used.0 ns sizes h
@@ -215,7 +268,8 @@ module _ (I : Type 0) (d : Sides I) (R : (A : Type 0) → (I → World → Out A
       value_holds f g (Letter c) used = r.ticks (r.gives (Whole (pos c)))
       value_holds f g (Variable x) used = r.ticks (variable_holds f g x used)
       value_holds f g (Applied x es) used =
-          r.ticks (referred_holds f g x used.0 (sort_of (l.context f.unit) x) (sized f x used.0) (values_hold f g es used.1) (spots_hold f g es used.1) (spots_fair d.K d.Fair s2 r.scope (two f) es used.1 g.actuals))
+          r.ticks (subst (λ o. R Content (λ i. referred (s1 i) (one f) x o (values_of (s1 i) (one f) es) (spots_of (s1 i) (one f) es)) (referred s2 (two f) x (sort_of (l.context f.unit) x) (values_of s2 (two f) es) (spots_of s2 (two f) es))) (sym (sort_same f x used.0))
+          (referred_holds f g x used.0 (sort_of (l.context f.unit) x) (sized f x used.0) (values_hold f g es used.1) (spots_hold f g es used.1) (spots_fair d.K d.Fair s2 r.scope (two f) es used.1 g.actuals)))
       value_holds f g (Grouped a) used = r.ticks (value_holds f g a used)
       value_holds f g (Positive a) used = thens (r.ticks (value_holds f g a used)) (λ v. settles f g (same_whole v))
       value_holds f g (Negative a) used = thens (r.ticks (value_holds f g a used)) (λ v. settles f g (opposite v))
@@ -241,7 +295,7 @@ module _ (I : Type 0) (d : Sides I) (R : (A : Type 0) → (I → World → Out A
       pub spots_hold : (f : Frames) → Good d f → (es : Formulas) → NamesOfAll (d.K f.unit) es → R (List Spot) (λ i. spots_of (s1 i) (one f) es) (spots_of s2 (two f) es)
       spots_hold f g Nought used = r.gives []
       spots_hold f g (Also e es) used =
-          thens (r.ticks (actual_holds (names_place (l.context f.unit) e) (place_holds f g e used.0 (subscripts_hold f g e used.0)) (value_holds f g e used.0))) (λ p. thens (spots_hold f g es used.1) (λ ps. r.gives (p ∷ ps)))
+          thens (r.ticks (subst (λ b. R Spot (λ i. actual_of b (place_of (s1 i) (one f) e (subscripts_of (s1 i) (one f) e)) (value_of (s1 i) (one f) e)) (actual_of (names_place (l.context f.unit) e) (place_of s2 (two f) e (subscripts_of s2 (two f) e)) (value_of s2 (two f) e))) (sym (place_same f e used.0)) (actual_holds (names_place (l.context f.unit) e) (place_holds f g e used.0 (subscripts_hold f g e used.0)) (value_holds f g e used.0)))) (λ p. thens (spots_hold f g es used.1) (λ ps. r.gives (p ∷ ps)))
 
     pub locate_holds : (f : Frames) → Good d f → (e : Formula) → Names (d.K f.unit) e → R Spot (λ i. locate (s1 i) (one f) e) (locate s2 (two f) e)
     locate_holds f g e used = place_holds f g e used (subscripts_hold f g e used)
@@ -275,15 +329,21 @@ module _ (I : Type 0) (d : Sides I) (R : (A : Type 0) → (I → World → Out A
     row_holds : (f : Frames) → Good d f → (way : Way) (k : Kind) (p : Spot) → d.Fair p → (n j : ℕ) → R ⊤ (λ i. row (s1 i) (one f) way k p n j) (row s2 (two f) way k p n j)
     row_holds f g way k p fair zero j = r.gives tt
     row_holds f g way k p fair (suc n) j =
-        r.binds {P = d.Fair} (settles f g (moved l p j)) (post_settle d.Fair f.there (moved l p j) (moved_fair d.K d.Fair s2 r.scope p j fair)) (λ q ok. thens (edited_holds f g way k q ok) (λ _. row_holds f g way k p fair n (j + 1)))
+        r.binds {P = d.Fair} (settles_as f g (moved l1 p j) (moved l p j) (moved_same d.K d.Fair l1 l r.same p j fair)) (post_settle d.Fair f.there (moved l p j) (moved_fair d.K d.Fair s2 r.scope p j fair)) (λ q ok. thens (edited_holds f g way k q ok) (λ _. row_holds f g way k p fair n (j + 1)))
 
     one_holds : (f : Frames) → Good d f → (way : Way) (k : Kind) (ns : List Par) → NamesOfPars (d.K f.unit) ns → (p : Spot) → d.Fair p → R ⊤ (λ i. one_or_row (s1 i) (one f) way k ns p) (one_or_row s2 (two f) way k ns p)
     one_holds f g way k [] sizes p fair = edited_holds f g way k p fair
     one_holds f g way k (n ∷ ns) sizes p fair = thens (pars_hold f g (n ∷ ns) sizes) (λ ds. thens (settles f g (extent ds)) (λ m. row_holds f g way k p fair m 0))
 
     item_holds : (f : Frames) → Good d f → (way : Way) (e : Formula) → Names (d.K f.unit) e → R ⊤ (λ i. item (s1 i) (one f) way e) (item s2 (two f) way e)
-    item_holds f g way (Variable x) used = locate_then f g (Variable x) used (λ p fair. one_holds f g way (kind_of (l.context f.unit) x) (sizes_of x (l.context f.unit).notes) (r.scope.dimensions f.unit x used) p fair)
-    item_holds f g way (Applied x es) used = locate_then f g (Applied x es) used (λ p fair. edited_holds f g way (kind_of (l.context f.unit) x) p fair)
+    item_holds f g way (Variable x) used =
+        locate_then f g (Variable x) used (λ p fair.
+        subst (λ k. R ⊤ (λ i. one_or_row (s1 i) (one f) way k (sizes_of x (l1.context f.unit).notes) p) (one_or_row s2 (two f) way (kind_of (l.context f.unit) x) (sizes_of x (l.context f.unit).notes) p)) (sym (r.same.kinds f.unit x used))
+        (subst (λ ns. R ⊤ (λ i. one_or_row (s1 i) (one f) way (kind_of (l.context f.unit) x) ns p) (one_or_row s2 (two f) way (kind_of (l.context f.unit) x) (sizes_of x (l.context f.unit).notes) p)) (sym (r.same.sizes f.unit x used))
+        (one_holds f g way (kind_of (l.context f.unit) x) (sizes_of x (l.context f.unit).notes) (r.scope.dimensions f.unit x used) p fair)))
+    item_holds f g way (Applied x es) used =
+        locate_then f g (Applied x es) used (λ p fair.
+        subst (λ k. R ⊤ (λ i. edited (s1 i) (one f) way k p) (edited s2 (two f) way (kind_of (l.context f.unit) x) p)) (sym (r.same.kinds f.unit x used.0)) (edited_holds f g way (kind_of (l.context f.unit) x) p fair))
     item_holds f g way (Number z) used = r.ends Wrong
     item_holds f g way (Fact b) used = r.ends Wrong
     item_holds f g way (Letter c) used = r.ends Wrong
@@ -306,7 +366,7 @@ module _ (I : Type 0) (d : Sides I) (R : (A : Type 0) → (I → World → Out A
       record_holds : (f : Frames) → Good d f → (way : Way) (u : Par) (m : ℕ) (es : Entries) → NameOfPar (d.K f.unit) u → NamesOfEntries (d.K f.unit) es → R Exit (λ i. record_by (s1 i) (one f) way u m es) (record_by s2 (two f) way u m es)
       record_holds f g way u m es uu used =
           thens (par_holds f g u uu) (λ v. thens (settles f g (on_unit way v)) (λ _.
-          thens (r.tapes f g (opened_by way (format_of m (l.context f.unit).notes)) (opened_steps way (format_of m (l.context f.unit).notes))) (λ _. thens (items_hold f g way es used) (λ _.
+          thens (subst (λ o. R ⊤ (λ i. taped f.here (opened_by way o)) (taped f.there (opened_by way (format_of m (l.context f.unit).notes)))) (sym (r.same.formats f.unit m)) (r.tapes f g (opened_by way (format_of m (l.context f.unit).notes)) (opened_steps way (format_of m (l.context f.unit).notes)))) (λ _. thens (items_hold f g way es used) (λ _.
           thens (r.tapes f g closed closed_steps) (λ _. r.gives Next)))))
 
       invoked_holds : (f : Frames) (x : Text) → d.K f.unit x → (o : Option ℕ) → l.find x ≡ o → {m1 : I → World → Out (List Spot)} {m2 : World → Out (List Spot)} → R (List Spot) m1 m2 → Post (AllFair d.Fair) m2 → R Exit (λ i. invoked (s1 i) o (m1 i)) (invoked s2 o m2)
@@ -324,11 +384,13 @@ module _ (I : Type 0) (d : Sides I) (R : (A : Type 0) → (I → World → Out A
       does_holds f g (Signs e n m k) used = thens (value_holds f g e used) (λ v. thens (settles f g (by_sign_of n m k v)) (λ j. r.gives (To j)))
       does_holds f g (Chooses e a) used = r.gives Next
       does_holds f g (Loops m x a b c) used = r.gives Next
-      does_holds f g (Invokes x es) used = invoked_holds f x used.0 (l.find x) refl (spots_hold f g es used.1) (spots_fair d.K d.Fair s2 r.scope (two f) es used.1 g.actuals)
+      does_holds f g (Invokes x es) used =
+          subst (λ o. R Exit (λ i. invoked (s1 i) o (spots_of (s1 i) (one f) es)) (invoked s2 (l.find x) (spots_of s2 (two f) es))) (sym (r.same.find f.unit x used.0))
+          (invoked_holds f x used.0 (l.find x) refl (spots_hold f g es used.1) (spots_fair d.K d.Fair s2 r.scope (two f) es used.1 g.actuals))
       does_holds f g Passes used = r.gives Next
       does_holds f g (Stops None) used = r.ends Done
       does_holds f g (Stops (Some n)) used = r.ends (Stopped n)
-      does_holds f g Returns used = returned_holds (is_main (l.context f.unit).header)
+      does_holds f g Returns used = subst (λ h. R Exit (λ i. returned (is_main h)) (returned (is_main (l.context f.unit).header))) (sym (r.same.header f.unit)) (returned_holds (is_main (l.context f.unit).header))
       does_holds f g (Reads u m es) used = record_holds f g Reading u m es used.0 used.1
       does_holds f g (Writes u m es) used = record_holds f g Writing u m es used.0 used.1
       does_holds f g (Formats fs) used = r.gives Next

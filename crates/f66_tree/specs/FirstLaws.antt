@@ -1,11 +1,12 @@
 -- Laws of the store and of editing.
-use Rattle.std.specs.Prelude.{◌≡◌, ◌≢◌, ℕ, List}
+use Rattle.std.specs.Prelude.{◌++◌, ⊤, ◌≡◌, ◌≢◌, ℕ, List}
 use Rattle.std.specs.Prelude.{All}
 use Rattle.ground.specs.declared.value.Kind.{Kind}
 use Rattle.ground.specs.Content.{Content, Nothing}
 use Rattle.f66_tree.specs.declared.editing.Way.{Way}
 use Rattle.f66_tree.specs.Fields.{Fields}
-use Rattle.f66_tree.specs.World.{Store, put_in, fresh, Tape, IfYields, IsPrefix}
+use Rattle.ground.specs.declared.trap.Trap.TheVariants.{EndOfInput}
+use Rattle.f66_tree.specs.World.{Record, Try, Yields, Traps, Fails, Store, put_in, fresh, Tape, IfYields, IsPrefix}
 use Rattle.f66_tree.specs.Records.{opened, due, put, take, closed}
 
 -- a store holds what was put into a unit last, and nothing where nothing was put
@@ -25,3 +26,22 @@ pub record RecordsStay : Type 0 where
   pub puts : (c : Content) (t : Tape) → IfYields (Keeps t) (put c t)
   pub takes : (t : Tape) → IfYields (λ x. Keeps t x.1) (take t)
   pub closes : (t : Tape) → IfYields (Keeps t) (closed t)
+
+-- a tape with more records of input behind its own
+abbrev pub longer : List Record → Tape → Tape
+longer more t = record { unread = t.unread ++ more; written = t.written; hand = t.hand }
+
+-- what a step does with more records behind: the same, unless it asked for a record that was not there
+abbrev pub Unasked : {A : Type 0} → (A → A) → Try A → Try A → Type 0
+Unasked more (Yields a) o = o ≡ Yields (more a)
+Unasked more (Traps EndOfInput) o = ⊤
+Unasked more (Traps t) o = o ≡ Traps t
+Unasked more Fails o = o ≡ Fails
+
+-- records that a step of editing does not ask for change nothing of it
+pub record RecordsUnasked : Type 0 where
+  pub opens : (more : List Record) (way : Way) (fs : Fields) (t : Tape) → Unasked (longer more) (opened way fs t) (opened way fs (longer more t))
+  pub dues : (more : List Record) (k : Kind) (t : Tape) → Unasked (longer more) (due k t) (due k (longer more t))
+  pub puts : (more : List Record) (c : Content) (t : Tape) → Unasked (longer more) (put c t) (put c (longer more t))
+  pub takes : (more : List Record) (t : Tape) → Unasked (λ x. (x.0, longer more x.1)) (take t) (take (longer more t))
+  pub closes : (more : List Record) (t : Tape) → Unasked (longer more) (closed t) (closed (longer more t))

@@ -1,4 +1,5 @@
 mod Examples
+mod Readings
 pub mod StepLemmas
 pub mod LineLemmas
 pub mod TokenLemmas

@@ -1,8 +1,7 @@
 -- What a walk along a list learns at one element.
-use Rattle.std.proofs.Common.{◌≡◌, ℕ, zero, suc, ◌+◌, ◌*◌, ◌-◌, ◌<◌, ◌≤◌, Bool, true, false, not, ◌&&◌, ◌==◌, List, [], ◌∷◌, length, get_or, take, drop, refl, sym, ◌∙◌, ap, arith, add-one, drop-cons, length-drop}
+use Rattle.std.proofs.Common.{◌≡◌, ℕ, zero, suc, ◌+◌, ◌*◌, ◌-◌, ◌<◌, ◌≤◌, Bool, false, not, ◌&&◌, ◌==◌, List, [], ◌∷◌, length, get_or, drop, refl, sym, ◌∙◌, ap, arith, add-one, drop-cons, length-drop}
 use Rattle.ground.specs.declared.token.Dialect.{Dialect}
 use Rattle.free_scan.specs.declared.lines.Character.{Character}
-use Rattle.free_scan.specs.declared.quotes.Quotation.{Quotation}
 use Rattle.free_scan.specs.Characters.{is_line_end}
 use Rattle.free_scan.specs.IncludeNames.{text_size}
 use Rattle.free_scan.specs.Lexemes.{value_after}

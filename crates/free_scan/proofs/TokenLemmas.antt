@@ -1,6 +1,5 @@
 -- The tokens of a line from a character on, and those of a text from a line on, step by step.
-use Rattle.std.proofs.Common.{◌≡◌, ℕ, zero, suc, ◌+◌, ◌-◌, ◌<◌, ◌≤◌, Bool, true, false, List, [], ◌∷◌, ◌++◌, length, get_or, take, drop, refl, sym, ◌∙◌, ap, subst, arith, append_assoc, length-drop, Some, None}
-use Rattle.std.specs.Prelude.{Option}
+use Rattle.std.proofs.Common.{◌≡◌, ℕ, zero, suc, ◌+◌, ◌-◌, ◌<◌, ◌≤◌, List, [], ◌∷◌, ◌++◌, length, get_or, drop, refl, sym, ◌∙◌, ap, subst, arith, append_assoc, length-drop, Some}
 use Rattle.std.proofs.lemmas.List.{drop-drop}
 use Rattle.ground.specs.declared.token.Dialect.{Dialect}
 use Rattle.ground.specs.declared.fault.Fault.{Fault}

@@ -1,8 +1,7 @@
 -- The word that makes a line an include line stands among its characters.
-use Rattle.std.proofs.Common.{◌≡◌, ℕ, ◌<◌, Bool, true, false, ◌&&◌, List, [], ◌∷◌, cond, length, get_or, drop, refl, sym, ◌∙◌, ap, subst, Some, None}
+use Rattle.std.proofs.Common.{◌≡◌, ℕ, Bool, true, false, ◌&&◌, List, cond, get_or, refl, sym, ◌∙◌, ap, subst, Some, None}
 use Rattle.std.specs.Prelude.{All, Option, codes, slice_get, ◌==◌}
 use Rattle.std.proofs.lemmas.Option.{slice_get_within, slice_get-get_or}
-use Rattle.std.proofs.lemmas.List.Elements.{All-get_or}
 use Rattle.free_scan.specs.declared.lines.Character.{Character}
 use Rattle.free_scan.specs.IncludeNames.{both, include_word}
 use Rattle.free_scan.specs.Lexemes.{word_size}

@@ -1,5 +1,5 @@
 -- Include lines: the word that makes a line one, and the file's name on it.
-use Rattle.std.specs.Prelude.{ℕ, ◌+◌, ◌-◌, Bool, true, false, not, ◌==◌, ◌&&◌, ◌||◌, List, [], ◌∷◌, length, drop, take, reverse, Option, Some, None, codes, nat_le, slice_get, slice_index, if◌then◌else◌}
+use Rattle.std.specs.Prelude.{ℕ, ◌+◌, ◌-◌, Bool, false, ◌==◌, ◌&&◌, ◌||◌, List, [], ◌∷◌, length, drop, take, reverse, Option, Some, None, codes, nat_le, slice_get, slice_index, if◌then◌else◌}
 use Rattle.std.specs.List.{list_any, prefix_len}
 use Rattle.free_scan.specs.declared.lines.Character.{Character}
 use Rattle.free_scan.specs.Characters.{is_blank, is_quote, is_line_end}

@@ -1,5 +1,5 @@
 -- The tokens of a text, up to its first fault.
-use Rattle.std.specs.Prelude.{ℕ, zero, suc, ◌+◌, ◌-◌, ◌<◌, ◌≤◌, ⊤, Bool, true, false, not, ◌==◌, ◌&&◌, ◌||◌, List, [], ◌∷◌, ◌++◌, length, take, drop, Option, Some, None, codes, nat_lt, if◌then◌else◌}
+use Rattle.std.specs.Prelude.{◌≡◌, ℕ, zero, suc, ◌+◌, ◌-◌, ⊤, Bool, true, false, not, ◌==◌, ◌||◌, ◌&&◌, List, [], ◌∷◌, ◌++◌, length, drop, Option, Some, None, codes, nat_lt, if◌then◌else◌}
 use Rattle.std.specs.List.{list_any, list_all}
 use Rattle.ground.specs.declared.fault.Fault.{Fault}
 use Rattle.ground.specs.declared.fault.FaultKind.TheVariants.{BadByte, PercentLine}
@@ -9,7 +9,6 @@ use Rattle.ground.specs.declared.token.Token.{Token}
 use Rattle.ground.specs.declared.token.TokenKind.{TokenKind}
 use Rattle.ground.specs.declared.token.TokenKind.TheVariants.{Word, Quoted, Sign as SignToken, LineEnd, TextEnd}
 use Rattle.ground.specs.declared.token.Sign.TheVariants.{Open, Close}
-use Rattle.ground.specs.declared.place.Place.{Place}
 use Rattle.free_scan.specs.declared.lines.Character.{Character}
 use Rattle.free_scan.specs.declared.lines.LineEnding.{LineEnding}
 use Rattle.free_scan.specs.declared.scanner.LineStart.{LineStart}
@@ -56,17 +55,18 @@ abbrev pub line_end : Bool → ℕ → ℕ → List Token
 line_end true file number = []
 line_end false file number = token_at file number LineEnd ∷ []
 
--- A line of tokens. It gives a LineEnd unless it is continued, or a parenthesis of a Ratfor text is open, or the text
+-- A line of tokens. A continued line that has no token, an underscore alone, counts as not there. A line gives a LineEnd unless it is continued, or a parenthesis of a Ratfor text is open, or the text
 -- ends without a byte 10.
-abbrev pub plain_line : Dialect → List ℕ → ℕ → ℕ → List Character → LineEnding → LineReading
-plain_line d text file opened cs end =
+abbrev pub plain_line : Dialect → List ℕ → ℕ → LineStart → List Character → LineEnding → LineReading
+plain_line d text file s cs end =
     let r = tokens_of d text file 0 cs in
     elim (r.fault) [
       | Some fault ↦ Stops (r.tokens) fault
       | None ↦
-          let opened' = open_parentheses d opened (r.tokens) in
-          let goes_on = not end.ended || is_continued d cs || nat_lt 0 opened' in
-          Goes (r.tokens ++ line_end goes_on file (end.number - 1)) (record { next = end.next; number = end.number; opened = opened'; continues = goes_on })
+          let opened = open_parentheses d s.opened (r.tokens) in
+          let goes_on = not end.ended || is_continued d cs || nat_lt 0 opened in
+          let continues = goes_on && (s.continues || nat_lt 0 (length (r.tokens))) in
+          Goes (r.tokens ++ line_end goes_on file (end.number - 1)) (record { next = end.next; number = end.number; opened = opened; continues = continues })
     ]
 
 -- the line after an include line, whose word ends with this character
@@ -94,13 +94,13 @@ abbrev pub outcome : LineReading → Outcome
 outcome (Goes tokens after) = GoesOn after
 outcome (Stops tokens fault) = StopsThere fault
 
-abbrev pub line_by_word : Dialect → List ℕ → ℕ → ℕ → Line → Option (Character × Character) → LineReading
-line_by_word d text file opened l (Some (first, last)) = include_line text file (bytes_of (begun l.characters) 7) first last
-line_by_word d text file opened l None = plain_line d text file opened l.characters l.ending
+abbrev pub line_by_word : Dialect → List ℕ → ℕ → LineStart → Line → Option (Character × Character) → LineReading
+line_by_word d text file s l (Some (first, last)) = include_line text file (bytes_of (begun l.characters) 7) first last
+line_by_word d text file s l None = plain_line d text file s l.characters l.ending
 
 -- the word `include` makes a line that continues no other an include line
 abbrev pub line_of : Dialect → List ℕ → ℕ → LineStart → Line → LineReading
-line_of d text file s l = line_by_word d text file s.opened l (if s.continues then None else include_word (begun l.characters))
+line_of d text file s l = line_by_word d text file s l (if s.continues then None else include_word (begun l.characters))
 
 -- the line of a text that starts here
 abbrev pub line_reading : Dialect → List ℕ → ℕ → LineStart → LineReading
@@ -129,3 +129,7 @@ scanned d text file = lines_from d text file text_start 0 text
 abbrev pub IfGoes : Outcome → (LineStart → Type 0) → Type 0
 IfGoes (GoesOn after) P = P after
 IfGoes (StopsThere fault) P = ⊤
+
+-- r is what a text says in this dialect, as the file of this number
+abbrev pub IsReading : Dialect → List ℕ → ℕ → Reading → Type 0
+IsReading d text file r = r ≡ scanned d text file

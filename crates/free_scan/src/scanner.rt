@@ -155,14 +155,7 @@ fn add_line(
             include_line(alloc, text, file, word, first, last, tokens)
         }
         None => plain_line(
-            alloc,
-            dialect,
-            text,
-            file,
-            start.opened,
-            characters,
-            ending,
-            tokens,
+            alloc, dialect, text, file, start, characters, ending, tokens,
         ),
     }
 }
@@ -246,16 +239,16 @@ fn plain_line(
     dialect: Dialect,
     text: &[u8],
     file: u16,
-    opened: usize,
+    start: LineStart,
     characters: &[Character],
     ending: LineEnding,
     tokens: &mut Vec<Token>,
 ) -> Result<Outcome, AllocError>
-    requires few_open { opened ≤ length tokens.old.items }
+    requires few_open { start.opened ≤ length tokens.old.items }
     requires counted { 0 < ending.number }
     ensures tokens { OnOk result (tokens.new.items
-        ≡ tokens.old.items ++ tokens_in (plain_line_of dialect text.now file opened characters.now ending)) }
-    ensures outcome { IfOk result (λ o. o ≡ outcome (plain_line_of dialect text.now file opened characters.now ending)) }
+        ≡ tokens.old.items ++ tokens_in (plain_line_of dialect text.now file start characters.now ending)) }
+    ensures outcome { IfOk result (λ o. o ≡ outcome (plain_line_of dialect text.now file start characters.now ending)) }
     ensures place { IfOk result (λ o. IfGoes o (λ after. (after.next ≡ ending.next) × (after.number ≡ ending.number))) }
     ensures few_open { IfOk result (λ o. IfGoes o (λ after. after.opened ≤ length tokens.new.items)) }
 {
@@ -263,9 +256,10 @@ fn plain_line(
     if let Some(fault) = add_tokens(alloc, dialect, text, file, characters, tokens)? {
         return Ok(Outcome::Stops(fault));
     }
-    let opened = open_parentheses(dialect, opened, &tokens[count..]);
-    let continues = !ending.ended || is_continued(dialect, characters) || opened > 0;
-    if !continues {
+    let opened = open_parentheses(dialect, start.opened, &tokens[count..]);
+    let goes_on = !ending.ended || is_continued(dialect, characters) || opened > 0;
+    let continues = goes_on && (start.continues || tokens.len() > count);
+    if !goes_on {
         tokens.push(token_at(file, ending.number - 1, TokenKind::LineEnd))?;
     }
     Ok(Outcome::Goes(LineStart {

@@ -69,7 +69,7 @@ fn check(
 
 #[test]
 fn ratfor_texts(rt: HostRuntime) -> Result<(), Fail> {
-    let table: [(&[u8], &str); 32] = [
+    let table: [(&[u8], &str); 34] = [
         (b"", "1: end "),
         (b"\n", "1: / 2: end "),
         (
@@ -132,6 +132,8 @@ fn ratfor_texts(rt: HostRuntime) -> Result<(), Fail> {
             "1: ; include q / 2: 10 include q / 3: x Plus 4: include q / 5: end ",
         ),
         (b"a\rb\n", "1: a BadByte 0 at 1"),
+        (b"_\ninclude q\n", "2: include 'q' / 3: end "),
+        (b"x +\n_\ninclude q\n", "1: x Plus 3: include q / 4: end "),
     ];
     for (text, expected) in table {
         check(&rt, rt.alloc(), Dialect::Ratfor, text, expected)?;

@@ -7,6 +7,10 @@ pub record Numbering : Type 0 where
   pub taken : List ℕ
   pub made : List ℕ
 
+-- nothing is taken, and nothing made
+abbrev pub starting : ℕ → Numbering
+starting n = record { first = n; taken = []; made = [] }
+
 abbrev pub is_in : List ℕ → ℕ → Bool
 is_in ns n = list_any (λ m. nat_eq m n) ns
 

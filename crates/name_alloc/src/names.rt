@@ -1,9 +1,9 @@
 // Names and labels of a unit.
-ghost use Rattle.std.specs.Prelude.{◌≡◌, ◌+◌, ◌<◌, ◌≤◌, [], length, min, false, OnOk, OnErr, IfOk, if◌then◌else◌};
+ghost use Rattle.std.specs.Prelude.{◌≡◌, ◌+◌, ◌<◌, ◌≤◌, [], ◌∷◌, length, min, false, OnOk, OnErr, IfOk, IfSome, if◌then◌else◌};
 ghost use Rattle.std.specs.List.{list_any};
 ghost use Rattle.std.specs.Str.{bytes_eq};
-ghost use Rattle.name_alloc.specs.Numbers.{is_in, next_number, taking, making};
-ghost use Rattle.name_alloc.specs.MadeNames.{digit_at, digit_of, made_name, number_of, is_used, is_free, intrinsics, next_name, keeping, naming, labelling};
+ghost use Rattle.name_alloc.specs.Numbers.{is_in, next_number, starting, taking, making};
+ghost use Rattle.name_alloc.specs.MadeNames.{digit_at, digit_of, holds_number, made_name, number_of, is_used, is_free, intrinsics, next_name, keeping, naming, labelling};
 
 use crate::Numbers;
 use f66_tree::Name;
@@ -37,8 +37,8 @@ impl Names {
     pub fn new(alloc: Global) -> Names
         ensures letter { result.letter ≡ 90 }
         ensures kept { result.kept ≡ [] }
-        ensures made { result.numbers.made ≡ [] }
-        ensures labels { (result.labels.taken ≡ []) × (result.labels.made ≡ []) }
+        ensures numbers { result.numbers ≡ starting 1 }
+        ensures labels { result.labels ≡ starting 23000 }
     {
         Names {
             alloc,
@@ -53,8 +53,8 @@ impl Names {
     pub fn external(alloc: Global) -> Names
         ensures letter { result.letter ≡ 88 }
         ensures kept { result.kept ≡ [] }
-        ensures made { result.numbers.made ≡ [] }
-        ensures labels { (result.labels.taken ≡ []) × (result.labels.made ≡ []) }
+        ensures numbers { result.numbers ≡ starting 1 }
+        ensures labels { result.labels ≡ starting 23000 }
     {
         Names {
             alloc,
@@ -116,5 +116,147 @@ impl Names {
     {
         let label = self.labels.make()?;
         Ok(label)
+    }
+
+    /// Keeps a free name of at most six characters, and else makes one. The intrinsic names are never free.
+    pub fn keep_or_rename(&mut self, name: &Text) -> Result<Name, Memory>
+        requires { length self.old.numbers.made + length self.old.kept < 99999 }
+        ensures name { IfOk result (λ answer. answer ≡ (if is_free self.old name.now then name.now else next_name self.old)) }
+        ensures fresh { IfOk result (λ answer. is_used self.old answer ≡ false) }
+        ensures used { OnOk result (self.new ≡ (if is_free self.old name.now then keeping self.old name.now else naming self.old)) }
+        ensures kept { OnErr result (self.new ≡ self.old) }
+    {
+        if self.can_keep(name.as_bytes()) {
+            return Ok(self.keep(name)?);
+        }
+        self.fresh_name()
+    }
+
+    /// The next name that no unit of the source has, from 1 on.
+    pub fn fresh_name(&mut self) -> Result<Name, Memory>
+        requires { length self.old.numbers.made + length self.old.kept < 99999 }
+        ensures name { IfOk result (λ answer. answer ≡ next_name self.old) }
+        ensures fresh { IfOk result (λ answer. is_used self.old answer ≡ false) }
+        ensures used { OnOk result (self.new ≡ naming self.old) }
+        ensures kept { OnErr result (self.new ≡ self.old) }
+    {
+        let bytes = vec![in self.alloc; self.letter, 0, 0, 0, 0, 0].map_err(AllocError::from)?;
+        let number = self.numbers.make()?;
+        Ok(numbered(self.letter, number, bytes))
+    }
+
+    fn can_keep(&self, name: &[u8]) -> bool
+        ensures { result ≡ is_free self.now name.now }
+    {
+        name.len() <= 6
+            && !is_intrinsic(name)
+            && !has_name(&self.kept, name)
+            && !self.has_made(name)
+    }
+
+    fn has_made(&self, name: &[u8]) -> bool
+        ensures { result ≡ holds_number self.now.numbers.made (number_of self.now.letter name.now) }
+    {
+        match number_of(self.letter, name) {
+            Some(number) => self.numbers.is_made(number),
+            None => false,
+        }
+    }
+
+    fn keep(&mut self, name: &Text) -> Result<Name, AllocError>
+        requires { is_used self.old name.now ≡ false }
+        ensures name { IfOk result (λ answer. answer ≡ name.now) }
+        ensures fresh { IfOk result (λ answer. is_used self.old answer ≡ false) }
+        ensures used { OnOk result (self.new ≡ keeping self.old name.now) }
+        ensures kept { OnErr result (self.new ≡ self.old) }
+    {
+        let answer = name_of(name)?;
+        let copy = answer.copy()?;
+        self.kept.push(copy)?;
+        let Some(number) = number_of(self.letter, name.as_bytes()) else {
+            return Ok(answer);
+        };
+        match self.numbers.take(number) {
+            Ok(()) => Ok(answer),
+            Err(error) => {
+                self.kept.pop();
+                Err(error)
+            }
+        }
+    }
+}
+
+fn name_of(text: &Text) -> Result<Name, AllocError>
+    ensures { IfOk result (λ name. name ≡ text.now) }
+{
+    Ok(Name::new(text.clone()?))
+}
+
+// The made name with this number, in a buffer of six bytes.
+fn numbered(letter: u8, number: u32, mut buffer: Vec<u8>) -> Name
+    requires { buffer.items ≡ letter ∷ 0 ∷ 0 ∷ 0 ∷ 0 ∷ 0 ∷ [] }
+    ensures { result ≡ made_name letter number }
+{
+    buffer[1] = digit(number, 10_000);
+    buffer[2] = digit(number, 1_000);
+    buffer[3] = digit(number, 100);
+    buffer[4] = digit(number, 10);
+    buffer[5] = digit(number, 1);
+    Name::new(Text::new(buffer))
+}
+
+fn has_name(names: &[Name], name: &[u8]) -> bool
+    ensures { result ≡ list_any (bytes_eq name.now) names.now }
+{
+    for other in names {
+        if name == other.as_bytes() {
+            return true;
+        }
+    }
+    false
+}
+
+fn is_intrinsic(name: &[u8]) -> bool
+    ensures { result ≡ list_any (bytes_eq name.now) intrinsics }
+{
+    name == b"IABS".as_slice()
+        || name == b"MOD".as_slice()
+        || name == b"ISIGN".as_slice()
+        || name == b"IDIM".as_slice()
+        || name == b"MAX0".as_slice()
+        || name == b"MIN0".as_slice()
+}
+
+// The digit of a number at a unit, by its code.
+fn digit(number: u32, unit: u32) -> u8
+    requires { 0 < unit }
+    ensures { result ≡ digit_at number unit }
+{
+    48 + (number / unit % 10) as u8
+}
+
+// The number of a name that is this letter with five digits.
+fn number_of(letter: u8, name: &[u8]) -> Option<u32>
+    ensures { result ≡ number_of letter name.now }
+{
+    if name.len() != 6 || name[0] != letter {
+        return None;
+    }
+    let mut number = digit_of(name[1])?;
+    number = number * 10 + digit_of(name[2])?;
+    number = number * 10 + digit_of(name[3])?;
+    number = number * 10 + digit_of(name[4])?;
+    number = number * 10 + digit_of(name[5])?;
+    Some(number)
+}
+
+fn digit_of(code: u8) -> Option<u32>
+    ensures value { result ≡ digit_of code }
+    ensures small { IfSome result (λ digit. digit ≤ 9) }
+{
+    if b'0' <= code && code <= b'9' {
+        Some(u32::from(code - b'0'))
+    } else {
+        None
     }
 }

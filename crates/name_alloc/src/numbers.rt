@@ -1,6 +1,6 @@
 // Numbers that are in use, and the next ones that are not.
-ghost use Rattle.std.specs.Prelude.{◌≡◌, ◌+◌, ◌^◌, ◌<◌, ◌≤◌, [], length, min, false, OnOk, OnErr, IfOk};
-ghost use Rattle.name_alloc.specs.Numbers.{is_in, above, free_number, next_number, taking, making};
+ghost use Rattle.std.specs.Prelude.{◌≡◌, ◌+◌, ◌^◌, ◌<◌, ◌≤◌, length, min, false, OnOk, OnErr, IfOk};
+ghost use Rattle.name_alloc.specs.Numbers.{is_in, above, free_number, next_number, starting, taking, making};
 
 use std::alloc::{AllocError, Global};
 use std::marker::Model;
@@ -28,9 +28,7 @@ impl Model for Numbers {
 impl Numbers {
     /// Numbers from `first` on. It takes no memory.
     pub fn new(alloc: Global, first: u32) -> Self
-        ensures first { result.first ≡ first }
-        ensures taken { result.taken ≡ [] }
-        ensures made { result.made ≡ [] }
+        ensures { result ≡ starting first }
     {
         Numbers {
             first,

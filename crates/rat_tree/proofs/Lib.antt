@@ -1,2 +1,7 @@
+pub mod Rows
 mod Examples
+pub mod RelatedCommands
+pub mod AnyCommands
 pub mod Widens
+pub mod PlacesAlone
+pub mod UnaskedMeanings

@@ -1,4 +1,6 @@
 pub mod Commands
 pub mod Views
 pub mod Meaning
+pub mod Places
+pub mod Uses
 pub mod Laws

@@ -1,4 +1,4 @@
-use Rattle.std.proofs.Common.{◌≡◌, ℕ, ◌+◌, ◌≤◌, [], ◌∷◌, ◌++◌, ap, sym, ◌∙◌, arith, length, drop, get_or, append_assoc}
+use Rattle.std.proofs.Common.{◌≡◌, ◌+◌, ◌≤◌, [], ◌∷◌, ◌++◌, ap, sym, ◌∙◌, arith, length, drop, get_or, append_assoc}
 use Rattle.std.proofs.lemmas.Grind.{common_steps}
 use Rattle.ground.specs.declared.token.Token.{Token}
 use Rattle.free_scan.specs.declared.lexemes.Lexeme.TheVariants.{Found}

@@ -1,9 +1,8 @@
-use Rattle.std.proofs.Common.{◌≡◌, ◌+◌, ◌≤◌, ◌++◌, ap, sym, subst, ◌∙◌, arith, length, cond, Some, None}
-use Rattle.std.specs.Prelude.{All, OnOk, IfOk, Result, Ok, Err}
+use Rattle.std.proofs.Common.{◌≡◌, ◌+◌, ◌++◌, ap, subst, ◌∙◌, arith, length, cond, Some, None}
+use Rattle.std.specs.Prelude.{OnOk, IfOk, Result, Ok, Err}
 use Rattle.std.specs.declared.alloc.AllocError.{AllocError}
 use Rattle.std.specs.List.{prefix_len}
 use Rattle.std.proofs.lemmas.List.Elements.{All-drop}
-use Rattle.free_scan.specs.declared.lines.Character.{Character}
 use Rattle.free_scan.specs.declared.scanner.LineStart.{LineStart}
 use Rattle.free_scan.specs.declared.scanner.Outcome.{Outcome}
 use Rattle.free_scan.specs.declared.scanner.Outcome.TheVariants.{Goes as GoesOn, Stops as StopsThere}
@@ -37,7 +36,7 @@ same_line c =
     let l : Line = record { characters = c.args.characters.now; ending = c.args.ending } in
     let word = c.new-word.ensures ∙ c.in_ok-bytes-in-Some.ensures ∙ ap (λ cs. bytes_of cs 7) c.begun-line.ensures in
     ap (λ w. include_line c.args.text.now c.args.file w c.in-Some.first c.in-Some.last) word
-    ∙ ap (line_by_word c.args.dialect c.args.text.now c.args.file c.args.start.opened l) (found c)
+    ∙ ap (line_by_word c.args.dialect c.args.text.now c.args.file c.args.start l) (found c)
 
 -- what the next line's start is known to be
 raised : (r : Result Outcome AllocError) (P Q : LineStart → Type 0) → ((s : LineStart) → P s → Q s) → IfOk r (λ o. IfGoes o P) → IfOk r (λ o. IfGoes o Q)

@@ -1,5 +1,4 @@
-use Rattle.std.proofs.Common.{◌≡◌, ◌++◌, ap, sym, subst, ◌+◌, ◌≤◌, ◌∙◌, arith, length, drop, [], Some}
-use Rattle.free_scan.specs.declared.scanner.Outcome.{Outcome}
+use Rattle.std.proofs.Common.{◌≡◌, ap, sym, subst, ◌+◌, ◌≤◌, ◌∙◌, arith, length, drop, Some}
 use Rattle.free_scan.specs.declared.scanner.Outcome.TheVariants.{Goes as GoesOn, Stops as StopsThere}
 use Rattle.free_scan.specs.Lexemes.{Reading, with_tokens}
 use Rattle.free_scan.specs.Lines.{IsPlace}

@@ -1,5 +1,5 @@
 -- The tokens of the whole text are those added, and then those of the lines from here.
-use Rattle.std.proofs.Common.{◌≡◌, ◌+◌, ◌-◌, ◌++◌, ◌≤◌, length, drop}
+use Rattle.std.proofs.Common.{◌≡◌, ◌-◌, ◌≤◌, length, drop}
 use Rattle.free_scan.specs.Lexemes.{with_tokens}
 use Rattle.free_scan.specs.Lines.{IsPlace}
 use Rattle.free_scan.specs.Tokens.{lines_from, scanned}

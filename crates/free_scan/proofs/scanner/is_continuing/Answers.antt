@@ -1,4 +1,3 @@
-use Rattle.std.proofs.Common.{arith, rules, ◌∙◌, ap, sym}
 use Rattle.free_scan.proofs.scanner.is_continuing.Goals as goal
 
 pub returns-in-Efl : goal.returns-in-Efl

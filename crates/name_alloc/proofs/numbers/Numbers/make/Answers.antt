@@ -1,5 +1,5 @@
-use Rattle.std.proofs.Common.{◌≡◌, ap, sym, ◌∙◌, arith, subst, length, ◌∷◌, [], ◌++◌, ◌+◌, ◌<◌, ◌≤◌, length-append}
-use Rattle.name_alloc.specs.Numbers.{Numbering, is_in, above, behind}
+use Rattle.std.proofs.Common.{◌≡◌, ap, sym, ◌∙◌, arith, length, ◌∷◌, [], ◌++◌, ◌+◌, length-append}
+use Rattle.name_alloc.specs.Numbers.{Numbering, is_in, behind}
 use Rattle.name_alloc.proofs.Free.{found-low, found-free, found-above, not_in_more, behind-low, behind-append}
 use Rattle.name_alloc.proofs.numbers.Numbers.make.Goals as goal
 
@@ -14,15 +14,18 @@ invariant_of-self-2 c =
     let low = behind-low c.self.inside.taken.items c.deref.result.now c.self.inside.next c.next_free-number.result (c.self.inside.first + length c.self.inside.made.items + length c.self.inside.taken.items) c.deref.ensures.value c.next_free-number.ensures c.self.invariant.1 in
     let far = found-above c.self.inside.taken.items c.deref.result.now c.self.inside.next c.next_free-number.result c.deref.ensures.value c.next_free-number.ensures in
     let items : c.push.new.self.items ≡ c.self.inside.made.items ++ c.next_free-number.result ∷ [] = c.in_ok-push.ensures.items in
-    let counted = ap length items ∙ length-append c.self.inside.made.items (c.next_free-number.result ∷ []) in
-    (sym (ap (behind c.self.inside.first) items ∙ behind-append c.self.inside.first c.next_free-number.result c.self.inside.made.items), omega (arith, low, counted),
-    λ n above. ap (λ ms. is_in ms n) items ∙ not_in_more c.self.inside.made.items c.next_free-number.result n (c.self.invariant.2 n (omega (arith, far, above))) (omega (arith, above)))
+    let counted = ap length items ∙ length-append c.self.inside.made.items (c.next_free-number.result ∷ []) in (
+      sym (ap (behind c.self.inside.first) items ∙ behind-append c.self.inside.first c.next_free-number.result c.self.inside.made.items),
+      omega (arith, low, counted),
+      λ n above. ap (λ ms. is_in ms n) items ∙ not_in_more c.self.inside.made.items c.next_free-number.result n (c.self.invariant.2 n (omega (arith, far, above))) (omega (arith, above)),
+    )
 
 pub returns-clause-fresh : goal.returns-clause-fresh
 returns-clause-fresh c =
-    let far = found-above c.self.inside.taken.items c.deref.result.now c.self.inside.next c.next_free-number.result c.deref.ensures.value c.next_free-number.ensures in
-    (ap (λ (s : Numbering). is_in s.taken c.next_free-number.result) (sym c.self.view_is) ∙ found-free c.self.inside.taken.items c.deref.result.now c.self.inside.next c.next_free-number.result c.deref.ensures.value c.next_free-number.ensures,
-    ap (λ (s : Numbering). is_in s.made c.next_free-number.result) (sym c.self.view_is) ∙ c.self.invariant.2 c.next_free-number.result far)
+    let far = found-above c.self.inside.taken.items c.deref.result.now c.self.inside.next c.next_free-number.result c.deref.ensures.value c.next_free-number.ensures in (
+      ap (λ (s : Numbering). is_in s.taken c.next_free-number.result) (sym c.self.view_is) ∙ found-free c.self.inside.taken.items c.deref.result.now c.self.inside.next c.next_free-number.result c.deref.ensures.value c.next_free-number.ensures,
+      ap (λ (s : Numbering). is_in s.made c.next_free-number.result) (sym c.self.view_is) ∙ c.self.invariant.2 c.next_free-number.result far,
+    )
 
 pub returns-clause-low : goal.returns-clause-low
 returns-clause-low c =
