@@ -48,7 +48,7 @@ include-stopped d zero includer place name w stop h = ap (λ x. and_then x (λ p
 include-stopped d (suc depth) includer place name w stop h =
     let deep : (suc depth == 0) ≡ false = grind arith in
     ap (λ x. and_then x (λ p. file_made d (include_made d depth name) false name (p.0) (p.1)))
-        (ap (λ b. in_file includer (fetched_file place b (nat_lt 255 (length name)) name w)) (sym deep) ∙ h)
+    (ap (λ b. in_file includer (fetched_file place b (nat_lt 255 (length name)) name w)) (sym deep) ∙ h)
 
 fetches-refused : (told : Result (List ℕ × World) Stop) (after : World) (x y : Result World Stop) (e : GatherRefusal)
     → Fetches told (Err e) after → ((stop : Stop) → told ≡ Err stop → x ≡ Err stop) → Gathers {B = Unit {0}} x (Err e) y
@@ -63,7 +63,7 @@ include-failed d depth includer place name w v y e r h is =
     let p = err_from_is_err_and r is.1 in
     let same : r ≡ Err e = p.1 ∙ (λ i. Err (p.2 i)) in
     subst (λ (q : Result (Unit {0}) GatherRefusal). Gathers (include_made d depth includer place name w) q y) (sym same)
-        (fetches-refused (in_file includer (fetched_file place (depth == 0) (nat_lt 255 (length name)) name w)) v (include_made d depth includer place name w) y e h (include-stopped d depth includer place name w))
+    (fetches-refused (in_file includer (fetched_file place (depth == 0) (nat_lt 255 (length name)) name w)) v (include_made d depth includer place name w) y e h (include-stopped d depth includer place name w))
 
 -- a text that is fetched
 pub include-goes : (d : Dialect) (depth : ℕ) (includer : List ℕ) (place : Place) (name : List ℕ) (w v : World) (text : List ℕ) (r : Result (Unit {0}) GatherRefusal) (y : Result World Stop)
@@ -73,14 +73,14 @@ include-goes d zero includer place name w v text r y deep h on = absurd (true≢
 include-goes d (suc depth) includer place name w v text r y deep h on =
     let less : suc depth - 1 ≡ depth = omega arith in
     let goes : include_made d (suc depth) includer place name w ≡ file_made d (include_made d depth name) false name text v =
-        ap (λ x. and_then x (λ p. file_made d (include_made d depth name) false name (p.0) (p.1)))
-            (ap (λ b. in_file includer (fetched_file place b (nat_lt 255 (length name)) name w)) (sym deep) ∙ h) in
+    ap (λ x. and_then x (λ p. file_made d (include_made d depth name) false name (p.0) (p.1)))
+    (ap (λ b. in_file includer (fetched_file place b (nat_lt 255 (length name)) name w)) (sym deep) ∙ h) in
     subst (λ x. Gathers x r y) (sym goes) (subst (λ n. Gathers (file_made d (include_made d n name) false name text v) r y) less on)
 
 module _ (include : Place → List ℕ → World → Result World Stop) (d : Dialect) (outermost : Bool) (name : List ℕ) where
   pub tokens-next : (n : ℕ) (begins : Bool) (t : Token) (ts : List Token) (fault : Option Fault) (w : World) → length (t ∷ ts) ≤ n
       → from_tokens include d outermost name n begins (t ∷ ts) fault w
-          ≡ and_then (part include d outermost name (first_word begins t.kind) t ts w) (λ p. from_tokens include d outermost name (n - 1) (ends_line t.kind) p.0 fault p.1)
+      ≡ and_then (part include d outermost name (first_word begins t.kind) t ts w) (λ p. from_tokens include d outermost name (n - 1) (ends_line t.kind) p.0 fault p.1)
   tokens-next zero begins t ts fault w h = absurd (omega arith)
   tokens-next (suc n) begins t ts fault w h =
       let less : n ≡ suc n - 1 = omega arith in
@@ -99,7 +99,7 @@ module _ (include : Place → List ℕ → World → Result World Stop) (d : Dia
       h ∙ ap (λ (l : List Token). from_tokens include d outermost name n begins l fault w) split
       ∙ tokens-next n begins t ts fault w fits
       ∙ ap (λ r. and_then r (λ p. from_tokens include d outermost name (n - 1) (ends_line t.kind) p.0 fault p.1))
-          (ap (λ f. part include d outermost name f t ts w) (sym is) ∙ goes)
+      (ap (λ f. part include d outermost name f t ts w) (sym is) ∙ goes)
       ∙ ap (λ b. from_tokens include d outermost name (n - 1) b rest fault v) (sym ends)
 
   pub tokens-stop : (n : ℕ) (begins : Bool) (first : FirstWord) (t : Token) (all ts : List Token) (fault : Option Fault) (x : Result World Stop) (w : World) (stop : Stop)
@@ -110,7 +110,7 @@ module _ (include : Place → List ℕ → World → Result World Stop) (d : Dia
       h ∙ ap (λ (l : List Token). from_tokens include d outermost name n begins l fault w) split
       ∙ tokens-next n begins t ts fault w fits
       ∙ ap (λ r. and_then r (λ p. from_tokens include d outermost name (n - 1) (ends_line t.kind) p.0 fault p.1))
-          (ap (λ f. part include d outermost name f t ts w) (sym is) ∙ stops)
+      (ap (λ f. part include d outermost name f t ts w) (sym is) ∙ stops)
 
   -- an include whose name is there
   pub include-part : (first : FirstWord) (t : Token) (ts rest : List Token) (place : Place) (file bytes : List ℕ) (w v : World) (r : Result (Unit {0}) GatherRefusal)
@@ -120,12 +120,12 @@ module _ (include : Place → List ℕ → World → Result World Stop) (d : Dia
       let on : World → Result Left Stop = λ u. Ok (drop 1 ts, u) in
       let after : List Token → Left = λ l. (l, v) in
       let goes : part include d outermost name first t ts w ≡ and_then (include place bytes w) on =
-          ap (λ f. part include d outermost name f t ts w) is
-          ∙ ap (λ o. include_token include o (drop 1 ts) w) (sym named)
-          ∙ ap (λ bs. and_then (include place bs w) on) (sym same) in
+      ap (λ f. part include d outermost name f t ts w) is
+      ∙ ap (λ o. include_token include o (drop 1 ts) w) (sym named)
+      ∙ ap (λ bs. and_then (include place bs w) on) (sym same) in
       subst (λ (x : Result Left Stop). Gathers x r (Ok (after rest))) (sym goes)
-          (subst (λ (l : List Token). Gathers (and_then (include place bytes w) on) r (Ok (after l))) (sym left)
-              (gathers-on (include place bytes w) v on (after (drop 1 ts)) r h refl))
+      (subst (λ (l : List Token). Gathers (and_then (include place bytes w) on) r (Ok (after l))) (sym left)
+      (gathers-on (include place bytes w) v on (after (drop 1 ts)) r h refl))
 
   -- a token that begins nothing
   pub plain-part : (first : FirstWord) (t : Token) (ts : List Token) (w v : World) (r : Result (Unit {0}) GatherRefusal)
@@ -133,7 +133,7 @@ module _ (include : Place → List ℕ → World → Result World Stop) (d : Dia
   plain-part first t ts w v r is h =
       let on : World → Result Left Stop = λ u. Ok (ts, u) in
       subst (λ (f : FirstWord). Gathers (part include d outermost name f t ts w) r (on v)) (sym is)
-          (gathers-on (plain_token d outermost name t w) v on (ts, v) r h refl)
+      (gathers-on (plain_token d outermost name t w) v on (ts, v) r h refl)
 
   -- the whole of a file's text
   pub file-begins : (text : List ℕ) (w : World) (number : ℕ) (tokens : List Token) (fault : Option Fault) → number ≡ file_number w.files name

@@ -14,7 +14,7 @@ shown e = (e.0.items, e.1.items)
 with_entry : (es : List (Vec ℕ Global × Vec TokenKind Global)) (e : Vec ℕ Global × Vec TokenKind Global) (k : Vec ℕ Global) (v : Vec TokenKind Global) (b : Bool)
     → map shown (insert_entry (λ x y. bytes_eq x.items y.items) es k v) ≡ insert_entry bytes_eq (map shown es) k.items v.items
     → map shown (if b then (e.0, v) ∷ es else e ∷ insert_entry (λ x y. bytes_eq x.items y.items) es k v)
-        ≡ (if b then (e.0.items, v.items) ∷ map shown es else shown e ∷ insert_entry bytes_eq (map shown es) k.items v.items)
+    ≡ (if b then (e.0.items, v.items) ∷ map shown es else shown e ∷ insert_entry bytes_eq (map shown es) k.items v.items)
 with_entry es e k v true h = refl
 with_entry es e k v false h = ap (λ l. shown e ∷ l) h
 

@@ -24,9 +24,11 @@ through-map None P Q h on = (h.0, λ more. on (InTurn (h.0 ++ more)) (InTurn mor
 through-map (Some held) P Q h on = on (Holds held) (Holds held) h
 
 pub through-then : (files : Files) (P Q R : Answers → Answers → Type 0) → Through files P → Through files Q → ((a b c : Answers) → P a b → Q b c → R a c) → Through files R
-through-then None P Q R h k on =
-    (h.0 ++ k.0, λ more. subst (λ (l : List (Option (List ℕ))). R (InTurn l) (InTurn more)) (sym (append_assoc h.0 k.0 more))
-        (on (InTurn (h.0 ++ (k.0 ++ more))) (InTurn (k.0 ++ more)) (InTurn more) (h.1 (k.0 ++ more)) (k.1 more)))
+through-then None P Q R h k on = (
+  h.0 ++ k.0,
+  λ more. subst (λ (l : List (Option (List ℕ))). R (InTurn l) (InTurn more)) (sym (append_assoc h.0 k.0 more))
+      (on (InTurn (h.0 ++ (k.0 ++ more))) (InTurn (k.0 ++ more)) (InTurn more) (h.1 (k.0 ++ more)) (k.1 more)),
+)
 through-then (Some held) P Q R h k on = on (Holds held) (Holds held) (Holds held) h k
 
 -- the same of another object that tells the same
@@ -58,7 +60,7 @@ no_name name false e not_text = refl
 pub through-no_name : (files : Files) (name : List ℕ) → (IsUtf8 name → ⊥) → Through files (λ before after. Asks (held_under name before) (Ok None) before after)
 through-no_name files name not_text =
     through-none files (λ before after. Asks (held_under name before) (Ok None) before after)
-        (λ a. ap (λ b. if b && not (length name == 0) then answer a name else None) (no_name name (is_utf8 name) refl not_text))
+    (λ a. ap (λ b. if b && not (length name == 0) then answer a name else None) (no_name name (is_utf8 name) refl not_text))
 
 -- a text that was fetched and then counted
 pub fetched-counted : (includer : List ℕ) (place : Place) (too_deep too_long : Bool) (name : List ℕ) (old new : Answers → World) (r : Result (Vec ℕ Global) GatherRefusal) (text : Vec ℕ Global)
@@ -66,4 +68,4 @@ pub fetched-counted : (includer : List ℕ) (place : Place) (too_deep too_long :
     → (a b : Answers) → Asks (held_under name a) (Ok (Some text)) a b → Fetches (in_file includer (with_text place too_deep too_long name (old a) (held_under name a))) r (new b)
 fetched-counted includer place too_deep too_long name old new r text counts a b h =
     subst (λ (o : Option (List ℕ)). Fetches (in_file includer (with_text place too_deep too_long name (old a) o)) r (new b)) (sym h.0)
-        (subst (λ (x : Answers). Fetches (in_file includer (with_text place too_deep too_long name (old a) (Some text.items))) r (new x)) (sym h.1) (counts a))
+    (subst (λ (x : Answers). Fetches (in_file includer (with_text place too_deep too_long name (old a) (Some text.items))) r (new x)) (sym h.1) (counts a))

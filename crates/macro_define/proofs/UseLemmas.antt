@@ -77,7 +77,7 @@ module _ (d : Dialect) (macros : Macros) (place : Place) where
   -- one use more, the innermost
   pub still_made-push : (progress : List ℕ) (us : List Use) (u : Use) (m : Made)
       → still_made d macros place progress (us ++ u ∷ []) m
-          ≡ and_then (rest_made d macros place (u.number ∷ in_progress progress us) u m) (still_made d macros place progress us)
+      ≡ and_then (rest_made d macros place (u.number ∷ in_progress progress us) u m) (still_made d macros place progress us)
   still_made-push progress [] u m = sym (and_then-ok (rest_made d macros place (u.number ∷ progress) u m))
   still_made-push progress (v ∷ us) u m =
       let inner = still_made d macros place (v.number ∷ progress) us in
@@ -114,7 +114,7 @@ module _ (d : Dialect) (macros : Macros) (place : Place) where
       → begun_by us n m ≡ and_then (and_then r (text_made d macros place (used d macros place (n ∷ in_progress [] us)) (text_of macros n))) (still_made d macros place [] us)
   begun-new us n m r h new e =
       ap (λ x. and_then x (still_made d macros place [] us)) (used-new (free (length macros) (in_progress [] us)) (in_progress [] us) n m h (numbers-in us n false new) refl
-          ∙ ap (λ x. and_then x (text_made d macros place (used d macros place (n ∷ in_progress [] us)) (text_of macros n))) e)
+      ∙ ap (λ x. and_then x (text_made d macros place (used d macros place (n ∷ in_progress [] us)) (text_of macros n))) e)
 
   pub begun-limit : (us : List Use) (n : ℕ) (m : Made) (fault : Fault) → n < length macros → list_any (λ u. u.number == n) us ≡ false → counted place m ≡ Err fault → begun_by us n m ≡ Err fault
   begun-limit us n m fault h new e = begun-new us n m (Err fault) h new e
@@ -134,7 +134,7 @@ module _ (d : Dialect) (macros : Macros) (place : Place) where
   pub still-next : (us : List Use) (u : Use) (m : Made) (kind : TokenKind) → slice_get (text_of macros u.number) u.next ≡ Some kind
       → (later : List Use) → later ≡ us ++ record { number = u.number; next = u.next + 1 } ∷ []
       → still_made d macros place [] (us ++ u ∷ []) m
-          ≡ and_then (kind_made d macros place (used d macros place (in_progress [] later)) kind m) (still_made d macros place [] later)
+      ≡ and_then (kind_made d macros place (used d macros place (in_progress [] later)) kind m) (still_made d macros place [] later)
   still-next us u m kind e later is =
       let next : Use = record { number = u.number; next = u.next + 1 } in
       let progress = u.number ∷ in_progress [] us in

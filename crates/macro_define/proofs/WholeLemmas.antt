@@ -14,7 +14,7 @@ use Rattle.macro_define.specs.declared.refusal.GatherRefusal.TheVariants as refu
 use Rattle.macro_define.specs.Answers.{Answers, Holds, InTurn, Through}
 use Rattle.macro_define.specs.Expansion.{Stop, World, fetched_file, file_made, gathered, in_file, include_made, start, text_made}
 use Rattle.macro_define.specs.Gathered.{Fetches, Gathers, world}
-use Rattle.macro_define.specs.GatherAnswers.{Answers_by, IsGathered}
+use Rattle.macro_define.specs.GatherAnswers.{IsAnswer, IsGathered}
 use Rattle.macro_define.specs.Made.{and_then}
 
 abbrev fetched_first : List ℕ → World → Result (List ℕ × World) Stop
@@ -37,40 +37,41 @@ pub text-goes : (d : Dialect) (depth : ℕ) (name : List ℕ) (w v : World) (tex
     → fetched_first name w ≡ Ok (text, v) → Gathers (file_made d (include_made d depth name) true name text v) r y → Gathers (text_made d depth name w) r y
 text-goes d depth name w v text r y h on =
     let goes : text_made d depth name w ≡ file_made d (include_made d depth name) true name text v =
-        ap (λ x. and_then x (λ p. file_made d (include_made d depth name) true name (p.0) (p.1))) h in
+    ap (λ x. and_then x (λ p. file_made d (include_made d depth name) true name (p.0) (p.1))) h in
     subst (λ x. Gathers x r y) (sym goes) on
 
 -- a fact of what is known before and after, as one of some answers
 pub through-gathered : (files : Option (List ℕ → Option (List ℕ))) (d : Dialect) (name : List ℕ) (result : Result Gathered GatherRefusal) (P : Answers → Answers → Type 0)
-    → Through files P → ((a b : Answers) → P a b → Answers_by (gathered d name a) result) → IsGathered files d name result
+    → Through files P → ((a b : Answers) → P a b → IsAnswer (gathered d name a) result) → IsGathered files d name result
 through-gathered None d name result P h on = record { answers = InTurn (h.0 ++ []); of = (h.0 ++ [], refl); by = on (InTurn (h.0 ++ [])) (InTurn []) (h.1 []) }
 through-gathered (Some held) d name result P h on = record { answers = Holds held; of = refl; by = on (Holds held) (Holds held) h }
 
-answers-refused : (told other left : Result World Stop) (e : GatherRefusal) → other ≡ told → Gathers {B = Unit {0}} told (Err e) left → Answers_by other (Err e)
+answers-refused : (told other left : Result World Stop) (e : GatherRefusal) → other ≡ told → Gathers {B = Unit {0}} told (Err e) left → IsAnswer other (Err e)
 answers-refused told other left (refusals.Fault fault name) same h = same ∙ h
 answers-refused told other left refusals.Library same h = Prim.tt
 answers-refused told other left refusals.Memory same h = Prim.tt
 
 pub answers-failed : (told other left : Result World Stop) (e : GatherRefusal) (r : Result Gathered GatherRefusal) → other ≡ told → Gathers {B = Unit {0}} told (Err e) left
-    → IsErr r × IsErrAnd r (λ f. f ≡ e) → Answers_by other r
+    → IsErr r × IsErrAnd r (λ f. f ≡ e) → IsAnswer other r
 answers-failed told other left e r same h is =
     let p = err_from_is_err_and r is.1 in
-    subst (λ (q : Result Gathered GatherRefusal). Answers_by other q) (sym (p.1 ∙ (λ i. Err (p.2 i)))) (answers-refused told other left e same h)
+    subst (λ (q : Result Gathered GatherRefusal). IsAnswer other q) (sym (p.1 ∙ (λ i. Err (p.2 i)))) (answers-refused told other left e same h)
 
-pub answers-memory : (told : Result World Stop) (r : Result Gathered GatherRefusal) → IsErr r × IsErrAnd r (λ f. f ≡ refusals.Memory) → Answers_by told r
+pub answers-memory : (told : Result World Stop) (r : Result Gathered GatherRefusal) → IsErr r × IsErrAnd r (λ f. f ≡ refusals.Memory) → IsAnswer told r
 answers-memory told r is =
     let p = err_from_is_err_and r is.1 in
-    subst (λ (q : Result Gathered GatherRefusal). Answers_by told q) (sym (p.1 ∙ (λ i. Err (p.2 i)))) Prim.tt
+    subst (λ (q : Result Gathered GatherRefusal). IsAnswer told q) (sym (p.1 ∙ (λ i. Err (p.2 i)))) Prim.tt
 
 -- what a text starts with
 pub world-start : (g : Gathering) (a : Answers) → g.output.tokens.items ≡ [] → g.output.left ≡ 200000 → g.macros.entries ≡ [] → g.files.keys ≡ [] → g.room ≡ 4194304
     → start a ≡ world g a
 world-start g a tokens left macros files room = λ i. record {
-    made = record { tokens = sym tokens i; left = sym left i };
-    macros = map (λ e. (e.0.items, e.1.items)) (sym macros i);
-    files = map (λ k. k.items) (sym files i);
-    room = sym room i;
-    answers = a }
+  made = record { tokens = sym tokens i; left = sym left i };
+  macros = map (λ e. (e.0.items, e.1.items)) (sym macros i);
+  files = map (λ k. k.items) (sym files i);
+  room = sym room i;
+  answers = a;
+}
 
 -- the definition, from what a text starts with
 pub gathered-start : (d : Dialect) (name bytes : List ℕ) (g : Gathering) (a : Answers) → bytes ≡ name
@@ -81,5 +82,5 @@ gathered-start d name bytes g a same tokens left macros files room =
 
 -- the whole text's tokens and files
 pub answers-whole : (told other : Result World Stop) (g : Gathering) (b : Answers) (all : Gathered) → other ≡ told → told ≡ Ok (world g b)
-    → all.tokens.items ≡ g.output.tokens.items → all.files.items ≡ map (λ k. k.items) g.files.keys → Answers_by other (Ok all)
+    → all.tokens.items ≡ g.output.tokens.items → all.files.items ≡ map (λ k. k.items) g.files.keys → IsAnswer other (Ok all)
 answers-whole told other g b all same h tokens files = (world g b, (same ∙ h, tokens, files))

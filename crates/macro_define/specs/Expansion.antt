@@ -131,7 +131,7 @@ include_made d (suc depth) includer place name w =
 abbrev pub text_made : Dialect → ℕ → List ℕ → World → Result World Stop
 text_made d depth name w =
     and_then (in_file name (fetched_file (record { file = 0; line = 0 }) false false name w))
-        (λ p. file_made d (include_made d depth name) true name (p.0) (p.1))
+    (λ p. file_made d (include_made d depth name) true name (p.0) (p.1))
 
 abbrev pub start : Answers → World
 start answers = record { made = record { tokens = []; left = 200000 }; macros = []; files = []; room = 4194304; answers = answers }

@@ -18,6 +18,7 @@ use std::str;
 
 /// The numbers of the limits on bytes and on the characters of a name.
 const BYTE_LIMIT_NUMBER: u64 = 1;
+
 const TEXT_LIMIT_NUMBER: u64 = 11;
 
 /// The text under this name, which is counted. A fault has the place where the file is wanted: 6 IncludeMissing,
@@ -111,11 +112,7 @@ fn count_file(
 }
 
 /// Gives a file a number, if it has none.
-fn note_file(
-    alloc: Global,
-    files: &mut IndexSet<Vec<u8>>,
-    name: &[u8],
-) -> Result<(), AllocError>
+fn note_file(alloc: Global, files: &mut IndexSet<Vec<u8>>, name: &[u8]) -> Result<(), AllocError>
     ensures { OnOk result (map (λ k. k.items) files.new.keys ≡ insert_key bytes_eq (map (λ k. k.items) files.old.keys) name.now) }
 {
     files.insert_full(Vec::from_slice(alloc, name)?)?;

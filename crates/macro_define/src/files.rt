@@ -123,7 +123,7 @@ fn add_part<L: Library>(
     requires { gathering.old.room ≤ 4194304 }
     ensures made { Through (L.files library.old) (λ before after.
         Gathers (part (include_made dialect depth name.now) dialect outermost name.now first token tokens.old.items (world gathering.old before))
-            result (Ok (tokens.new.items, world gathering.new after))) }
+        result (Ok (tokens.new.items, world gathering.new after))) }
     ensures fewer { length tokens.new.items ≤ length tokens.old.items }
     ensures room { OnOk result (gathering.new.room ≤ 4194304) }
     ensures same { L.files library.new ≡ L.files library.old }
@@ -131,9 +131,7 @@ fn add_part<L: Library>(
     ensures cause { HasCause (L.faults library.old) (L.faults library.new) result }
 {
     match first {
-        FirstWord::Define => {
-            add_define(alloc, dialect, name, token.place, tokens, gathering)
-        }
+        FirstWord::Define => { add_define(alloc, dialect, name, token.place, tokens, gathering) }
         FirstWord::Include => match next_name(tokens) {
             Some((place, file)) => add_include(
                 alloc,
@@ -199,7 +197,13 @@ fn add_plain(
     if !outermost && is_text_end(&token.kind) {
         return Ok(());
     }
-    match add_token(alloc, dialect, &gathering.macros, token, &mut gathering.output) {
+    match add_token(
+        alloc,
+        dialect,
+        &gathering.macros,
+        token,
+        &mut gathering.output,
+    ) {
         Ok(()) => Ok(()),
         Err(refusal) => Err(refusal_in(alloc, name, refusal)),
     }

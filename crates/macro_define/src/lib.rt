@@ -4,15 +4,14 @@
 mod defines;
 mod fetches;
 mod files;
-
 mod gathering;
 mod macros;
 mod output;
 mod refusal;
 mod whole_text;
 
-pub use whole_text::{Gathered, gather};
 pub use refusal::GatherRefusal;
+pub use whole_text::{Gathered, gather};
 
 #[cfg(test)]
 mod tests;

@@ -92,9 +92,7 @@ fn replace(
     let mut uses = Vec::new(alloc);
     begin(dialect, macros, number, place, &mut uses, output)?;
     while let Some(innermost) = uses.pop() {
-        go_on(
-            alloc, dialect, macros, innermost, place, &mut uses, output,
-        )?;
+        go_on(alloc, dialect, macros, innermost, place, &mut uses, output)?;
     }
     Ok(())
 }
@@ -133,7 +131,7 @@ fn begin(
 ) -> Result<(), Refusal>
     requires { number < length (table macros.now) }
     ensures made { Goes (and_then (used dialect (table macros.now) place (in_progress [] uses.old.items) number (made output.old))
-            (still_made dialect (table macros.now) place [] uses.old.items)) result
+        (still_made dialect (table macros.now) place [] uses.old.items)) result
         (still_made dialect (table macros.now) place [] uses.new.items (made output.new)) }
     ensures nearer { OnOk result (2 * output.new.left + length uses.new.items < 2 * output.old.left + length uses.old.items) }
 {
@@ -181,8 +179,8 @@ fn add_kind(
     output: &mut Output,
 ) -> Result<(), Refusal>
     ensures made { Goes (and_then (kind_made dialect (table macros.now) place
-                (used dialect (table macros.now) place (in_progress [] uses.old.items)) kind.now (made output.old))
-            (still_made dialect (table macros.now) place [] uses.old.items)) result
+        (used dialect (table macros.now) place (in_progress [] uses.old.items)) kind.now (made output.old))
+        (still_made dialect (table macros.now) place [] uses.old.items)) result
         (still_made dialect (table macros.now) place [] uses.new.items (made output.new)) }
     ensures nearer { OnOk result (2 * output.new.left + length uses.new.items < 2 * output.old.left + length uses.old.items) }
 {

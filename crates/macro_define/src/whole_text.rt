@@ -41,14 +41,7 @@ pub fn gather<L: Library>(
 {
     let name = name.as_bytes();
     let mut gathering = Gathering::new(alloc);
-    add_text(
-        alloc,
-        dialect,
-        library,
-        DEPTH_LIMIT,
-        name,
-        &mut gathering,
-    )?;
+    add_text(alloc, dialect, library, DEPTH_LIMIT, name, &mut gathering)?;
     let Gathering { output, files, .. } = gathering;
     let files = texts(alloc, files)?;
     Ok(Gathered {
@@ -75,16 +68,7 @@ fn add_text<L: Library>(
 {
     let start = Place { file: 0, line: 0 };
     let text = fetch_file(alloc, library, start, false, false, name, name, gathering)?;
-    add_file(
-        alloc,
-        dialect,
-        library,
-        depth,
-        true,
-        name,
-        &text,
-        gathering,
-    )
+    add_file(alloc, dialect, library, depth, true, name, &text, gathering)
 }
 
 fn texts(alloc: Global, names: IndexSet<Vec<u8>>) -> Result<List<Text>, AllocError>

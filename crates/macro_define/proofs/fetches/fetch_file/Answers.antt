@@ -12,8 +12,8 @@ returns-in-Some-clause-text g c =
     let name = c.args.name.now in
     let files = g.L.Library.files c.args.library.now in
     let told : Through files (λ before after. Asks (held_under name before) (Ok (Some c.in-Some.text)) before after) =
-        subst (λ (o : Option (Vec ℕ Global)). Through files (λ before after. Asks (held_under name before) (Ok o) before after)) c.in-Some.is c.in_ok-text.ensures.text in
+    subst (λ (o : Option (Vec ℕ Global)). Through files (λ before after. Asks (held_under name before) (Ok o) before after)) c.in-Some.is c.in_ok-text.ensures.text in
     through-map files (λ before after. Asks (held_under name before) (Ok (Some c.in-Some.text)) before after)
-        (λ before after. Fetches (in_file c.args.includer.now (with_text c.args.place c.args.too_deep c.args.too_long name (world c.args.gathering.now before) (held_under name before))) c.count_file.result (world c.count_file.new.gathering after))
-        told
-        (fetched-counted c.args.includer.now c.args.place c.args.too_deep c.args.too_long name (world c.args.gathering.now) (world c.count_file.new.gathering) c.count_file.result c.in-Some.text c.count_file.ensures.text)
+    (λ before after. Fetches (in_file c.args.includer.now (with_text c.args.place c.args.too_deep c.args.too_long name (world c.args.gathering.now before) (held_under name before))) c.count_file.result (world c.count_file.new.gathering after))
+    told
+    (fetched-counted c.args.includer.now c.args.place c.args.too_deep c.args.too_long name (world c.args.gathering.now) (world c.count_file.new.gathering) c.count_file.result c.in-Some.text c.count_file.ensures.text)

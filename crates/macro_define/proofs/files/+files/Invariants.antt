@@ -19,8 +19,8 @@ abbrev pub invariant-add_file-loop-token : goal.invariant-add_file-loop-token
 invariant-add_file-loop-token g l =
     (n : ℕ) × ((length l.tokens.items ≤ n)
     × Through (g.L.Library.files l.fn.library) (λ before after.
-        file_made l.dialect (include_made l.dialect l.depth l.name) l.outermost l.name l.text (world l.fn.gathering before)
-        ≡ from_tokens (include_made l.dialect l.depth l.name) l.dialect l.outermost l.name n l.begins l.tokens.items l.scanned.fault (world l.gathering after))
+    file_made l.dialect (include_made l.dialect l.depth l.name) l.outermost l.name l.text (world l.fn.gathering before)
+    ≡ from_tokens (include_made l.dialect l.depth l.name) l.dialect l.outermost l.name n l.begins l.tokens.items l.scanned.fault (world l.gathering after))
     × (l.gathering.room ≤ 4194304)
     × (g.L.Library.files l.library ≡ g.L.Library.files l.fn.library)
     × g.L.Library.becomes l.fn.library l.library

@@ -15,10 +15,10 @@ returns-in_err-begin c =
     let us = c.new-uses.result.items in
     let m = made c.args.output.now in
     let whole : replaced d macros place (length macros) [] c.args.number m ≡ begun_by d macros place us c.args.number m =
-        sym (replaced-all d macros place c.args.number m) ∙ ap (λ (xs : List Use). begun_by d macros place xs c.args.number m) (sym c.new-uses.ensures.items) in
+    sym (replaced-all d macros place c.args.number m) ∙ ap (λ (xs : List Use). begun_by d macros place xs c.args.number m) (sym c.new-uses.ensures.items) in
     goes-failed (Unit {0}) (Unit {0}) (begun_by d macros place us c.args.number m) (still_made d macros place [] c.begin.new.uses.items (made c.begin.new.output))
-        (replaced d macros place (length macros) [] c.args.number m) (Ok (made c.begin.new.output)) c.in_err-begin.field-0.0 c.from_residual.result
-        c.in_err-begin.ensures.made (λ fault told. whole ∙ told) c.from_residual.ensures
+    (replaced d macros place (length macros) [] c.args.number m) (Ok (made c.begin.new.output)) c.in_err-begin.field-0.0 c.from_residual.result
+    c.in_err-begin.ensures.made (λ fault told. whole ∙ told) c.from_residual.ensures
 
 pub loop-innermost-init : goal.loop-innermost-init
 loop-innermost-init c =
@@ -49,8 +49,8 @@ returns-in_err-go_on c =
     let still = still_made d macros place [] (c.pop.new.self.items ++ c.in-Some.innermost ∷ []) m in
     let whole : replaced d macros place (length macros) [] c.args.number (made c.args.output.now) ≡ still = c.loop-innermost.invariant ∙ ap (λ (us : List Use). still_made d macros place [] us m) c.in-Some.ensures.items in
     goes-failed (Unit {0}) (Unit {0}) still (still_made d macros place [] c.go_on.new.uses.items (made c.go_on.new.output))
-        (replaced d macros place (length macros) [] c.args.number (made c.args.output.now)) (Ok (made c.go_on.new.output)) c.in_err-go_on.field-0.0 c.from_residual-in_err-go_on.result
-        c.in_err-go_on.ensures.made (λ fault told. whole ∙ told) c.from_residual-in_err-go_on.ensures
+    (replaced d macros place (length macros) [] c.args.number (made c.args.output.now)) (Ok (made c.go_on.new.output)) c.in_err-go_on.field-0.0 c.from_residual-in_err-go_on.result
+    c.in_err-go_on.ensures.made (λ fault told. whole ∙ told) c.from_residual-in_err-go_on.ensures
 
 pub returns : goal.returns
 returns c =

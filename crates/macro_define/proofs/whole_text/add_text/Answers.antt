@@ -14,10 +14,10 @@ returns-in_err-text-clause-made g c =
     let e = c.in_err-text.field-0.0 in
     let r = c.from_residual.result in
     through-map (g.L.Library.files c.args.library.now)
-        (λ before after. Fetches (in_file name (fetched_file (record { file = 0; line = 0 }) false false name (world old before))) (Err e) (world mid after))
-        (λ before after. Gathers (text_made d c.args.depth name (world old before)) r (Ok (world mid after)))
-        c.in_err-text.ensures.text
-        (λ a b h. text-failed d c.args.depth name (world old a) (world mid b) (Ok (world mid b)) e r h c.from_residual.ensures)
+    (λ before after. Fetches (in_file name (fetched_file (record { file = 0; line = 0 }) false false name (world old before))) (Err e) (world mid after))
+    (λ before after. Gathers (text_made d c.args.depth name (world old before)) r (Ok (world mid after)))
+    c.in_err-text.ensures.text
+    (λ a b h. text-failed d c.args.depth name (world old a) (world mid b) (Ok (world mid b)) e r h c.from_residual.ensures)
 
 pub returns-clause-made : goal.returns-clause-made
 returns-clause-made g c =
@@ -31,10 +31,10 @@ returns-clause-made g c =
     let r = c.add_file.result in
     let files = g.L.Library.files c.args.library.now in
     through-then files
-        (λ before after. Fetches (in_file name (fetched_file (record { file = 0; line = 0 }) false false name (world old before))) (Ok text) (world mid after))
-        (λ before after. Gathers (file_made d (include_made d depth name) true name c.deref.result.now (world mid before)) r (Ok (world new after)))
-        (λ before after. Gathers (text_made d depth name (world old before)) r (Ok (world new after)))
-        c.in_ok-text.ensures.text
-        (through-same files (g.L.Library.files c.fetch_file.new.library) (λ before after. Gathers (file_made d (include_made d depth name) true name c.deref.result.now (world mid before)) r (Ok (world new after))) c.in_ok-text.ensures.same c.add_file.ensures.made)
-        (λ a b x h k. text-goes d depth name (world old a) (world mid b) text.items r (Ok (world new x)) h
-            (subst (λ (bs : List ℕ). Gathers (file_made d (include_made d depth name) true name bs (world mid b)) r (Ok (world new x))) c.deref.ensures.value k))
+    (λ before after. Fetches (in_file name (fetched_file (record { file = 0; line = 0 }) false false name (world old before))) (Ok text) (world mid after))
+    (λ before after. Gathers (file_made d (include_made d depth name) true name c.deref.result.now (world mid before)) r (Ok (world new after)))
+    (λ before after. Gathers (text_made d depth name (world old before)) r (Ok (world new after)))
+    c.in_ok-text.ensures.text
+    (through-same files (g.L.Library.files c.fetch_file.new.library) (λ before after. Gathers (file_made d (include_made d depth name) true name c.deref.result.now (world mid before)) r (Ok (world new after))) c.in_ok-text.ensures.same c.add_file.ensures.made)
+    (λ a b x h k. text-goes d depth name (world old a) (world mid b) text.items r (Ok (world new x)) h
+    (subst (λ (bs : List ℕ). Gathers (file_made d (include_made d depth name) true name bs (world mid b)) r (Ok (world new x))) c.deref.ensures.value k))

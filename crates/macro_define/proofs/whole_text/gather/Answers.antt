@@ -18,10 +18,10 @@ returns-in_err-add_text-clause-text g c =
     let e = c.in_err-add_text.field-0.0 in
     let r = c.from_residual.result in
     through-gathered (g.L.Library.files c.args.library.now) d name r
-        (λ before after. Gathers {B = Unit {0}} (text_made d 10 bytes (world old before)) (Err e) (Ok (world new after)))
-        c.in_err-add_text.ensures.made
-        (λ a b h. answers-failed (text_made d 10 bytes (world old a)) (gathered d name a) (Ok (world new b)) e r
-            (gathered-start d name bytes old a c.as_bytes-name.ensures.value is.tokens is.left is.macros is.files is.room) h c.from_residual.ensures)
+    (λ before after. Gathers {B = Unit {0}} (text_made d 10 bytes (world old before)) (Err e) (Ok (world new after)))
+    c.in_err-add_text.ensures.made
+    (λ a b h. answers-failed (text_made d 10 bytes (world old a)) (gathered d name a) (Ok (world new b)) e r
+    (gathered-start d name bytes old a c.as_bytes-name.ensures.value is.tokens is.left is.macros is.files is.room) h c.from_residual.ensures)
 
 pub returns-in_err-files-clause-text : goal.returns-in_err-files-clause-text
 returns-in_err-files-clause-text g c =
@@ -32,9 +32,9 @@ returns-in_err-files-clause-text g c =
     let new = c.add_text.new.gathering in
     let r = c.from_residual-in_err-files.result in
     through-gathered (g.L.Library.files c.args.library.now) d name r
-        (λ before after. text_made d 10 bytes (world old before) ≡ Ok (world new after))
-        c.in_ok-add_text.ensures.made
-        (λ a b h. answers-memory (gathered d name a) r c.from_residual-in_err-files.ensures)
+    (λ before after. text_made d 10 bytes (world old before) ≡ Ok (world new after))
+    c.in_ok-add_text.ensures.made
+    (λ a b h. answers-memory (gathered d name a) r c.from_residual-in_err-files.ensures)
 
 pub returns-clause-text : goal.returns-clause-text
 returns-clause-text g c =
@@ -46,7 +46,7 @@ returns-clause-text g c =
     let is = c.new-gathering.ensures in
     let all : Gathered = record { tokens = new.output.tokens; files = c.in_ok-files.files } in
     through-gathered (g.L.Library.files c.args.library.now) d name (Ok all)
-        (λ before after. text_made d 10 bytes (world old before) ≡ Ok (world new after))
-        c.in_ok-add_text.ensures.made
-        (λ a b h. answers-whole (text_made d 10 bytes (world old a)) (gathered d name a) new b all
-            (gathered-start d name bytes old a c.as_bytes-name.ensures.value is.tokens is.left is.macros is.files is.room) h refl c.in_ok-files.ensures)
+    (λ before after. text_made d 10 bytes (world old before) ≡ Ok (world new after))
+    c.in_ok-add_text.ensures.made
+    (λ a b h. answers-whole (text_made d 10 bytes (world old a)) (gathered d name a) new b all
+    (gathered-start d name bytes old a c.as_bytes-name.ensures.value is.tokens is.left is.macros is.files is.room) h refl c.in_ok-files.ensures)
