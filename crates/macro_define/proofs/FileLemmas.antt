@@ -1,10 +1,9 @@
 -- What the tokens of a file and its includes make, step by step.
-use Rattle.std.proofs.Common.{◌≡◌, ℕ, zero, suc, ◌+◌, ◌-◌, ◌==◌, ◌≤◌, ◌<◌, Bool, true, false, nat_lt, List, [], ◌∷◌, drop, length, refl, sym, ◌∙◌, ap, subst, arith, Some, None, Ok, Err, true≢false, inl, inr}
+use Rattle.std.proofs.Common.{◌≡◌, ℕ, zero, suc, ◌-◌, ◌==◌, ◌≤◌, Bool, true, false, nat_lt, List, [], ◌∷◌, drop, length, refl, sym, ◌∙◌, ap, subst, arith, Some, Ok, Err, true≢false, inl, inr}
 use Rattle.std.specs.Prelude.{Option, Result, IsErr}
 use Rattle.std.specs.Result.{IsErrAnd}
 use Rattle.std.proofs.lemmas.Result.{err_from_is_err_and}
 use Rattle.ground.specs.declared.fault.Fault.{Fault}
-use Rattle.ground.specs.declared.fault.Refusal.{Refusal}
 use Rattle.ground.specs.declared.fault.Refusal.TheVariants.{Fault as Faulty}
 use Rattle.ground.specs.declared.place.Place.{Place}
 use Rattle.ground.specs.declared.token.Dialect.{Dialect}
@@ -12,7 +11,7 @@ use Rattle.ground.specs.declared.token.Token.{Token}
 use Rattle.free_scan.specs.Lexemes.{Reading}
 use Rattle.free_scan.specs.Tokens.{scanned}
 use Rattle.macro_define.specs.declared.defines.FirstWord.{FirstWord}
-use Rattle.macro_define.specs.declared.defines.FirstWord.TheVariants.{Define, Include, Other}
+use Rattle.macro_define.specs.declared.defines.FirstWord.TheVariants.{Include, Other}
 use Rattle.macro_define.specs.declared.refusal.GatherRefusal.{GatherRefusal}
 use Rattle.macro_define.specs.declared.refusal.GatherRefusal.TheVariants as refusals
 use Rattle.macro_define.specs.Defines.{ends_line, first_word}

@@ -1,6 +1,6 @@
 -- Calls that go from what is told to what is left, at a `?`.
-use Rattle.std.proofs.Common.{◌≡◌, Result, Ok, Err, refl, sym, ◌∙◌, subst, rules}
-use Rattle.std.specs.Prelude.{⊤, IsErr}
+use Rattle.std.proofs.Common.{◌≡◌, Result, Err, sym, ◌∙◌, subst}
+use Rattle.std.specs.Prelude.{IsErr}
 use Rattle.std.specs.Result.{IsErrAnd}
 use Rattle.std.proofs.lemmas.Result.{err_from_is_err_and}
 use Rattle.ground.specs.declared.fault.Fault.{Fault}

@@ -1,5 +1,5 @@
 -- Facts of what is known of a library before and after some fetches, one after the other.
-use Rattle.std.proofs.Common.{◌≡◌, ℕ, ◌==◌, ◌&&◌, Bool, true, false, not, List, [], ◌∷◌, ◌++◌, length, refl, sym, ◌∙◌, ap, subst, append_assoc, Some, None, Ok, Err, if◌then◌else◌, true≢false}
+use Rattle.std.proofs.Common.{◌≡◌, ℕ, ◌==◌, ◌&&◌, Bool, true, false, not, List, [], ◌∷◌, ◌++◌, length, refl, sym, ◌∙◌, ap, subst, append_assoc, Some, None, Ok, if◌then◌else◌}
 use Rattle.std.specs.Prelude.{Option, Vec, IfSome, Result}
 use Rattle.std.specs.Str.{is_utf8, IsUtf8}
 use Rattle.std.specs.declared.alloc.Global.{Global}

@@ -1,12 +1,9 @@
 -- The whole text, as gather answers it.
 use Rattle.std.proofs.Common.{◌≡◌, ℕ, true, false, List, [], ◌++◌, map, refl, sym, ◌∙◌, ap, subst, Some, None, Ok, Err}
-use Rattle.std.specs.Prelude.{Option, Result, IsErr, Vec}
+use Rattle.std.specs.Prelude.{Option, Result, IsErr}
 use Rattle.std.specs.Result.{IsErrAnd}
-use Rattle.std.specs.declared.alloc.Global.{Global}
 use Rattle.std.proofs.lemmas.Result.{err_from_is_err_and}
 use Rattle.ground.specs.declared.token.Dialect.{Dialect}
-use Rattle.ground.specs.declared.token.Token.{Token}
-use Rattle.ground.specs.declared.token.TokenKind.{TokenKind}
 use Rattle.macro_define.specs.declared.gathering.Gathering.{Gathering}
 use Rattle.macro_define.specs.declared.whole_text.Gathered.{Gathered}
 use Rattle.macro_define.specs.declared.refusal.GatherRefusal.{GatherRefusal}

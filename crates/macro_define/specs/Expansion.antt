@@ -3,7 +3,7 @@
 -- An include stands for the tokens of its file. The recursion goes down the number of files that may still be nested,
 -- and within a file down its tokens. What is known of the library is taken as it is asked: nothing is fetched past the
 -- first fault, and each file each time that it is included.
-use Rattle.std.specs.Prelude.{ℕ, zero, suc, ◌-◌, ◌==◌, ◌&&◌, Bool, true, false, not, List, [], ◌∷◌, drop, length, map, min, position, Option, Some, None, Result, Ok, Err, nat_lt, if◌then◌else◌}
+use Rattle.std.specs.Prelude.{ℕ, zero, suc, ◌-◌, ◌==◌, ◌&&◌, Bool, true, false, not, List, [], ◌∷◌, drop, length, min, position, Option, Some, None, Result, Ok, Err, nat_lt, if◌then◌else◌}
 use Rattle.std.specs.Option.{option_map_or}
 use Rattle.std.specs.Str.{bytes_eq, is_utf8}
 use Rattle.indexmap.specs.IndexSet.{insert_key}
@@ -14,7 +14,6 @@ use Rattle.ground.specs.declared.token.Dialect.{Dialect}
 use Rattle.ground.specs.declared.token.Token.{Token}
 use Rattle.ground.specs.declared.token.TokenKind.{TokenKind}
 use Rattle.ground.specs.declared.token.TokenKind.TheVariants.{Quoted, TextEnd}
-use Rattle.free_scan.specs.Lexemes.{Reading}
 use Rattle.free_scan.specs.Tokens.{scanned}
 use Rattle.macro_define.specs.declared.defines.FirstWord.{FirstWord}
 use Rattle.macro_define.specs.declared.defines.FirstWord.TheVariants.{Define, Include, Other}

@@ -4,7 +4,7 @@
 -- text with that number in progress. The recursion goes down the count of macros that may still be begun, since no more
 -- are in progress at once than there are; so it is a function, and a token list has one result. It has no stack: what
 -- a stack of texts under way still stands for is a definition of the proof.
-use Rattle.std.specs.Prelude.{ℕ, zero, suc, ◌==◌, List, [], ◌∷◌, length, map, position, Option, Some, None, Result, Ok, Err, if◌then◌else◌, slice_get, unwrap_or}
+use Rattle.std.specs.Prelude.{ℕ, zero, suc, ◌==◌, List, [], ◌∷◌, length, map, position, Option, Some, None, Result, Ok, Err, if◌then◌else◌, slice_get}
 use Rattle.std.specs.List.{list_any}
 use Rattle.std.specs.Option.{option_map_or}
 use Rattle.std.specs.Char.{to_ascii_lowercase}

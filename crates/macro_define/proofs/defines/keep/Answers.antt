@@ -1,4 +1,4 @@
-use Rattle.std.proofs.Common.{rules, ap, ◌∙◌, map}
+use Rattle.std.proofs.Common.{ap, ◌∙◌, map}
 use Rattle.macro_define.proofs.TableLemmas.{table-insert}
 use Rattle.macro_define.proofs.defines.keep.Goals as goal
 

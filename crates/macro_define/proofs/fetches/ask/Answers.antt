@@ -1,9 +1,6 @@
-use Rattle.std.proofs.Common.{◌≡◌, ap, subst, sym, Err, Ok, rules, None, ◌==◌, false, length}
+use Rattle.std.proofs.Common.{◌≡◌, subst, rules, ◌==◌, false, length}
 use Rattle.std.specs.Prelude.{IfSome}
-use Rattle.std.specs.Str.{IsUtf8}
 use Rattle.ports.specs.Held.{fetched}
-use Rattle.macro_define.specs.Expansion.{held_under}
-use Rattle.macro_define.specs.Gathered.{Asks}
 use Rattle.macro_define.proofs.ThroughLemmas.{through-none, through-fetch, through-no_name}
 use Rattle.macro_define.proofs.fetches.ask.Goals as goal
 

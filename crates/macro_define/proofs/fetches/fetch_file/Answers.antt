@@ -1,8 +1,8 @@
-use Rattle.std.proofs.Common.{◌≡◌, ap, subst, sym, Err, Ok, rules, None, Some, ◌∙◌, List, ℕ}
+use Rattle.std.proofs.Common.{subst, Ok, Some, ℕ}
 use Rattle.std.specs.Prelude.{Option, Vec}
 use Rattle.std.specs.declared.alloc.Global.{Global}
-use Rattle.macro_define.specs.Answers.{Answers, Through, later}
-use Rattle.macro_define.specs.Expansion.{fetched_file, held_under, in_file, with_text}
+use Rattle.macro_define.specs.Answers.{Through}
+use Rattle.macro_define.specs.Expansion.{held_under, in_file, with_text}
 use Rattle.macro_define.specs.Gathered.{Asks, Fetches, world}
 use Rattle.macro_define.proofs.ThroughLemmas.{through-map, fetched-counted}
 use Rattle.macro_define.proofs.fetches.fetch_file.Goals as goal

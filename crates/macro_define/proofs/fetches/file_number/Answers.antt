@@ -1,4 +1,4 @@
-use Rattle.std.proofs.Common.{◌≡◌, ap, subst, sym, rules, None, Some, ◌∙◌, map, min}
+use Rattle.std.proofs.Common.{ap, sym, ◌∙◌, min}
 use Rattle.std.specs.Option.{option_map_or}
 use Rattle.std.specs.Str.{bytes_eq}
 use Rattle.macro_define.proofs.ListLemmas.{position-map}

@@ -1,11 +1,9 @@
-use Rattle.std.proofs.Common.{◌≡◌, ◌==◌, ◌-◌, ◌≤◌, ℕ, List, [], ◌∷◌, length, refl, sym, ◌∙◌, ap, subst, arith, Some, None, Ok, Err, rules, nat_lt, false, true}
-use Rattle.std.specs.Prelude.{Option, Result}
+use Rattle.std.proofs.Common.{◌≡◌, ◌==◌, ◌-◌, ◌≤◌, ℕ, List, [], ◌∷◌, length, refl, sym, ◌∙◌, ap, subst, arith, Ok, Err, rules, nat_lt, false, true}
+use Rattle.std.specs.Prelude.{Result}
 use Rattle.ground.specs.declared.token.Token.{Token}
 use Rattle.macro_define.specs.declared.defines.FirstWord.{FirstWord}
-use Rattle.macro_define.specs.Answers.{Answers, Through}
 use Rattle.macro_define.specs.Expansion.{Stop, World, end_of, fetched_file, file_made, from_tokens, in_file, include_made, part}
 use Rattle.macro_define.specs.Gathered.{Fetches, Gathers, world}
-use Rattle.macro_define.specs.Made.{and_then}
 use Rattle.macro_define.proofs.ThroughLemmas.{through-map, through-none, through-same, through-then}
 use Rattle.macro_define.proofs.FileLemmas.{file-begins, gathers-failed, gathers-memory, include-failed, include-goes, include-part, plain-part, refused-in, tokens-end, tokens-step, tokens-stop}
 use Rattle.macro_define.proofs.files.+files.Goals as goal

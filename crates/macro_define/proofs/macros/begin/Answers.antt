@@ -1,7 +1,6 @@
-use Rattle.std.proofs.Common.{◌≡◌, ◌==◌, false, sym, ◌∙◌, ap, [], ◌++◌, ◌∷◌, Err, Ok, rules}
+use Rattle.std.proofs.Common.{◌≡◌, ◌==◌, false, sym, ◌∙◌, ap, [], ◌++◌, ◌∷◌, Ok, rules}
 use Rattle.std.specs.List.{list_any}
 use Rattle.macro_define.specs.Made.{counted, made}
-use Rattle.macro_define.specs.Macros.{Macros}
 use Rattle.macro_define.specs.Uses.{still_made, table}
 use Rattle.macro_define.proofs.GoesLemmas.{goes-failed}
 use Rattle.macro_define.proofs.UseLemmas.{begun_by, begun-loop, begun-limit, begun-goes}

@@ -1,9 +1,7 @@
-use Rattle.std.proofs.Common.{◌≡◌, sym, ◌∙◌, ap, [], ◌++◌, ◌∷◌, ◌+◌, length, Err, Ok, Some, slice_get, rules, List, subst, Result}
+use Rattle.std.proofs.Common.{◌≡◌, sym, [], ◌++◌, ◌∷◌, ◌+◌, rules, subst, Result}
 use Rattle.ground.specs.declared.fault.Fault.{Fault}
-use Rattle.ground.specs.declared.fault.Refusal.{Refusal}
-use Rattle.macro_define.specs.declared.macros.Use.{Use}
-use Rattle.macro_define.specs.Made.{Goes, Made, and_then, made}
-use Rattle.macro_define.specs.Uses.{in_progress, still_made, table, used}
+use Rattle.macro_define.specs.Made.{Goes, Made, made}
+use Rattle.macro_define.specs.Uses.{still_made, table}
 use Rattle.macro_define.proofs.UseLemmas.{still-ended, still-next}
 use Rattle.macro_define.proofs.macros.go_on.Goals as goal
 

@@ -1,10 +1,10 @@
-use Rattle.std.proofs.Common.{◌≡◌, sym, ◌∙◌, ap, [], ◌++◌, ◌∷◌, ◌+◌, length, Err, Ok, Some, slice_get, rules, List}
+use Rattle.std.proofs.Common.{◌≡◌, sym, ◌∙◌, ap, [], ◌++◌, ◌∷◌, length, Ok, rules, List}
 use Rattle.macro_define.specs.declared.macros.Use.{Use}
-use Rattle.macro_define.specs.Made.{Made, and_then, made}
-use Rattle.macro_define.specs.Macros.{kind_made, replaced, text_of}
-use Rattle.macro_define.specs.Uses.{in_progress, still_made, table, used}
+use Rattle.macro_define.specs.Made.{made}
+use Rattle.macro_define.specs.Macros.{replaced}
+use Rattle.macro_define.specs.Uses.{still_made, table}
 use Rattle.macro_define.proofs.GoesLemmas.{goes-failed}
-use Rattle.macro_define.proofs.UseLemmas.{begun_by, replaced-all, still-ended, still-next}
+use Rattle.macro_define.proofs.UseLemmas.{begun_by, replaced-all}
 use Rattle.macro_define.proofs.macros.replace.Goals as goal
 
 pub returns-in_err-begin : goal.returns-in_err-begin

@@ -1,4 +1,4 @@
-use Rattle.std.proofs.Common.{◌≡◌, ℕ, List, sym, ◌∙◌, ap, subst, Ok, Err, false, true}
+use Rattle.std.proofs.Common.{ℕ, List, subst, Ok, Err, false, true}
 use Rattle.macro_define.specs.Expansion.{fetched_file, file_made, in_file, include_made, text_made}
 use Rattle.macro_define.specs.Gathered.{Fetches, Gathers, world}
 use Rattle.macro_define.proofs.ThroughLemmas.{through-map, through-same, through-then}

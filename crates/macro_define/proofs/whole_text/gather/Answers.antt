@@ -1,8 +1,6 @@
-use Rattle.std.proofs.Common.{◌≡◌, ℕ, List, refl, sym, ◌∙◌, ap, subst, Ok, Err}
-use Rattle.std.specs.Prelude.{Result}
+use Rattle.std.proofs.Common.{◌≡◌, refl, Ok, Err}
 use Rattle.macro_define.specs.declared.whole_text.Gathered.{Gathered}
-use Rattle.macro_define.specs.Answers.{Answers}
-use Rattle.macro_define.specs.Expansion.{Stop, World, gathered, text_made}
+use Rattle.macro_define.specs.Expansion.{gathered, text_made}
 use Rattle.macro_define.specs.Gathered.{Gathers, world}
 use Rattle.macro_define.proofs.WholeLemmas.{answers-failed, answers-memory, answers-whole, gathered-start, through-gathered}
 use Rattle.macro_define.proofs.whole_text.gather.Goals as goal
