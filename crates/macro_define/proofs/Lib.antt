@@ -1,3 +1,4 @@
+mod Examples
 mod ListLemmas
 mod FileLemmas
 mod GoesLemmas
