@@ -1,0 +1,3 @@
+define size 7
+include part.r
+k = size

@@ -1,0 +1,8 @@
+mod Examples
+mod ListLemmas
+mod FileLemmas
+mod GoesLemmas
+mod TableLemmas
+mod ThroughLemmas
+mod UseLemmas
+mod WholeLemmas

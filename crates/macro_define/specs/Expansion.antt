@@ -1,0 +1,140 @@
+-- A text with its defines and includes becomes one token list, up to the first fault in reading order.
+--
+-- An include stands for the tokens of its file. The recursion goes down the number of files that may still be nested,
+-- and within a file down its tokens. What is known of the library is taken as it is asked: nothing is fetched past the
+-- first fault, and each file each time that it is included.
+use Rattle.std.specs.Prelude.{ℕ, zero, suc, ◌-◌, ◌==◌, ◌&&◌, Bool, true, false, not, List, [], ◌∷◌, drop, length, min, position, Option, Some, None, Result, Ok, Err, nat_lt, if◌then◌else◌}
+use Rattle.std.specs.Option.{option_map_or}
+use Rattle.std.specs.Str.{bytes_eq, is_utf8}
+use Rattle.indexmap.specs.IndexSet.{insert_key}
+use Rattle.ground.specs.declared.fault.Fault.{Fault}
+use Rattle.ground.specs.declared.fault.FaultKind.TheVariants.{IncludeMissing, IncludeDepth, Limit}
+use Rattle.ground.specs.declared.place.Place.{Place}
+use Rattle.ground.specs.declared.token.Dialect.{Dialect}
+use Rattle.ground.specs.declared.token.Token.{Token}
+use Rattle.ground.specs.declared.token.TokenKind.{TokenKind}
+use Rattle.ground.specs.declared.token.TokenKind.TheVariants.{Quoted, TextEnd}
+use Rattle.free_scan.specs.Tokens.{scanned}
+use Rattle.macro_define.specs.declared.defines.FirstWord.{FirstWord}
+use Rattle.macro_define.specs.declared.defines.FirstWord.TheVariants.{Define, Include, Other}
+use Rattle.macro_define.specs.Answers.{Answers, answer, later}
+use Rattle.macro_define.specs.Defines.{define_of, ends_line, first_word}
+use Rattle.macro_define.specs.Made.{Made, and_then, fault_at}
+use Rattle.macro_define.specs.Macros.{Macros, token_made}
+
+-- What goes from one token to the next: the tokens made, the macros so far, the different names of files in the order
+-- of their first use, how many more bytes may come, and what is known of the library.
+pub record World : Type 0 where
+  pub made : Made
+  pub macros : Macros
+  pub files : List (List ℕ)
+  pub room : ℕ
+  pub answers : Answers
+
+-- a fault, and the name of the file of its place
+abbrev pub Stop : Type 0
+Stop = Fault × List ℕ
+
+abbrev pub in_file : {A : Type 0} → List ℕ → Result A Fault → Result A Stop
+in_file name (Ok a) = Ok a
+in_file name (Err fault) = Err (fault, name)
+
+-- The n-th different name has the number n-1; from the 65,536th on all have 65535.
+abbrev pub file_number : List (List ℕ) → List ℕ → ℕ
+file_number files name = option_map_or (λ n. min n 65535) (position (bytes_eq name) files) 65535
+
+-- A library holds texts under names that are not empty. (Each name that can be fetched is UTF-8.)
+abbrev pub held_under : List ℕ → Answers → Option (List ℕ)
+held_under name answers = if is_utf8 name && not (length name == 0) then answer answers name else None
+
+abbrev pub with_text : Place → Bool → Bool → List ℕ → World → Option (List ℕ) → Result (List ℕ × World) Fault
+with_text place too_deep too_long name w None = Err (fault_at place IncludeMissing 0)
+with_text place too_deep too_long name w (Some text) =
+    if too_deep then Err (fault_at place IncludeDepth 0)
+    else (if nat_lt (w.room) (length text) then Err (fault_at place Limit 1)
+    else (if too_long then Err (fault_at place Limit 11)
+    else Ok (text, record w { files = insert_key bytes_eq w.files name; room = w.room - length text; answers = later w.answers })))
+
+-- the text of the file of this name, for an include at a place or for the whole text at line 0
+abbrev pub fetched_file : Place → Bool → Bool → List ℕ → World → Result (List ℕ × World) Fault
+fetched_file place too_deep too_long name w = with_text place too_deep too_long name w (held_under name w.answers)
+
+abbrev pub is_text_end : TokenKind → Bool
+is_text_end TextEnd = true
+is_text_end kind = false
+
+abbrev pub with_made : World → Result Made Fault → Result World Fault
+with_made w (Ok m) = Ok (record w { made = m })
+with_made w (Err fault) = Err fault
+
+-- the tokens that are left, and what goes on to them
+abbrev pub Left : Type 0
+Left = List Token × World
+
+-- a token that begins no define and no include; the TextEnd of an included file goes away
+abbrev pub plain_token : Dialect → Bool → List ℕ → Token → World → Result World Stop
+plain_token d outermost name t w = if not outermost && is_text_end (t.kind) then Ok w else in_file name (with_made w (token_made d w.macros t w.made))
+
+-- a define whose word stands at a place
+abbrev pub define_token : Dialect → List ℕ → Place → List Token → World → Result Left Stop
+define_token d name place ts w = and_then (in_file name (define_of d place w.macros ts)) (λ p. Ok (p.0, record w { macros = p.1 }))
+
+abbrev pub quoted_at : Place → TokenKind → Option (Place × List ℕ)
+quoted_at place (Quoted name) = Some (place, name)
+quoted_at place kind = None
+
+-- the name of an include: the scan gives it as a quoted text behind the word, unless it stops there
+abbrev pub quoted_next : List Token → Option (Place × List ℕ)
+quoted_next [] = None
+quoted_next (t ∷ ts) = quoted_at (t.place) (t.kind)
+
+-- `include` says what the file of a name makes, which is wanted at a place.
+module _ (include : Place → List ℕ → World → Result World Stop) where
+  -- an include of a file: the LineEnd of its line stays
+  abbrev pub include_token : Option (Place × List ℕ) → List Token → World → Result Left Stop
+  include_token (Some (place, file)) ts w = and_then (include place file w) (λ v. Ok (ts, v))
+  include_token None ts w = Ok (ts, w)
+
+  module _ (d : Dialect) (outermost : Bool) (name : List ℕ) where
+    -- a token and those behind it that belong to it
+    abbrev pub part : FirstWord → Token → List Token → World → Result Left Stop
+    part Define t ts w = define_token d name (t.place) ts w
+    part Include t ts w = include_token (quoted_next ts) (drop 1 ts) w
+    part Other t ts w = and_then (plain_token d outermost name t w) (λ v. Ok (ts, v))
+
+    -- the end of a file's tokens, or the fault at which the scan stopped
+    abbrev pub end_of : Option Fault → World → Result World Stop
+    end_of (Some fault) w = Err (fault, name)
+    end_of None w = Ok w
+
+    -- the tokens of a file from here on, of which there are at most n, and then their end
+    abbrev pub from_tokens : ℕ → Bool → List Token → Option Fault → World → Result World Stop
+    from_tokens zero begins ts fault w = end_of fault w
+    from_tokens (suc n) begins [] fault w = end_of fault w
+    from_tokens (suc n) begins (t ∷ ts) fault w = and_then (part (first_word begins (t.kind)) t ts w) (λ p. from_tokens n (ends_line (t.kind)) (p.0) fault (p.1))
+
+-- a file's text
+abbrev pub file_made : Dialect → (Place → List ℕ → World → Result World Stop) → Bool → List ℕ → List ℕ → World → Result World Stop
+file_made d include outermost name text w =
+    let r = scanned d text (file_number w.files name) in
+    from_tokens include d outermost name (length r.tokens) true r.tokens r.fault w
+
+-- the file of an include in a file, where so many more may be nested
+abbrev pub include_made : Dialect → ℕ → List ℕ → Place → List ℕ → World → Result World Stop
+include_made d zero includer place name w =
+    and_then (in_file includer (fetched_file place true (nat_lt 255 (length name)) name w)) (λ p. Ok (p.1))
+include_made d (suc depth) includer place name w =
+    and_then (in_file includer (fetched_file place false (nat_lt 255 (length name)) name w)) (λ p. file_made d (include_made d depth name) false name (p.0) (p.1))
+
+-- the whole text under a name, where so many files may be nested
+abbrev pub text_made : Dialect → ℕ → List ℕ → World → Result World Stop
+text_made d depth name w =
+    and_then (in_file name (fetched_file (record { file = 0; line = 0 }) false false name w))
+    (λ p. file_made d (include_made d depth name) true name (p.0) (p.1))
+
+abbrev pub start : Answers → World
+start answers = record { made = record { tokens = []; left = 200000 }; macros = []; files = []; room = 4194304; answers = answers }
+
+-- The tokens of the text under this name, with its macros and includes, and the names of its files; or the first fault.
+abbrev pub gathered : Dialect → List ℕ → Answers → Result World Stop
+gathered d name answers = text_made d 10 name (start answers)

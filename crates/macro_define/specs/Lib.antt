@@ -1,0 +1,9 @@
+pub mod Made
+pub mod Macros
+pub mod Defines
+pub mod Uses
+pub mod Ends
+pub mod Answers
+pub mod Expansion
+pub mod Gathered
+pub mod GatherAnswers

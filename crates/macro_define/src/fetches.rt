@@ -1,0 +1,160 @@
+// The files of a text, as a library gives them.
+ghost use Rattle.std.specs.Prelude.{◌≡◌, ◌≤◌, Some, false, length, IfOk, OnOk, map};
+ghost use Rattle.std.specs.Str.{bytes_eq};
+ghost use Rattle.indexmap.specs.IndexSet.{insert_key};
+ghost use Rattle.ground.specs.declared.fault.Refusal.TheVariants.{Fault as Faulty};
+ghost use Rattle.macro_define.specs.Made.{fault_at as fault_of};
+ghost use Rattle.macro_define.specs.Answers.{Answers, Through, later};
+ghost use Rattle.macro_define.specs.Expansion.{fetched_file, file_number as file_number_of, held_under, in_file, with_text};
+ghost use Rattle.macro_define.specs.Gathered.{Asks, Fetches, HasCause, IsInFile, IsNoFault, IsUnasked, world};
+
+use crate::gathering::Gathering;
+use crate::refusal::GatherRefusal;
+use ground::{Fault, FaultKind, Place, Refusal, Text};
+use indexmap::IndexSet;
+use ports::{FetchFault, Library};
+use std::alloc::{AllocError, Global};
+use std::str;
+
+/// The numbers of the limits on bytes and on the characters of a name.
+const BYTE_LIMIT_NUMBER: u64 = 1;
+
+const TEXT_LIMIT_NUMBER: u64 = 11;
+
+/// The text under this name, which is counted. A fault has the place where the file is wanted: 6 IncludeMissing,
+/// 7 IncludeDepth, or 30 Limit with the number 1 or 11.
+pub fn fetch_file<L: Library>(
+    alloc: Global,
+    library: &mut L,
+    place: Place,
+    too_deep: bool,
+    too_long: bool,
+    includer: &[u8],
+    name: &[u8],
+    gathering: &mut Gathering,
+) -> Result<Vec<u8>, GatherRefusal>
+    ensures text { Through (L.files library.old) (λ before after.
+        Fetches (in_file includer.now (fetched_file place too_deep too_long name.now (world gathering.old before))) result (world gathering.new after)) }
+    ensures room { OnOk result (gathering.new.room ≤ gathering.old.room) }
+    ensures fits { IfOk result (λ text. length text.items ≤ gathering.old.room) }
+    ensures shallow { OnOk result (too_deep ≡ false) }
+    ensures same { L.files library.new ≡ L.files library.old }
+    ensures becomes { L.becomes library.old library.new }
+    ensures cause { HasCause (L.faults library.old) (L.faults library.new) result }
+{
+    match ask(alloc, library, name)? {
+        Some(text) => count_file(
+            alloc, place, too_deep, too_long, includer, name, text, gathering,
+        ),
+        None => Err(fault_in(
+            alloc,
+            includer,
+            fault_at(place, FaultKind::IncludeMissing, 0),
+        )),
+    }
+}
+
+/// What the library holds under a name.
+fn ask<L: Library>(
+    alloc: Global,
+    library: &mut L,
+    name: &[u8],
+) -> Result<Option<Vec<u8>>, GatherRefusal>
+    ensures text { Through (L.files library.old) (λ before after. Asks (held_under name.now before) result before after) }
+    ensures faultless { IsNoFault result }
+    ensures same { L.files library.new ≡ L.files library.old }
+    ensures becomes { L.becomes library.old library.new }
+    ensures cause { HasCause (L.faults library.old) (L.faults library.new) result }
+{
+    if name.is_empty() {
+        return Ok(None);
+    }
+    match str::from_utf8(name) {
+        Ok(name) => match library.fetch(alloc, name) {
+            Ok(got) => Ok(got),
+            Err(FetchFault::Failed) => Err(GatherRefusal::Library),
+            Err(FetchFault::Memory) => Err(GatherRefusal::Memory),
+        },
+        Err(_) => Ok(None),
+    }
+}
+
+/// Counts a file that was fetched, and gives its text back.
+fn count_file(
+    alloc: Global,
+    place: Place,
+    too_deep: bool,
+    too_long: bool,
+    includer: &[u8],
+    name: &[u8],
+    text: Vec<u8>,
+    gathering: &mut Gathering,
+) -> Result<Vec<u8>, GatherRefusal>
+    ensures text { (a : Answers) → Fetches (in_file includer.now (with_text place too_deep too_long name.now (world gathering.old a) (Some text.items)))
+        result (world gathering.new (later a)) }
+    ensures room { OnOk result (gathering.new.room ≤ gathering.old.room) }
+    ensures fits { IfOk result (λ text. length text.items ≤ gathering.old.room) }
+    ensures shallow { OnOk result (too_deep ≡ false) }
+    ensures unasked { IsUnasked result }
+{
+    let fault = if too_deep {
+        fault_at(place, FaultKind::IncludeDepth, 0)
+    } else if gathering.room < text.len() {
+        fault_at(place, FaultKind::Limit, BYTE_LIMIT_NUMBER)
+    } else if too_long {
+        fault_at(place, FaultKind::Limit, TEXT_LIMIT_NUMBER)
+    } else {
+        note_file(alloc, &mut gathering.files, name)?;
+        gathering.room -= text.len();
+        return Ok(text);
+    };
+    Err(fault_in(alloc, includer, fault))
+}
+
+/// Gives a file a number, if it has none.
+fn note_file(alloc: Global, files: &mut IndexSet<Vec<u8>>, name: &[u8]) -> Result<(), AllocError>
+    ensures { OnOk result (map (λ k. k.items) files.new.keys ≡ insert_key bytes_eq (map (λ k. k.items) files.old.keys) name.now) }
+{
+    files.insert_full(Vec::from_slice(alloc, name)?)?;
+    Ok(())
+}
+
+fn fault_at(place: Place, kind: FaultKind, number: u64) -> Fault
+    ensures { result ≡ fault_of place kind number }
+{
+    Fault {
+        kind,
+        place,
+        number,
+    }
+}
+
+/// The number of the file of this name: that of its first use, at most 65,535.
+pub fn file_number(files: &IndexSet<Vec<u8>>, name: &[u8]) -> u16
+    ensures { result ≡ file_number_of (map (λ k. k.items) files.now.keys) name.now }
+{
+    match files.get_index_of(name) {
+        Some(number) => number.min(65535) as u16,
+        None => 65535,
+    }
+}
+
+/// A fault in the file of this name.
+pub fn fault_in(alloc: Global, name: &[u8], fault: Fault) -> GatherRefusal
+    ensures { IsInFile name.now (Faulty fault) result }
+{
+    match Vec::from_slice(alloc, name) {
+        Ok(name) => GatherRefusal::Fault(fault, Text::new(name)),
+        Err(_) => GatherRefusal::Memory,
+    }
+}
+
+/// A refusal in the file of this name.
+pub fn refusal_in(alloc: Global, name: &[u8], refusal: Refusal) -> GatherRefusal
+    ensures { IsInFile name.now refusal result }
+{
+    match refusal {
+        Refusal::Fault(fault) => fault_in(alloc, name, fault),
+        Refusal::Memory => GatherRefusal::Memory,
+    }
+}

@@ -1,0 +1,17 @@
+//! Macros and includes: a text becomes its whole token list, up to the first fault.
+#![tactic(auto)]
+
+mod defines;
+mod fetches;
+mod files;
+mod gathering;
+mod macros;
+mod output;
+mod refusal;
+mod whole_text;
+
+pub use refusal::GatherRefusal;
+pub use whole_text::{Gathered, gather};
+
+#[cfg(test)]
+mod tests;

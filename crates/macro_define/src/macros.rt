@@ -1,0 +1,194 @@
+// The table of macros, and the replacement of their names.
+ghost use Rattle.std.specs.Prelude.{◌≡◌, ◌+◌, ◌-◌, ◌*◌, ◌^◌, ◌<◌, ◌==◌, [], ◌++◌, ◌∷◌, length, slice_get, IfOk, IfSome, OnOk, option_map};
+ghost use Rattle.std.specs.List.{list_any};
+ghost use Rattle.std.specs.Option.{option_copied};
+ghost use Rattle.macro_define.specs.Made.{Came, Goes, and_then, made};
+ghost use Rattle.macro_define.specs.Macros.{key as key_of, kind_made, macro_of as macro_of_kind, number_of as number_of_name, replaced, text_of, token_made};
+ghost use Rattle.macro_define.specs.Uses.{in_progress, still_made, table, used};
+
+use crate::output::Output;
+use ground::{Dialect, Fault, FaultKind, Place, Refusal, Token, TokenKind};
+use indexmap::IndexMap;
+use std::alloc::{AllocError, Global};
+
+/// The texts of macros by their names, in the order of the first define of each. A name is as it is compared.
+pub type Macros = IndexMap<Vec<u8>, Vec<TokenKind>>;
+
+/// A text that is under way: the number of its macro, and the place of its next token.
+#[derive(Clone, Copy, Debug)]
+pub struct Use {
+    pub number: usize,
+    pub next: usize,
+}
+
+/// Adds what a token makes: itself, or what the macro that it names stands for (Kernighan's and Feldman's macros).
+pub fn add_token(
+    alloc: Global,
+    dialect: Dialect,
+    macros: &Macros,
+    token: Token,
+    output: &mut Output,
+) -> Result<(), Refusal>
+    ensures { Came (token_made dialect (table macros.now) token (made output.old)) result (made output.new) }
+{
+    match macro_of(alloc, dialect, macros, &token.kind)? {
+        Some(number) => replace(alloc, dialect, macros, number, token.place, output),
+        None => output.put(token),
+    }
+}
+
+/// The name of a macro as it is compared: as written in Ratfor, without case in EFL.
+pub fn key(alloc: Global, dialect: Dialect, name: &[u8]) -> Result<Vec<u8>, AllocError>
+    ensures { IfOk result (λ v. v.items ≡ key_of dialect name.now) }
+{
+    match dialect {
+        Dialect::Ratfor => Vec::from_slice(alloc, name),
+        Dialect::Efl => name
+            .iter()
+            .map(|byte| byte.to_ascii_lowercase())
+            .collect(alloc),
+    }
+}
+
+/// The number of a macro.
+pub fn number_of(macros: &Macros, key: &[u8]) -> Option<usize>
+    ensures number { result ≡ number_of_name (table macros.now) key.now }
+    ensures within { IfSome result (λ n. n < length (table macros.now)) }
+{
+    macros.get_index_of(key)
+}
+
+/// The number of the macro that a token names.
+fn macro_of(
+    alloc: Global,
+    dialect: Dialect,
+    macros: &Macros,
+    kind: &TokenKind,
+) -> Result<Option<usize>, AllocError>
+    ensures number { IfOk result (λ found. found ≡ macro_of_kind dialect (table macros.now) kind.now) }
+    ensures within { IfOk result (λ found. IfSome found (λ n. n < length (table macros.now))) }
+{
+    match kind {
+        TokenKind::Word(name) => {
+            let key = key(alloc, dialect, name.as_bytes())?;
+            Ok(number_of(macros, &key))
+        }
+        _ => Ok(None),
+    }
+}
+
+/// Adds what a macro stands for.
+fn replace(
+    alloc: Global,
+    dialect: Dialect,
+    macros: &Macros,
+    number: usize,
+    place: Place,
+    output: &mut Output,
+) -> Result<(), Refusal>
+    requires { number < length (table macros.now) }
+    ensures { Came (replaced dialect (table macros.now) place (length (table macros.now)) [] number (made output.old)) result (made output.new) }
+{
+    let mut uses = Vec::new(alloc);
+    begin(dialect, macros, number, place, &mut uses, output)?;
+    while let Some(innermost) = uses.pop() {
+        go_on(alloc, dialect, macros, innermost, place, &mut uses, output)?;
+    }
+    Ok(())
+}
+
+/// Goes on with the innermost text, which is taken from the uses: adds what its next token makes, if it has one.
+fn go_on(
+    alloc: Global,
+    dialect: Dialect,
+    macros: &Macros,
+    innermost: Use,
+    place: Place,
+    uses: &mut Vec<Use>,
+    output: &mut Output,
+) -> Result<(), Refusal>
+    ensures made { Goes (still_made dialect (table macros.now) place [] (uses.old.items ++ innermost ∷ []) (made output.old)) result
+        (still_made dialect (table macros.now) place [] uses.new.items (made output.new)) }
+    ensures nearer { OnOk result (2 * output.new.left + length uses.new.items < 2 * output.old.left + length uses.old.items + 1) }
+{
+    let Some(kind) = next_kind(macros, innermost) else {
+        return Ok(());
+    };
+    let next = innermost.next + 1;
+    uses.push(Use { next, ..innermost })
+        .map_err(AllocError::from)?;
+    add_kind(alloc, dialect, macros, kind, place, uses, output)
+}
+
+/// Begins a macro's text.
+fn begin(
+    dialect: Dialect,
+    macros: &Macros,
+    number: usize,
+    place: Place,
+    uses: &mut Vec<Use>,
+    output: &mut Output,
+) -> Result<(), Refusal>
+    requires { number < length (table macros.now) }
+    ensures made { Goes (and_then (used dialect (table macros.now) place (in_progress [] uses.old.items) number (made output.old))
+        (still_made dialect (table macros.now) place [] uses.old.items)) result
+        (still_made dialect (table macros.now) place [] uses.new.items (made output.new)) }
+    ensures nearer { OnOk result (2 * output.new.left + length uses.new.items < 2 * output.old.left + length uses.old.items) }
+{
+    if is_used(uses, number) {
+        return Err(Refusal::Fault(Fault {
+            kind: FaultKind::MacroLoop,
+            place,
+            number: 0,
+        }));
+    }
+    output.count(place)?;
+    uses.push(Use { number, next: 0 })
+        .map_err(AllocError::from)?;
+    Ok(())
+}
+
+/// Whether the text of this macro is under way.
+fn is_used(uses: &[Use], number: usize) -> bool
+    ensures { result ≡ list_any (λ u. u.number == number) uses.now }
+{
+    uses.iter().any(|other| other.number == number)
+}
+
+/// The next token of a text that is under way.
+fn next_kind(macros: &Macros, innermost: Use) -> Option<&TokenKind>
+    ensures kind { option_copied result ≡ slice_get (text_of (table macros.now) innermost.number) innermost.next }
+    ensures within { IfSome result (λ _. innermost.next + 1 < 2 ^ 64) }
+{
+    let (_, text) = macros.get_index(innermost.number)?;
+    if innermost.next < text.len() {
+        Some(&text[innermost.next])
+    } else {
+        None
+    }
+}
+
+/// Adds what a token of a macro's text makes, or begins the text of the macro that it names.
+fn add_kind(
+    alloc: Global,
+    dialect: Dialect,
+    macros: &Macros,
+    kind: &TokenKind,
+    place: Place,
+    uses: &mut Vec<Use>,
+    output: &mut Output,
+) -> Result<(), Refusal>
+    ensures made { Goes (and_then (kind_made dialect (table macros.now) place
+        (used dialect (table macros.now) place (in_progress [] uses.old.items)) kind.now (made output.old))
+        (still_made dialect (table macros.now) place [] uses.old.items)) result
+        (still_made dialect (table macros.now) place [] uses.new.items (made output.new)) }
+    ensures nearer { OnOk result (2 * output.new.left + length uses.new.items < 2 * output.old.left + length uses.old.items) }
+{
+    match macro_of(alloc, dialect, macros, kind)? {
+        Some(number) => begin(dialect, macros, number, place, uses, output),
+        None => output.put(Token {
+            kind: kind.clone()?,
+            place,
+        }),
+    }
+}

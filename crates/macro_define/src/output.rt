@@ -1,0 +1,54 @@
+// The tokens that are made, of which there are at most 200,000.
+ghost use Rattle.std.specs.Prelude.{◌≡◌, []};
+ghost use Rattle.macro_define.specs.Made.{Came, counted, made, put as put_token};
+
+use ground::{Fault, FaultKind, Place, Refusal, Token};
+use std::alloc::{AllocError, Global};
+
+/// The number of tokens of a text after expansion, each replaced name counted as one.
+const TOKEN_LIMIT: usize = 200_000;
+/// The number of that limit.
+const TOKEN_LIMIT_NUMBER: u64 = 2;
+
+/// The tokens so far, and how many more may be counted.
+#[derive(Drop)]
+pub struct Output {
+    pub tokens: Vec<Token>,
+    pub left: usize,
+}
+
+impl Output {
+    pub fn new(alloc: Global) -> Self
+        ensures tokens { result.tokens.items ≡ [] }
+        ensures left { result.left ≡ 200000 }
+    {
+        Output {
+            tokens: Vec::new(alloc),
+            left: TOKEN_LIMIT,
+        }
+    }
+
+    /// Counts a token, or the name of a macro, at this place.
+    pub fn count(&mut self, place: Place) -> Result<(), Refusal>
+        ensures { Came (counted place (made self.old)) result (made self.new) }
+    {
+        if self.left == 0 {
+            return Err(Refusal::Fault(Fault {
+                kind: FaultKind::Limit,
+                place,
+                number: TOKEN_LIMIT_NUMBER,
+            }));
+        }
+        self.left -= 1;
+        Ok(())
+    }
+
+    /// Counts a token and adds it.
+    pub fn put(&mut self, token: Token) -> Result<(), Refusal>
+        ensures { Came (put_token token (made self.old)) result (made self.new) }
+    {
+        self.count(token.place)?;
+        self.tokens.push(token).map_err(AllocError::from)?;
+        Ok(())
+    }
+}

@@ -1,0 +1,35 @@
+// Why a text is not gathered.
+ghost use Rattle.std.specs.Prelude.{◌≡◌};
+ghost use Rattle.macro_define.specs.declared.refusal.GatherRefusal.TheVariants.{Memory as NoMemory};
+
+use ground::{Fault, Memory, Text};
+use std::alloc::AllocError;
+use thiserror::Error;
+
+/// A fault, with the name of the file of its place, or of the whole text's at line 0; a fetch that failed; or want of
+/// memory.
+#[derive(Debug, Drop, Error)]
+pub enum GatherRefusal {
+    #[error("a fault of the text")]
+    Fault(Fault, Text),
+    #[error("a fetch failed")]
+    Library,
+    #[error("want of memory")]
+    Memory,
+}
+
+impl From<AllocError> for GatherRefusal {
+    ghost from_gives = { λ _ refusal. refusal ≡ NoMemory };
+
+    fn from(_: AllocError) -> Self {
+        GatherRefusal::Memory
+    }
+}
+
+impl From<Memory> for GatherRefusal {
+    ghost from_gives = { λ _ refusal. refusal ≡ NoMemory };
+
+    fn from(_: Memory) -> Self {
+        GatherRefusal::Memory
+    }
+}
