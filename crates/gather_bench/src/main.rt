@@ -34,7 +34,11 @@ fn main(rt: HostRuntime) -> Result<()> {
         }
         Err(GatherRefusal::Fault(fault, _)) => {
             let line = fault.place.line;
-            println!(rt; "fault {} {} at line {line}", fault.kind.number(), fault.kind.word())?;
+            println!(rt;
+                "fault {} {} at line {line}",
+                fault.kind.number(),
+                fault.kind.word()
+            )?;
             Ok(())
         }
         Err(GatherRefusal::Library) => bail!("a fetch failed"),
