@@ -1,0 +1,5 @@
+pub mod Table
+pub mod LookaheadTables
+pub mod Words
+pub mod Ratfor
+pub mod RatforSound
