@@ -1,5 +1,6 @@
 pub mod Table
 pub mod LookaheadTables
 pub mod Words
+pub mod Values
 pub mod Ratfor
 pub mod RatforSound
