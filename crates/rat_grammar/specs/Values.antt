@@ -1,17 +1,18 @@
 -- What the parts of a text give, as plain data.
-use Rattle.std.specs.Prelude.{ℕ, zero, suc, false, Option, None, Some, List, [], ◌∷◌, map, reverse}
+use Rattle.std.specs.Prelude.{ℕ, zero, suc, Option, None, Some, List, [], ◌∷◌, map, reverse}
 use Rattle.ground.specs.declared.place.Place.{Place}
 use Rattle.ground.specs.declared.token.Token.{Token}
 use Rattle.f66_tree.specs.declared.expression.Operator.{Operator}
 use Rattle.f66_tree.specs.declared.expression.Expr.{Expr}
 use Rattle.f66_tree.specs.Fields.{Fields}
-use Rattle.f66_tree.specs.Forms.{Text, Formula, Fact, Par, Header, Entry, Declared, Area, PresetPart, Act}
+use Rattle.f66_tree.specs.Forms.{Text, Formula, Par, Header, Entry, Declared, Area, PresetPart, Act}
 use Rattle.f66_tree.specs.Views.{formula_of, par_of, declared_of, area_of, preset_of, initial_of, entry_of, field_then, fields_of, act_of, header_of}
 use Rattle.rat_tree.specs.Commands.{Command, Commands, Clauses, RatRoutine, RatProgram}
 use Rattle.rat_tree.specs.Views as trees
 use Rattle.rat_tree.specs.Views.{clause_then, routine_of, program_of}
 use Rattle.std.specs.declared.vec.Vec.{Vec}
 use Rattle.std.specs.declared.alloc.Global.{Global}
+use Rattle.grammar.specs.Stack.{piled}
 use Rattle.rat_grammar.specs.declared.value.Value.{Value}
 use Rattle.rat_grammar.specs.declared.value.Value.TheVariants as v
 use Rattle.rat_grammar.specs.declared.value.Range as ranges
@@ -130,11 +131,5 @@ abbrev pub at : ℕ → List Val → Val
 at zero vs = last_of vs
 at (suc n) vs = at n (others vs)
 
-abbrev pub as_formula : Val → Formula
-as_formula (formula f) = f
-as_formula (located p f) = f
-as_formula _ = Fact false
-
-abbrev pub as_formulas : Val → List Formula
-as_formulas (formulas fs) = fs
-as_formulas _ = []
+abbrev pub values : List Value → List Val
+values parts = piled value parts []
