@@ -104,11 +104,20 @@ operator_of signs.And = operators.And
 operator_of signs.Or = operators.Or
 operator_of _ = operators.Add
 
-abbrev pub type_named : Text → TypeWord
-type_named w = if is_spelled (codes "INTEGER") w then types.Integer else (if is_spelled (codes "LOGICAL") w then types.Logical else types.Other)
+-- words as they are written
+abbrev pub kind_word : TokenKind → Text
+kind_word (kinds.Word w) = w
+kind_word _ = []
+
+abbrev pub word_in : Val → Text
+word_in (tok t) = kind_word t.kind
+word_in _ = []
+
+abbrev pub is_word : Text → Val → Bool
+is_word spelling v = is_spelled spelling (word_in v)
 
 abbrev pub type_in : Val → TypeWord
-type_in v = type_named (name_in v)
+type_in v = if is_word (codes "INTEGER") v then types.Integer else (if is_word (codes "LOGICAL") v then types.Logical else types.Other)
 
 abbrev pub as_exprs : Val → List Formula
 as_exprs (formulas all) = all

@@ -6,5 +6,6 @@ mod lists;
 mod table;
 mod terminals;
 mod value;
+mod words;
 
 pub use table::{Nonterminal, Production, Terminal};

@@ -92,7 +92,7 @@ fn reserved_at(word: &[u8]) -> Option<Terminal>
 }
 
 /// Whether a word is this one in capitals, in whatever case.
-fn is_spelled(spelling: &[u8], word: &[u8]) -> bool
+pub fn is_spelled(spelling: &[u8], word: &[u8]) -> bool
     ensures { result ≡ spells spelling.now word.now }
 {
     match spelling {
