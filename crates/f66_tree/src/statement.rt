@@ -88,54 +88,56 @@ pub fn copy_kind(alloc: Global, kind: &StmtKind) -> Result<StmtKind, AllocError>
     ensures { IfOk result (λ r. act_of r ≡ act_of kind.now) }
 {
     match kind {
-        StmtKind::When(test, inner) => {
-            let test = copy_expr(alloc, test)?;
-            let inner = copy_kind(alloc, inner)?;
-            Ok(StmtKind::When(test, Box::new(alloc, inner)?))
-        }
-        StmtKind::Format(fields) => Ok(StmtKind::Format(copy_fields(alloc, fields)?)),
-        StmtKind::Typed(word, list) => Ok(StmtKind::Typed(*word, copy_declarations(alloc, list)?)),
-        StmtKind::Dimension(list) => Ok(StmtKind::Dimension(copy_declarations(alloc, list)?)),
-        StmtKind::Common(list) => Ok(StmtKind::Common(copy_areas(alloc, list)?)),
-        StmtKind::Equivalence(list) => Ok(StmtKind::Equivalence(copy_groups(alloc, list)?)),
-        StmtKind::Preset(list) => Ok(StmtKind::Preset(copy_presets(alloc, list)?)),
-        StmtKind::Read(unit, format, list) => {
-            let unit = copy_par(unit)?;
-            Ok(StmtKind::Read(unit, *format, copy_entries(alloc, list)?))
-        }
-        StmtKind::Write(unit, format, list) => {
-            let unit = copy_par(unit)?;
-            Ok(StmtKind::Write(unit, *format, copy_entries(alloc, list)?))
-        }
-        StmtKind::Loop(label, variable, first, last, step) => {
-            let variable = variable.copy()?;
-            let first = copy_par(first)?;
-            let last = copy_par(last)?;
-            let step = copy_par(step)?;
-            Ok(StmtKind::Loop(*label, variable, first, last, step))
-        }
-        StmtKind::Assign(left, right) => {
-            let left = copy_expr(alloc, left)?;
-            Ok(StmtKind::Assign(left, copy_expr(alloc, right)?))
-        }
-        StmtKind::Invoke(name, list) => {
-            let name = name.copy()?;
-            Ok(StmtKind::Invoke(name, copy_exprs(alloc, list)?))
-        }
+        StmtKind::Assign(left, right) => Ok(StmtKind::Assign(
+            copy_expr(alloc, left)?,
+            copy_expr(alloc, right)?,
+        )),
         StmtKind::Goto(label) => Ok(StmtKind::Goto(*label)),
-        StmtKind::Computed(labels, index) => {
-            let labels = labels.clone()?;
-            Ok(StmtKind::Computed(labels, index.copy()?))
-        }
+        StmtKind::Computed(labels, index) => Ok(StmtKind::Computed(labels.clone()?, index.copy()?)),
         StmtKind::Sign(e, below, zero, above) => Ok(StmtKind::Sign(
             copy_expr(alloc, e)?,
             *below,
             *zero,
             *above,
         )),
+        StmtKind::When(test, inner) => {
+            let test = copy_expr(alloc, test)?;
+            let inner = copy_kind(alloc, inner)?;
+            Ok(StmtKind::When(test, Box::new(alloc, inner)?))
+        }
+        StmtKind::Loop(label, variable, first, last, step) => {
+            let variable = variable.copy()?;
+            Ok(StmtKind::Loop(
+                *label,
+                variable,
+                copy_par(first)?,
+                copy_par(last)?,
+                copy_par(step)?,
+            ))
+        }
+        StmtKind::Invoke(name, list) => Ok(StmtKind::Invoke(
+            name.copy()?,
+            copy_exprs(alloc, list)?,
+        )),
         StmtKind::Continue => Ok(StmtKind::Continue),
         StmtKind::Stop(number) => Ok(StmtKind::Stop(*number)),
         StmtKind::Return => Ok(StmtKind::Return),
+        StmtKind::Read(unit, format, list) => Ok(StmtKind::Read(
+            copy_par(unit)?,
+            *format,
+            copy_entries(alloc, list)?,
+        )),
+        StmtKind::Write(unit, format, list) => Ok(StmtKind::Write(
+            copy_par(unit)?,
+            *format,
+            copy_entries(alloc, list)?,
+        )),
+        StmtKind::Format(fields) => Ok(StmtKind::Format(copy_fields(alloc, fields)?)),
+        StmtKind::Typed(word, list) => Ok(StmtKind::Typed(*word, copy_declarations(alloc, list)?)),
+        StmtKind::Dimension(list) => Ok(StmtKind::Dimension(copy_declarations(alloc, list)?)),
+        StmtKind::Common(list) => Ok(StmtKind::Common(copy_areas(alloc, list)?)),
+        StmtKind::Equivalence(list) => Ok(StmtKind::Equivalence(copy_groups(alloc, list)?)),
+        StmtKind::Preset(list) => Ok(StmtKind::Preset(copy_presets(alloc, list)?)),
     }
 }
 
