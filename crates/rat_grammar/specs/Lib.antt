@@ -3,5 +3,7 @@ pub mod LookaheadTables
 pub mod Words
 pub mod Values
 pub mod Parts
+pub mod Build
+pub mod Limits
 pub mod Ratfor
 pub mod RatforSound

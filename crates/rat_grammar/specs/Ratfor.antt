@@ -15,19 +15,23 @@ use Rattle.rat_grammar.specs.declared.table.Production.TheVariants as production
 use Rattle.rat_grammar.specs.contracts.table.Terminal.{the_type as terminal_type}
 use Rattle.rat_grammar.specs.contracts.table.Nonterminal.{the_type as nonterminal_type}
 use Rattle.rat_grammar.specs.contracts.table.Production.{the_type as production_type}
+use Rattle.rat_tree.specs.declared.program.RatProgram.{RatProgram}
+use Rattle.rat_tree.specs.Views.{program_of}
 use Rattle.rat_grammar.specs.Words.{seen}
+use Rattle.rat_grammar.specs.Values.{Val, tok, program}
+use Rattle.rat_grammar.specs.Build.{build}
 use Rattle.rat_grammar.specs.Table.{symbols, nonterminal_of, allows, predict_at}
 use Rattle.rat_grammar.specs.LookaheadTables.{all_terminals, first, follow, nullable, cost, closing, shortest, height, before, inner}
 
-abbrev pub grammar : Grammar Token Terminal Nonterminal Production (Unit {0})
+abbrev pub grammar : Grammar Token Terminal Nonterminal Production Val
 grammar = record {
   terminal_of = seen;
   symbols = symbols;
   nonterminal_of = nonterminal_of;
   allows = allows;
   start = productions.Whole;
-  value = λ t. tt;
-  build = λ p vs. tt;
+  value = λ t. tok t;
+  build = build;
 }
 
 abbrev pub example_kind : Terminal → TokenKind
@@ -108,3 +112,7 @@ certificate = record {
   end = terminals.TextEnd;
   inner = inner;
 }
+
+-- a program in memory, as what a whole text gives
+abbrev pub whole : RatProgram → Val
+whole p = program (program_of p)

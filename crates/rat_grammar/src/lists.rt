@@ -1,8 +1,9 @@
 // Takes values apart, and makes lists longer.
 ghost use Rattle.std.specs.Prelude.{◌≡◌, ◌∷◌, [], reverse, map, IfOk};
 ghost use Rattle.f66_tree.specs.Views.{formula_of, par_of, declared_of, area_of, preset_of, initial_of, entry_of, fields_of, act_of, header_of};
+ghost use Rattle.rat_tree.specs.Commands.{AndCommand};
 ghost use Rattle.rat_tree.specs.Views.{commands as commands_of, clauses as clauses_of, routine_of, command as command_seen, act_if_any as act_if, formula_if_any as formula_if};
-ghost use Rattle.rat_grammar.specs.Values.{value, values, join_of, range_of, last_of, others, at, formulas, declareds, areas, presets, entries, fields, clauses, routines, data_values};
+ghost use Rattle.rat_grammar.specs.Values.{value, values, pars, names, numbers, groups, commands, join_of, range_of, last_of, others, at, formulas, declareds, areas, presets, entries, fields, clauses, routines, data_values};
 ghost use Rattle.rat_grammar.specs.Parts.{as_formula, as_par, as_act, as_command, as_header, as_range, step_or_one, formula_if_any, act_if_any, with_declared, with_area, with_preset, with_entry, with_field, with_clause, with_routine, with_datum, as_exprs, as_joins, as_names, as_numbers, as_pars, as_declareds, as_areas, as_groups, as_presets, as_data, as_entries, as_fields, as_statements, as_clauses, as_units};
 
 use crate::value::{Range, Value};
@@ -27,19 +28,11 @@ pub fn pop_value(parts: &mut Vec<Value>) -> Value
     }
 }
 
-/// Takes the last four parts, the last first.
-pub fn take_four(parts: &mut Vec<Value>) -> (Value, Value, Value, Value)
-    ensures at_0 { value result.0 ≡ last_of (values parts.old.items) }
-    ensures at_1 { value result.1 ≡ at 1 (values parts.old.items) }
-    ensures at_2 { value result.2 ≡ at 2 (values parts.old.items) }
-    ensures at_3 { value result.3 ≡ at 3 (values parts.old.items) }
-    ensures rest { values parts.new.items ≡ others (others (others (others (values parts.old.items)))) }
+/// Passes over the last part.
+pub fn skip(parts: &mut Vec<Value>)
+    ensures { values parts.new.items ≡ others (values parts.old.items) }
 {
-    let last = pop_value(parts);
-    let second = pop_value(parts);
-    let third = pop_value(parts);
-    let fourth = pop_value(parts);
-    (last, second, third, fourth)
+    drop(pop_value(parts));
 }
 
 pub fn into_exprs(alloc: Global, part: Value) -> Vec<Expr>
@@ -599,4 +592,53 @@ pub fn into_act_if_any(part: Value) -> Option<StmtKind>
             None
         }
     }
+}
+
+pub fn more_exprs(alloc: Global, first: Value, rest: Value) -> Result<Value, AllocError>
+    ensures { IfOk result (λ v. value v ≡ formulas (as_formula (value first) ∷ (as_exprs (value rest)))) }
+{
+    let mut list = into_exprs(alloc, rest);
+    list.push(into_expr(first))?;
+    Ok(Value::Exprs(list))
+}
+
+pub fn more_pars(alloc: Global, first: Value, rest: Value) -> Result<Value, AllocError>
+    ensures { IfOk result (λ v. value v ≡ pars (as_par (value first) ∷ (as_pars (value rest)))) }
+{
+    let mut list = into_pars(alloc, rest);
+    list.push(into_par(first))?;
+    Ok(Value::Pars(list))
+}
+
+pub fn more_names(alloc: Global, first: Name, rest: Value) -> Result<Value, AllocError>
+    ensures { IfOk result (λ v. value v ≡ names (first ∷ (as_names (value rest)))) }
+{
+    let mut list = into_names(alloc, rest);
+    list.push(first)?;
+    Ok(Value::Names(list))
+}
+
+pub fn more_numbers(alloc: Global, first: u32, rest: Value) -> Result<Value, AllocError>
+    ensures { IfOk result (λ v. value v ≡ numbers (first ∷ (as_numbers (value rest)))) }
+{
+    let mut list = into_numbers(alloc, rest);
+    list.push(first)?;
+    Ok(Value::Numbers(list))
+}
+
+pub fn more_statements(alloc: Global, first: RatStmt, rest: Value) -> Result<Value, AllocError>
+    ensures { IfOk result (λ v. value v ≡ commands (AndCommand (command_seen first) (as_statements (value rest)))) }
+{
+    let mut list = into_statements(alloc, rest);
+    list.push(first)?;
+    Ok(Value::Statements(list))
+}
+
+/// A list of groups with one more in front, whose members are a list themselves.
+pub fn more_groups(alloc: Global, first: Value, rest: Value) -> Result<Value, AllocError>
+    ensures { IfOk result (λ v. value v ≡ groups (as_exprs (value first) ∷ as_groups (value rest))) }
+{
+    let mut list = into_groups(alloc, rest);
+    list.push(ordered_exprs(alloc, first))?;
+    Ok(Value::Groups(list))
 }

@@ -283,3 +283,59 @@ pub fn type_of(part: &Value) -> TypeWord
         TypeWord::Other
     }
 }
+
+pub fn take_place(part: Value) -> Place
+    ensures { result ≡ place_in (value part) }
+{
+    let taken = place_of(&part);
+    drop(part);
+    taken
+}
+
+pub fn take_number(part: Value) -> u32
+    ensures { result ≡ number_in (value part) }
+{
+    let taken = number_of(&part);
+    drop(part);
+    taken
+}
+
+pub fn take_integer(part: Value) -> i64
+    ensures { result ≡ integer_in (value part) }
+{
+    let taken = integer_of(&part);
+    drop(part);
+    taken
+}
+
+pub fn take_count(part: Value) -> u16
+    ensures { result ≡ count_in (value part) }
+{
+    let taken = count_of(&part);
+    drop(part);
+    taken
+}
+
+pub fn take_count_or_one(part: Value) -> u32
+    ensures { result ≡ count_or_one (value part) }
+{
+    let taken = count_or_one_of(&part);
+    drop(part);
+    taken
+}
+
+pub fn take_octal(part: Value) -> Option<u16>
+    ensures { result ≡ octal_if_any (value part) }
+{
+    let taken = octal_if_any_of(&part);
+    drop(part);
+    taken
+}
+
+pub fn take_sign(part: Value) -> Sign
+    ensures { result ≡ sign_in (value part) }
+{
+    let taken = sign_of(&part);
+    drop(part);
+    taken
+}
