@@ -9,13 +9,15 @@ use Rattle.rat_tree.specs.declared.program.RatKind.TheBlock as k
 use Rattle.rat_tree.specs.declared.program.RatStmt.{RatStmt}
 use Rattle.rat_tree.specs.declared.program.RatCase.{RatCase, RatCase'}
 use Rattle.rat_tree.specs.declared.program.RatCase as cases
-use Rattle.rat_tree.specs.Commands.{AndCommand, AndClause}
+use Rattle.rat_tree.specs.Commands.{Command, AndCommand, AndClause}
 use Rattle.rat_tree.specs.Views.{command_of, row_commands, commands, clause_then}
 use Rattle.f66_tree.specs.declared.expression.Expr.{Expr}
+use Rattle.f66_tree.specs.Forms.{Formula}
 use Rattle.f66_tree.specs.Views.{formulas_of}
-use Rattle.rat_grammar.specs.Values.{Val, program}
+use Rattle.rat_grammar.specs.Values.{Val, command, program}
 use Rattle.rat_grammar.specs.Parts.{as_program}
-use Rattle.rat_grammar.specs.Build.{marked}
+use Rattle.rat_grammar.specs.Build.{conditional, marked}
+use Rattle.rat_grammar.specs.Choices.{command_if_any, chosen}
 use Rattle.rat_grammar.specs.Limits.{meter}
 use Rattle.rat_grammar.specs.Ratfor.{grammar}
 
@@ -27,7 +29,13 @@ marked_first n p (k.Repeat' q l p1 s (Some u)) = refl
 marked_first n p _ = refl
 
 pub marked_again : (n m : ℕ) (p : Place) (s : RatKind) → command_of (Some m) p s ≡ marked n p (command_of (Some m) p s)
+marked_again n m p (k.Plain a) = refl
 marked_again n m p _ = refl
+
+-- an `if` by what its part behind `else` gives
+pub choice_is : (p : Place) (f : Formula) (c : Command) (v : Val) → conditional p f c v ≡ chosen p f c (command_if_any v)
+choice_is p f c (command q d) = refl
+choice_is p f c _ = refl
 
 -- what a whole text gives is a program
 pub whole_again : (ts : List Token) (v : Val) → IsAccepted grammar meter ts v → program (as_program v) ≡ v

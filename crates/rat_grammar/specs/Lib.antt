@@ -4,6 +4,7 @@ pub mod Words
 pub mod Values
 pub mod Parts
 pub mod Build
+pub mod Choices
 pub mod Limits
 pub mod Ratfor
 pub mod RatforSound

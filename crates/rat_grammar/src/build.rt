@@ -10,7 +10,7 @@ use crate::value::Value;
 use crate::{control, declarations, formats, plain, transfers, units};
 use std::alloc::{AllocError, Global};
 
-/// What a production makes of its parts; one that is not listed gives what its last part does.
+/// What a production makes of its parts.
 pub fn build(alloc: Global, production: Production, parts: Vec<Value>) -> Result<Value, AllocError>
     ensures { IfOk result (λ v. value v ≡ built production (values parts.items)) }
 {
@@ -24,13 +24,21 @@ pub fn build(alloc: Global, production: Production, parts: Vec<Value>) -> Result
         Production::PlainMain => units::plain_main_by(alloc, parts),
         Production::EmptyMain => Ok(units::empty_main_by(alloc, parts)),
         Production::SubroutineHeader => Ok(units::subroutine_by(alloc, parts)),
-        Production::FunctionHeader | Production::TypedFunction => Ok(units::function_by(alloc, parts)),
+        Production::FunctionHeader | Production::TypedFunction => Ok(units::function_by(
+            alloc, parts,
+        )),
         Production::BlockHeader => Ok(units::block_by(parts)),
-        Production::TwoWords | Production::Condition | Production::GoToWords | Production::LoopRange | Production::CountedGroup => Ok(second_part(parts)),
+        Production::TwoWords
+        | Production::Condition
+        | Production::GoToWords
+        | Production::LoopRange
+        | Production::CountedGroup => Ok(second_part(parts)),
         Production::NoFormals | Production::NoMoreFormal => Ok(Value::Names(Vec::new(alloc))),
         Production::FormalList => declarations::listed_names_by(alloc, parts),
         Production::MoreFormal => declarations::more_names_by(alloc, parts),
-        Production::BodyMore | Production::StatementsMore => control::more_statements_by(alloc, parts),
+        Production::BodyMore | Production::StatementsMore => control::more_statements_by(
+            alloc, parts,
+        ),
         Production::BodyEnd | Production::StatementsDone => Ok(Value::Statements(Vec::new(alloc))),
         Production::Marked => Ok(control::marked_by(parts)),
         Production::TypedBare => Ok(control::typed_by(alloc, parts)),
@@ -66,9 +74,13 @@ pub fn build(alloc: Global, production: Production, parts: Vec<Value>) -> Result
         Production::MoreNumber => declarations::more_numbers_by(alloc, parts),
         Production::NoMoreNumber => Ok(Value::Numbers(Vec::new(alloc))),
         Production::SomeActuals | Production::Subscripts => expressions::listed_by(alloc, parts),
-        Production::NoActuals | Production::NoMoreActual | Production::NoMoreRef | Production::NoMoreExpr => Ok(Value::Exprs(Vec::new(alloc))),
+        Production::NoActuals
+        | Production::NoMoreActual
+        | Production::NoMoreRef
+        | Production::NoMoreExpr => Ok(Value::Exprs(Vec::new(alloc))),
         Production::LetterActual | Production::LetterConstant => Ok(letter_by(alloc, parts)),
-        Production::MoreActual | Production::MoreRef | Production::MoreExpr => expressions::more_exprs_by(alloc, parts),
+        Production::MoreActual | Production::MoreRef | Production::MoreExpr =>
+            expressions::more_exprs_by(alloc, parts),
         Production::NumberPar => Ok(declarations::number_par_by(parts)),
         Production::NamePar => Ok(declarations::name_par_by(alloc, parts)),
         Production::Range => Ok(declarations::range_by(parts)),
@@ -80,7 +92,9 @@ pub fn build(alloc: Global, production: Production, parts: Vec<Value>) -> Result
         Production::LoopName => transfers::loop_name_by(alloc, parts),
         Production::LoopElement => Ok(transfers::loop_element_by(alloc, parts)),
         Production::LoopScalar => Ok(transfers::loop_scalar_by(parts)),
-        Production::DeclaredList | Production::MoreDeclared => declarations::more_declareds_by(alloc, parts),
+        Production::DeclaredList | Production::MoreDeclared => declarations::more_declareds_by(
+            alloc, parts,
+        ),
         Production::NoMoreDeclared => Ok(Value::Declareds(Vec::new(alloc))),
         Production::Declared => Ok(declarations::declared_by(alloc, parts)),
         Production::SomeSizes => declarations::listed_pars_by(alloc, parts),
@@ -103,22 +117,97 @@ pub fn build(alloc: Global, production: Production, parts: Vec<Value>) -> Result
         Production::NumberConstant | Production::NumberPrime => Ok(integer_by(parts)),
         Production::SignedNumber => expressions::signed_number_by(alloc, parts),
         Production::TruthConstant | Production::TruthPrime => Ok(truth_by(parts)),
-        Production::EditFirst | Production::NextEdit | Production::SlashEdit => formats::more_fields_by(alloc, parts),
-        Production::SlashFirst | Production::EditSlash | Production::NextSlash | Production::SlashSlash => formats::slash_by(alloc, parts),
-        Production::NoFields | Production::EditDone | Production::SlashDone => Ok(Value::Fields(Vec::new(alloc))),
+        Production::EditFirst | Production::NextEdit | Production::SlashEdit =>
+            formats::more_fields_by(alloc, parts),
+        Production::SlashFirst
+        | Production::EditSlash
+        | Production::NextSlash
+        | Production::SlashSlash => formats::slash_by(alloc, parts),
+        Production::NoFields | Production::EditDone | Production::SlashDone => Ok(Value::Fields(
+            Vec::new(alloc),
+        )),
         Production::CountedEdit => Ok(formats::counted_edit_by(alloc, parts)),
         Production::WordEdit => Ok(formats::word_edit_by(alloc, parts)),
         Production::GroupEdit => Ok(formats::group_edit_by(alloc, parts)),
         Production::LetterEdit | Production::CharsEdit => Ok(formats::text_edit_by(alloc, parts)),
-        Production::Expr | Production::Conjunction | Production::Relational | Production::Sum | Production::Term | Production::Factor => expressions::joined_by(alloc, parts),
-        Production::OrMore | Production::AndMore | Production::SumMore | Production::TimesMore | Production::OverMore => expressions::more_joins_by(alloc, parts),
-        Production::OrDone | Production::AndDone | Production::NotCompared | Production::SumDone | Production::TermDone | Production::NotRaised => Ok(Value::Joins(Vec::new(alloc))),
+        Production::Expr
+        | Production::Conjunction
+        | Production::Relational
+        | Production::Sum
+        | Production::Term
+        | Production::Factor => expressions::joined_by(alloc, parts),
+        Production::OrMore
+        | Production::AndMore
+        | Production::SumMore
+        | Production::TimesMore
+        | Production::OverMore => expressions::more_joins_by(alloc, parts),
+        Production::OrDone
+        | Production::AndDone
+        | Production::NotCompared
+        | Production::SumDone
+        | Production::TermDone
+        | Production::NotRaised => Ok(Value::Joins(Vec::new(alloc))),
         Production::Negated => expressions::negated_by(alloc, parts),
         Production::Compared | Production::Raised => expressions::one_join_by(alloc, parts),
         Production::SignedTerm => expressions::signed_by(alloc, parts),
         Production::GroupPrime => expressions::group_by(alloc, parts),
         Production::Ref => Ok(expressions::ref_by(alloc, parts)),
-        _ => Ok(last_part(parts)),
+        Production::BlankLine
+        | Production::OneUnit
+        | Production::TypedMain
+        | Production::OneWord
+        | Production::SomeFormals
+        | Production::BodyLine
+        | Production::EndingLine
+        | Production::EndingSign => Ok(last_part(parts)),
+        Production::NoEnding
+        | Production::StatementLine
+        | Production::StatementItem
+        | Production::StatementsLine
+        | Production::Unmarked
+        | Production::UntypedBare
+        | Production::ElseLine
+        | Production::ElseBody => Ok(last_part(parts)),
+        Production::NoElse
+        | Production::UntilLine
+        | Production::NoUntil
+        | Production::SomePart
+        | Production::NoPart
+        | Production::SomeTest
+        | Production::NoTest
+        | Production::SomeCount => Ok(last_part(parts)),
+        Production::NoCount
+        | Production::SomeOutcome
+        | Production::NoOutcome
+        | Production::OneLine
+        | Production::NoLine
+        | Production::SimplePlain
+        | Production::GotoWord
+        | Production::OctalStop => Ok(last_part(parts)),
+        Production::BareStop
+        | Production::ExprActual
+        | Production::SomeStep
+        | Production::NoStep
+        | Production::LoopEntry
+        | Production::Element
+        | Production::NamedFirst
+        | Production::SomeArea => Ok(last_part(parts)),
+        Production::NoArea
+        | Production::Repeated
+        | Production::Once
+        | Production::OtherConstant
+        | Production::EditComma
+        | Production::SlashComma
+        | Production::CountedWord
+        | Production::Affirmed => Ok(last_part(parts)),
+        Production::UnsignedTerm
+        | Production::RefPrime
+        | Production::SomeArguments
+        | Production::NoArguments
+        | Production::PlainName
+        | Production::FieldName
+        | Production::OctalNumber
+        | Production::DecimalNumber => Ok(last_part(parts)),
     }
 }
 

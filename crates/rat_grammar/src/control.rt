@@ -2,15 +2,22 @@
 ghost use Rattle.std.specs.Prelude.{◌≡◌, ◌∷◌, [], Some, None, true, false, pos, map, IfOk};
 ghost use Rattle.f66_tree.specs.Forms.{Nought};
 ghost use Rattle.f66_tree.specs.Views.{formula_of, formulas_of, chained};
-ghost use Rattle.rat_tree.specs.Commands.{Empty, Together, When, Either, Repeats, Until, Whilst, Through, Counts, Switches, GivesBack, Plainly, AndCommand, AndClause};
+ghost use Rattle.rat_tree.specs.Commands.{Empty, Together, Repeats, Until, Whilst, Through, Counts, Switches, GivesBack, Plainly, AndCommand, AndClause};
 ghost use Rattle.rat_tree.specs.Views.{command_of, command as command_seen, commands as commands_of, clauses as clauses_of};
 ghost use Rattle.rat_grammar.specs.Values.{value, values, at, command, commands, clause as clause_val, clauses, located, range_of};
 ghost use Rattle.rat_grammar.specs.Parts.{place_in, name_in, number_in, as_formula, as_exprs, as_command, as_statements, as_clauses, as_act, as_range, act_if_any, formula_if_any, count_or_one, with_clause};
+ghost use Rattle.rat_grammar.specs.Choices.{command_if_any, boxed_command, chosen};
 ghost use Rattle.rat_grammar.specs.Build.{placed, conditional, repetition, marked, with_label, left, declares};
 
-use crate::lists::{into_act, into_act_if_any, into_expr, into_expr_if_any, into_range, into_statement, more_clauses, more_exprs, more_statements, ordered_clauses, ordered_declareds, ordered_exprs, ordered_statements, pop_value, skip};
+use crate::lists::{
+    into_act, into_act_if_any, into_expr, into_expr_if_any, into_range, into_statement,
+    more_clauses, more_exprs, more_statements, ordered_clauses, ordered_declareds, ordered_exprs,
+    ordered_statements, pop_value, skip,
+};
 use crate::value::{Range, Value};
-use crate::words::{into_name, is_word, place_of, take_count_or_one, take_number, take_place, type_of};
+use crate::words::{
+    into_name, is_word, place_of, take_count_or_one, take_number, take_place, type_of,
+};
 use f66_tree::{Expr, Name, StmtKind};
 use ground::{List, Place};
 use rat_tree::{RatCase, RatKind, RatStmt};
@@ -39,31 +46,38 @@ fn switch(place: Place, test: Expr, list: List<RatCase>) -> Value
     stated(place, RatKind::Switch(test, list))
 }
 
-fn choose(alloc: Global, place: Place, test: Expr, body: RatStmt, part: Value) -> Result<Value, AllocError>
-    ensures { IfOk result (λ v. value v ≡ command place (conditional place (formula_of test) (command_seen body) (value part))) }
+fn boxed(alloc: Global, part: Value) -> Result<Box<RatStmt>, AllocError>
+    ensures { IfOk result (λ b. command_seen b.value ≡ as_command (value part)) }
+{
+    let statement = into_statement(part);
+    Ok(Box::new(alloc, statement)?)
+}
+
+fn boxed_if_any(alloc: Global, part: Value) -> Result<Option<Box<RatStmt>>, AllocError>
+    ensures { IfOk result (λ b. boxed_command b ≡ command_if_any (value part)) }
 {
     match part {
-        Value::Statement(other) => either(alloc, place, test, body, other),
+        Value::Statement(statement) => some_boxed(alloc, statement),
         other => {
             drop(other);
-            when(alloc, place, test, body)
+            Ok(None)
         }
     }
 }
 
-fn either(alloc: Global, place: Place, test: Expr, body: RatStmt, other: RatStmt) -> Result<Value, AllocError>
-    ensures { IfOk result (λ v. value v ≡ command place (Either place (formula_of test) (command_seen body) (command_seen other))) }
+fn some_boxed(alloc: Global, statement: RatStmt) -> Result<Option<Box<RatStmt>>, AllocError>
+    ensures { IfOk result (λ b. boxed_command b ≡ Some (command_seen statement)) }
 {
-    let body = Box::new(alloc, body)?;
-    let other = Box::new(alloc, other)?;
-    Ok(stated(place, RatKind::If(test, body, Some(other))))
+    Ok(Some(Box::new(alloc, statement)?))
 }
 
-fn when(alloc: Global, place: Place, test: Expr, body: RatStmt) -> Result<Value, AllocError>
-    ensures { IfOk result (λ v. value v ≡ command place (When place (formula_of test) (command_seen body))) }
+fn choose(place: Place, test: Expr, body: Box<RatStmt>, other: Option<Box<RatStmt>>) -> Value
+    ensures { value result ≡ command place (chosen place (formula_of test) (command_seen body.value) (boxed_command other)) }
 {
-    let body = Box::new(alloc, body)?;
-    Ok(stated(place, RatKind::If(test, body, None)))
+    match other {
+        Some(other) => stated(place, RatKind::If(test, body, Some(other))),
+        None => stated(place, RatKind::If(test, body, None)),
+    }
 }
 
 fn repeat(alloc: Global, place: Place, body: RatStmt, part: Value) -> Result<Value, AllocError>
@@ -78,7 +92,13 @@ fn repeat(alloc: Global, place: Place, body: RatStmt, part: Value) -> Result<Val
     }
 }
 
-fn repeat_until(alloc: Global, place: Place, body: RatStmt, test: Expr, until: Place) -> Result<Value, AllocError>
+fn repeat_until(
+    alloc: Global,
+    place: Place,
+    body: RatStmt,
+    test: Expr,
+    until: Place,
+) -> Result<Value, AllocError>
     ensures { IfOk result (λ v. value v ≡ command place (Until place (command_seen body) (formula_of test) until)) }
 {
     let body = Box::new(alloc, body)?;
@@ -129,14 +149,15 @@ pub fn braces_by(alloc: Global, mut parts: Vec<Value>) -> Value
     block(third, second)
 }
 
+#[tactic(auto, using(crate::proofs::TreeLemmas::choice_is))]
 pub fn if_by(alloc: Global, mut parts: Vec<Value>) -> Result<Value, AllocError>
     ensures { IfOk result (λ v. value v ≡ placed (place_in (at 3 (values parts.items))) (λ p. conditional p (as_formula (at 2 (values parts.items))) (as_command (at 1 (values parts.items))) (at 0 (values parts.items)))) }
 {
-    let last = pop_value(&mut parts);
-    let second = into_statement(pop_value(&mut parts));
-    let third = into_expr(pop_value(&mut parts));
-    let fourth = take_place(pop_value(&mut parts));
-    choose(alloc, fourth, third, second, last)
+    let other = boxed_if_any(alloc, pop_value(&mut parts))?;
+    let body = boxed(alloc, pop_value(&mut parts))?;
+    let test = into_expr(pop_value(&mut parts));
+    let place = take_place(pop_value(&mut parts));
+    Ok(choose(place, test, body, other))
 }
 
 pub fn while_by(alloc: Global, mut parts: Vec<Value>) -> Result<Value, AllocError>
@@ -178,7 +199,13 @@ pub fn repeat_by(alloc: Global, mut parts: Vec<Value>) -> Result<Value, AllocErr
     repeat(alloc, third, second, last)
 }
 
-fn count(alloc: Global, place: Place, variable: Name, range: Range, body: RatStmt) -> Result<Value, AllocError>
+fn count(
+    alloc: Global,
+    place: Place,
+    variable: Name,
+    range: Range,
+    body: RatStmt,
+) -> Result<Value, AllocError>
     ensures { IfOk result (λ v. value v ≡ command place (Counts place variable (range_of range).first (range_of range).last (range_of range).step (command_seen body))) }
 {
     let Range { first, last, step } = range;
@@ -302,7 +329,6 @@ pub fn more_statements_by(alloc: Global, mut parts: Vec<Value>) -> Result<Value,
     more_statements(alloc, second, last)
 }
 
-#[tactic(auto, using(crate::proofs::TreeLemmas::whole_clause))]
 fn clause(tests: List<Expr>, fallback: bool, body: List<RatStmt>, place: Place) -> Value
     ensures { value result ≡ clause_val (AndClause (formulas_of tests.items) fallback (commands_of body.items) place) }
 {
@@ -344,4 +370,3 @@ pub fn more_clauses_by(alloc: Global, mut parts: Vec<Value>) -> Result<Value, Al
     let second = pop_value(&mut parts);
     more_clauses(alloc, second, last)
 }
-

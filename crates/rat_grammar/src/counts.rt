@@ -53,10 +53,7 @@ pub fn passed(counts: Counts) -> Option<u64>
     }
 }
 
-pub fn next_counts(
-    counts: Counts,
-    event: Event<Terminal, Production>,
-) -> Result<Counts, AllocError>
+pub fn next_counts(counts: Counts, event: Event<Terminal, Production>) -> Result<Counts, AllocError>
     ensures { IfOk result (λ m. m ≡ next event counts) }
 {
     match event {

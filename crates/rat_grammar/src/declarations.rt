@@ -5,7 +5,11 @@ ghost use Rattle.rat_grammar.specs.Values.{value, values, at, declared, declared
 ghost use Rattle.rat_grammar.specs.Parts.{as_formula, as_exprs, as_par, as_pars, as_declareds, as_areas, as_groups, as_presets, as_data, as_names, as_numbers, with_declared, with_area, with_preset, with_datum, name_in, name_if_any, integer_in, number_in, step_or_one};
 ghost use Rattle.rat_grammar.specs.Build.{counted};
 
-use crate::lists::{into_expr, into_par, into_step, more_areas, more_data, more_declareds, more_exprs, more_groups, more_names, more_numbers, more_pars, more_presets, ordered_data, ordered_declareds, ordered_exprs, ordered_pars, pop_value, skip};
+use crate::lists::{
+    into_expr, into_par, into_step, more_areas, more_data, more_declareds, more_exprs, more_groups,
+    more_names, more_numbers, more_pars, more_presets, ordered_data, ordered_declareds,
+    ordered_exprs, ordered_pars, pop_value, skip,
+};
 use crate::value::{Range, Value};
 use crate::words::{integer_of, into_name, into_name_if_any, number_of, take_integer, take_number};
 use f66_tree::{Area, Declared, Expr, Par, PresetPart};
@@ -200,4 +204,3 @@ pub fn more_numbers_by(alloc: Global, mut parts: Vec<Value>) -> Result<Value, Al
     let second = take_number(pop_value(&mut parts));
     more_numbers(alloc, second, last)
 }
-

@@ -8,7 +8,10 @@ ghost use Rattle.rat_grammar.specs.Build.{joined, signed, applied, integer as in
 
 use crate::lists::{into_expr, into_joins, more_exprs, pop_value, skip};
 use crate::value::Value;
-use crate::words::{into_name, into_text, is_minus, is_true, letter_of, operator_of, place_of, take_integer, take_sign};
+use crate::words::{
+    into_name, into_text, is_minus, is_true, letter_of, operator_of, place_of, take_integer,
+    take_sign,
+};
 use f66_tree::{Expr, Name, Operator};
 use std::alloc::{AllocError, Global};
 
@@ -172,4 +175,3 @@ pub fn more_exprs_by(alloc: Global, mut parts: Vec<Value>) -> Result<Value, Allo
     let second = pop_value(&mut parts);
     more_exprs(alloc, second, last)
 }
-

@@ -114,4 +114,3 @@ pub fn slash_by(alloc: Global, mut parts: Vec<Value>) -> Result<Value, AllocErro
     list.push(Field::Slash)?;
     Ok(Value::Fields(list))
 }
-

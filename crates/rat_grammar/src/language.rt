@@ -119,6 +119,13 @@ pub fn parse(alloc: Global, tokens: &List<Token>) -> Result<RatProgram, Refusal>
     requires { EndsWith ratfor certificate.end tokens.now.items }
     ensures { Answers ratfor meter whole tokens.now.items result }
 {
+    parse_all(alloc, tokens)
+}
+
+fn parse_all(alloc: Global, tokens: &[Token]) -> Result<RatProgram, Refusal>
+    requires { EndsWith ratfor certificate.end tokens.now }
+    ensures { Answers ratfor meter whole tokens.now result }
+{
     match grammar::parse::<Ratfor>(alloc, tokens) {
         Ok(part) => Ok(into_program(alloc, part)),
         Err(refusal) => Err(refusal),

@@ -6,7 +6,11 @@ ghost use Rattle.rat_grammar.specs.Values.{value, values, at, deed as deed_val};
 ghost use Rattle.rat_grammar.specs.Parts.{place_in, name_in, number_in, octal_if_any, as_act, as_formula, as_exprs, as_par, as_entries, as_fields, as_declareds, as_areas, as_groups, as_presets, as_numbers, with_area, with_preset};
 ghost use Rattle.rat_grammar.specs.Build.{transfer as transferred};
 
-use crate::lists::{into_act, into_expr, into_par, more_areas, more_groups, more_numbers, more_presets, ordered_areas, ordered_declareds, ordered_entries, ordered_exprs, ordered_fields, ordered_groups, ordered_numbers, ordered_presets, pop_value, skip};
+use crate::lists::{
+    into_act, into_expr, into_par, more_areas, more_groups, more_numbers, more_presets,
+    ordered_areas, ordered_declareds, ordered_entries, ordered_exprs, ordered_fields,
+    ordered_groups, ordered_numbers, ordered_presets, pop_value, skip,
+};
 use crate::value::Value;
 use crate::words::{into_name, is_word, place_of, take_number, take_octal, take_place};
 use f66_tree::{Entry, Par, StmtKind};
@@ -164,4 +168,3 @@ pub fn computed_target_by(alloc: Global, mut parts: Vec<Value>) -> Result<Value,
     let labels = ordered_numbers(alloc, labels);
     Ok(deed(open, StmtKind::Computed(labels, index)))
 }
-

@@ -6,9 +6,11 @@ ghost use Rattle.rat_grammar.specs.Values.{value, values, at, entry, entries, re
 ghost use Rattle.rat_grammar.specs.Parts.{as_formula, as_exprs, as_entries, with_entry, name_in};
 ghost use Rattle.rat_grammar.specs.Build.{applied_if, looped, lengthened, pended, begun};
 
-use crate::lists::{into_entries, into_expr, more_entries, ordered_entries, ordered_exprs, pop_value, skip};
+use crate::lists::{
+    into_entries, into_expr, more_entries, ordered_entries, ordered_exprs, pop_value, skip,
+};
 use crate::value::{LoopRest, Range, Value};
-use crate::words::{into_name};
+use crate::words::into_name;
 use f66_tree::{Entry, Expr, Name};
 use ground::List;
 use std::alloc::{AllocError, Global};
@@ -182,4 +184,3 @@ pub fn more_entries_by(alloc: Global, mut parts: Vec<Value>) -> Result<Value, Al
     let second = pop_value(&mut parts);
     more_entries(alloc, second, last)
 }
-

@@ -9,9 +9,12 @@ ghost use Rattle.rat_grammar.specs.Parts.{place_in, name_in, number_in, as_comma
 ghost use Rattle.rat_grammar.specs.Build.{with_label, typed, typed_unit as typed_routine, main as main_unit};
 
 use crate::control::{declare, mark_value};
-use crate::lists::{into_header, into_statement, more_statements, more_units, ordered_names, ordered_statements, ordered_units, pop_value, skip};
+use crate::lists::{
+    into_header, into_statement, more_statements, more_units, ordered_names, ordered_statements,
+    ordered_units, pop_value, skip,
+};
 use crate::value::Value;
-use crate::words::{into_name, take_number, place_of, take_place, type_of};
+use crate::words::{into_name, place_of, take_number, take_place, type_of};
 use f66_tree::{Header, TypeWord};
 use ground::{List, Place};
 use rat_tree::{RatProgram, RatStmt, RatUnit};
@@ -164,4 +167,3 @@ pub fn block_by(mut parts: Vec<Value>) -> Value
     let second = take_place(pop_value(&mut parts));
     Value::Header(second, Header::Block)
 }
-

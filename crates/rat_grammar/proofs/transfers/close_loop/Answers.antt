@@ -11,4 +11,4 @@ returns c =
     let rest = c.args.rest in
     ap entry (many_entry c.ordered_entries-list.result rest.variable rest.range.first rest.range.last rest.range.step
     ∙ ap (λ es. Many (listed es) rest.variable (par_of rest.range.first) (par_of rest.range.last) (par_of rest.range.step))
-        (c.ordered_entries-list.ensures ∙ ap as_entries c.in_ok-entries.ensures))
+    (c.ordered_entries-list.ensures ∙ ap as_entries c.in_ok-entries.ensures))
