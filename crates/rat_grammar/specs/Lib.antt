@@ -1,0 +1,10 @@
+pub mod Table
+pub mod LookaheadTables
+pub mod Words
+pub mod Values
+pub mod Parts
+pub mod Build
+pub mod Choices
+pub mod Limits
+pub mod Ratfor
+pub mod RatforSound

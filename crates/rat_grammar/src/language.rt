@@ -1,0 +1,133 @@
+// Ratfor as a language of the parsing machine.
+
+ghost use Rattle.std.specs.Prelude.{◌≡◌, [], IfOk};
+ghost use Rattle.grammar.specs.Grammar.{EndsWith};
+ghost use Rattle.grammar.specs.Answers.{Answers};
+ghost use Rattle.grammar.specs.Stack.{piled};
+ghost use Rattle.rat_tree.specs.Views.{program_of};
+ghost use Rattle.rat_grammar.specs.Values.{value};
+ghost use Rattle.rat_grammar.specs.Parts.{as_program};
+ghost use Rattle.rat_grammar.specs.Build.{build as built};
+ghost use Rattle.rat_grammar.specs.Limits.{meter, next};
+ghost use Rattle.rat_grammar.specs.Ratfor.{grammar as ratfor, certificate, whole};
+
+use crate::build;
+use crate::counts::{self, Counts};
+use crate::lists::NOWHERE;
+use crate::table::{self, Nonterminal, Production, Terminal};
+use crate::terminals::terminal_at;
+use crate::value::Value;
+use grammar::{Event, Language, Symbol};
+use ground::{List, Refusal, Token};
+use rat_tree::RatProgram;
+use std::alloc::{AllocError, Global};
+
+/// The grammar of Ratfor (Kernighan, Ratfor: A Preprocessor for a Rational Fortran, 1975).
+pub struct Ratfor;
+
+impl Language for Ratfor {
+    ghost use Rattle.rat_grammar.specs.RatforSound.{sound};
+    ghost use Rattle.rat_grammar.specs.Values.{Val};
+
+    type Terminal = Terminal;
+
+    type Nonterminal = Nonterminal;
+
+    type Production = Production;
+
+    type Value = Value;
+
+    type Meters = Counts;
+
+    ghost Val = { Val };
+
+    ghost grammar = { ratfor };
+
+    ghost view = { value };
+
+    ghost meter = { meter };
+
+    ghost certificate = { certificate };
+
+    ghost sound = { sound };
+
+    fn start() -> Production {
+        Production::Whole
+    }
+
+    fn terminal_of(token: &Token) -> Terminal {
+        terminal_at(token)
+    }
+
+    fn same_terminal(one: Terminal, other: Terminal) -> bool {
+        one == other
+    }
+
+    fn predict(nonterminal: Nonterminal, terminal: Terminal) -> Option<Production> {
+        table::predict(nonterminal, terminal)
+    }
+
+    fn symbol_at(production: Production, place: usize) -> Option<Symbol<Terminal, Nonterminal>> {
+        table::symbol_at(production, place)
+    }
+
+    fn token_value(alloc: Global, token: &Token) -> Result<Value, AllocError> {
+        Ok(Value::Token(token.clone()?))
+    }
+
+    fn build(alloc: Global, production: Production, values: Vec<Value>) -> Result<Value, AllocError>
+        ensures { IfOk result (λ v. value v ≡ ratfor.build production (piled value values.items [])) }
+    {
+        build::build(alloc, production, values)
+    }
+
+    fn first_meters() -> Counts {
+        counts::first_counts()
+    }
+
+    fn next_meters(meters: Counts, event: Event<Terminal, Production>) -> Result<Counts, AllocError>
+        ensures { IfOk result (λ m. m ≡ meter.next event meters) }
+    {
+        counts::next_counts(meters, event)
+    }
+
+    fn passed(meters: Counts) -> Option<u64> {
+        counts::passed(meters)
+    }
+}
+
+fn into_program(alloc: Global, part: Value) -> RatProgram
+    ensures { program_of result ≡ as_program (value part) }
+{
+    match part {
+        Value::Program(program) => program,
+        other => {
+            drop(other);
+            RatProgram {
+                units: Vec::new(alloc),
+                finish: NOWHERE,
+            }
+        }
+    }
+}
+
+/// The tree of a Ratfor text whose tokens end with the end of the text. A text that is no program is refused at the first
+/// token after which no tokens make one (Syntax); a token that passes a limit before that is refused with the limit's
+/// number: 3 for nesting above 100, 5 for more than 500 units, 6 for more than 20,000 tokens of a unit, 10 for more than
+/// 1,000 nodes of an expression.
+pub fn parse(alloc: Global, tokens: &List<Token>) -> Result<RatProgram, Refusal>
+    requires { EndsWith ratfor certificate.end tokens.now.items }
+    ensures { Answers ratfor meter whole tokens.now.items result }
+{
+    parse_all(alloc, tokens)
+}
+
+fn parse_all(alloc: Global, tokens: &[Token]) -> Result<RatProgram, Refusal>
+    requires { EndsWith ratfor certificate.end tokens.now }
+    ensures { Answers ratfor meter whole tokens.now result }
+{
+    match grammar::parse::<Ratfor>(alloc, tokens) {
+        Ok(part) => Ok(into_program(alloc, part)),
+        Err(refusal) => Err(refusal),
+    }
+}

@@ -1,0 +1,23 @@
+//! The grammar of Ratfor: from the tokens of a text to its tree, or to its first fault.
+#![tactic(auto)]
+
+mod build;
+mod control;
+mod counts;
+mod declarations;
+mod expressions;
+mod formats;
+mod language;
+mod lists;
+mod plain;
+mod table;
+mod terminals;
+mod transfers;
+mod units;
+mod value;
+mod words;
+
+pub use counts::Counts;
+pub use language::{Ratfor, parse};
+pub use table::{Nonterminal, Production, Terminal};
+pub use value::{LoopRest, Range, Value};
