@@ -12,6 +12,8 @@ mod lists;
 mod plain;
 mod table;
 mod terminals;
+#[cfg(test)]
+mod tests;
 mod transfers;
 mod units;
 mod value;
