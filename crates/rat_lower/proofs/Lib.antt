@@ -1,3 +1,5 @@
 pub mod Spared
 pub mod Tracks
 pub mod Follows
+pub mod Counts
+pub mod Labels
