@@ -3,3 +3,4 @@ pub mod Tracks
 pub mod Follows
 pub mod Counts
 pub mod Labels
+pub mod Parts

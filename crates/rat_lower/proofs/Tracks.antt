@@ -7,15 +7,18 @@ use Rattle.ground.specs.declared.place.Place.{Place}
 use Rattle.ground.specs.declared.trap.Trap.{Trap}
 use Rattle.ground.specs.declared.trap.Trap.TheVariants.{ValueArgument}
 use Rattle.ground.specs.declared.value.Kind.{Kind}
+use Rattle.ground.specs.declared.value.Kind.TheVariants.{Integer}
 use Rattle.ground.specs.Content.{Content}
+use Rattle.f66_tree.specs.declared.expression.Operator.TheVariants.{Eq}
 use Rattle.f66_tree.specs.Forms.{Text, Act, Formula, Par}
 use Rattle.f66_tree.specs.Uses.{Names, NameOfPar, NamesOfAct}
 use Rattle.f66_tree.specs.World.{Store, put_in, State, Tape, World, counted, taping, Finish, Trapped, Wrong, End, Ended, GoesOn, Lost, Out, Gives, Halts, bind, Try, Yields, Traps, Fails, settle, holding, take_one, choose}
 use Rattle.f66_tree.specs.Units.{Spot, Held, Lent, Linkage, Setting, Frame}
-use Rattle.f66_tree.specs.Evaluation.{asked, held, stored, store_at, load, value_of, asks}
+use Rattle.f66_tree.specs.Evaluation.{asked, held, stored, store_at, load, operate, truth_in, value_of, asks}
 use Rattle.f66_tree.specs.Statements.{Exit, Loop, loop_start, loop_turn, taped, took, item_turns, does}
 use Rattle.f66_tree.proofs.Posts.{IfGives, post_any}
-use Rattle.f66_tree.proofs.Related.{Sides, side1, side2, Frames, one, two, Good, Holds, does_holds, asks_hold, value_holds, start_holds, turn_holds}
+use Rattle.f66_tree.proofs.Related.{Sides, side1, side2, Frames, one, two, Good, Holds, thens, settles, does_holds, asks_hold, value_holds, start_holds, turn_holds}
+use Rattle.rat_tree.specs.Meaning.{is_case}
 use Rattle.rat_lower.proofs.Spared.{Lowering, at, spared, near, still, still_near, put_apart, same_held}
 
 module _ (I : Type 0) (bound : I → ℕ) (spot : ℕ) where
@@ -287,3 +290,11 @@ module _ (g : Lowering) (b : ℕ) (tick2 : ℕ → ℕ) (up : (n : ℕ) → n �
 
   pub track_does : (p : Place) (a : Act) → NamesOfAct (g.K g.unit) a → TR Exit (λ i. does (S1 i) (one (both p)) a) (does S2 (two (both p)) a)
   track_does p a used = does_holds ℕ S (T ℕ same_fuel g.spot b) hold many_track (both p) (fine p) a used
+
+  -- a case expression against the value of a switch
+  pub track_case : (p : Place) (a : Content) (e : Formula) → Names (g.K g.unit) e → TR Bool (λ i w. bind (settle p (asked Integer a) w) (λ v1 w1. bind (value_of (S1 i) (one (both p)) e w1) (λ u w2. bind (settle p (operate Eq v1 u) w2) (λ t w3. settle p (truth_in t) w3)))) (is_case S2 (two (both p)) p a e)
+  track_case p a e used =
+      thens ℕ S (T ℕ same_fuel g.spot b) hold (settles ℕ S (T ℕ same_fuel g.spot b) hold (both p) (fine p) (asked Integer a)) (λ v1.
+      thens ℕ S (T ℕ same_fuel g.spot b) hold (track_value p e used) (λ u.
+      thens ℕ S (T ℕ same_fuel g.spot b) hold (settles ℕ S (T ℕ same_fuel g.spot b) hold (both p) (fine p) (operate Eq v1 u)) (λ t.
+      settles ℕ S (T ℕ same_fuel g.spot b) hold (both p) (fine p) (truth_in t))))
