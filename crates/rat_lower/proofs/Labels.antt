@@ -108,6 +108,25 @@ pub within_each : (x : Text) (p : Place) (es : Formulas) (q : ℕ) (next : List 
 within_each x p Nought q next = within_self next
 within_each x p (Also e es) q next = within_cons _ (within_each x p es q next)
 
+-- a statement to begin comes first
+abbrev pub Starts : List Line → Type 0
+Starts rest = (t : Line) × (r : List Line) × (runnable rest ≡ t ∷ r)
+
+starts_test : (p : Place) (o : Option Formula) (m : ℕ) (next : List Line) → Starts next → Starts (with_test p o m next)
+starts_test p None m next h = h
+starts_test p (Some e) m next h = (_, _, refl)
+
+starts_line : (t : Line) (next : List Line) → Starts next → Starts (t ∷ next)
+starts_line t next h = go (is_note t.act) refl
+  where
+    go : (v : Bool) → is_note t.act ≡ v → Starts (t ∷ next)
+    go true e = (h.0, h.1, ap (λ v. if v then runnable next else (t ∷ next)) e ∙ h.2)
+    go false e = (t, next, ap (λ v. if v then runnable next else (t ∷ next)) e)
+
+starts_act : (p : Place) (o : Option Act) (next : List Line) → Starts next → Starts (with_act p o next)
+starts_act p None next h = h
+starts_act p (Some a) next h = starts_line _ next h
+
 module _ (made : ℕ → ℕ) (spare : Text) where
   pub within_tests : (cs : Clauses) (m : ℕ) (next : List Line) → Within next (tests made spare cs m next)
   within_tests NoClause m next = within_self next
@@ -152,25 +171,6 @@ module _ (made : ℕ → ℕ) (spare : Text) where
     within_bodies NoClause m out ls next = within_self next
     within_bodies (AndClause es d ss p cs) m out ls next =
         within_cons _ (within_in (within_cons _ (within_bodies cs (m + 1 + all_labels ss) out ls next)) (within_all ss (m + 1) ls (jump p out ∷ bodies made spare cs (m + 1 + all_labels ss) out ls next)))
-
-  -- a statement to begin comes first
-  abbrev pub Starts : List Line → Type 0
-  Starts rest = (t : Line) × (r : List Line) × (runnable rest ≡ t ∷ r)
-
-  starts_test : (p : Place) (o : Option Formula) (m : ℕ) (next : List Line) → Starts next → Starts (with_test p o m next)
-  starts_test p None m next h = h
-  starts_test p (Some e) m next h = (_, _, refl)
-
-  starts_line : (t : Line) (next : List Line) → Starts next → Starts (t ∷ next)
-  starts_line t next h = go (is_note t.act) refl
-    where
-      go : (v : Bool) → is_note t.act ≡ v → Starts (t ∷ next)
-      go true e = (h.0, h.1, ap (λ v. if v then runnable next else (t ∷ next)) e ∙ h.2)
-      go false e = (t, next, ap (λ v. if v then runnable next else (t ∷ next)) e)
-
-  starts_act : (p : Place) (o : Option Act) (next : List Line) → Starts next → Starts (with_act p o next)
-  starts_act p None next h = h
-  starts_act p (Some a) next h = starts_line _ next h
 
   mutual
     pub starts_code : (s : Command) (n : ℕ) (ls : Rings) (next : List Line) → Starts next → Starts (code_of made spare s n ls next)

@@ -4,3 +4,4 @@ pub mod Follows
 pub mod Counts
 pub mod Labels
 pub mod Parts
+pub mod Loops
