@@ -5,3 +5,4 @@ pub mod Counts
 pub mod Labels
 pub mod Parts
 pub mod Loops
+pub mod Lists
