@@ -6,3 +6,5 @@ pub mod Labels
 pub mod Parts
 pub mod Loops
 pub mod Lists
+pub mod Statements
+pub mod Switches
