@@ -8,3 +8,5 @@ pub mod Loops
 pub mod Lists
 pub mod Statements
 pub mod Switches
+pub mod Distinct
+pub mod Notes
