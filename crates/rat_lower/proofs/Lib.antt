@@ -10,3 +10,7 @@ pub mod Statements
 pub mod Switches
 pub mod Distinct
 pub mod Notes
+pub mod Alone
+pub mod Agreement
+pub mod Whole
+pub mod Top

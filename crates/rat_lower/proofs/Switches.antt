@@ -81,13 +81,14 @@ module _ (g : Lowering) (b : ℕ) (call : ℕ → List Spot → World → Out �
       let no_do : closers (made m) co ≡ [] = no_closers (made m) co (omega (arith, clear (made m), ap bit (same_number (made m)))) in
       let shorter = longer_in (within_all made spare ss (m + 1) ls mid) in
       let over : (pr1 : Extra) (s1 : State) → Comes (R mid pr1) s1 (R next pr1) s1 2 = λ pr1 s1.
-      comes_on (subst (λ z. Comes (R mid pr1) s1 (R z pr1) s1 1) (found out q unique at_out) (past_jump g p out rest pr1 s1)) (past_here g q out next pr1 s1 no_out) in
-      (λ pr w y ok.
-      let whole = landed b ss (λ z. run_from So f0 b ss (Some z)) (run_from So f0 b ss None w) in
-      subst (λ z. Fo b top ls pr (R z pr) w.state y next whole) (sym (found (made m) p unique has))
-      (first g {j1 = 1} {b1 = b} {x1 = 1 + y} whole (keeps_self top pr) (past_here g p (made m) body pr w.state no_do) (omega arith) (omega arith) (omega arith)
-      (passing g b call made spare unique whole (omega arith) (list_right g b call made spare unique ss r.0 r.1 (m + 1) ls mid at_body (λ z. omega (arith, clear z)) top (omega arith) pr w (2 + (1 + y)) (omega arith)) over)),
-      clauses_do cs r.2 (m + 1 + all_labels ss) out q ls next at_out no_out (within_tail _ at_mid) (λ z. omega (arith, clear z)) top (omega (arith, fits, shorter)))
+      comes_on (subst (λ z. Comes (R mid pr1) s1 (R z pr1) s1 1) (found out q unique at_out) (past_jump g p out rest pr1 s1)) (past_here g q out next pr1 s1 no_out) in (
+        λ pr w y ok.
+            let whole = landed b ss (λ z. run_from So f0 b ss (Some z)) (run_from So f0 b ss None w) in
+            subst (λ z. Fo b top ls pr (R z pr) w.state y next whole) (sym (found (made m) p unique has))
+            (first g {j1 = 1} {b1 = b} {x1 = 1 + y} whole (keeps_self top pr) (past_here g p (made m) body pr w.state no_do) (omega arith) (omega arith) (omega arith)
+            (passing g b call made spare unique whole (omega arith) (list_right g b call made spare unique ss r.0 r.1 (m + 1) ls mid at_body (λ z. omega (arith, clear z)) top (omega arith) pr w (2 + (1 + y)) (omega arith)) over)),
+        clauses_do cs r.2 (m + 1 + all_labels ss) out q ls next at_out no_out (within_tail _ at_mid) (λ z. omega (arith, clear z)) top (omega (arith, fits, shorter)),
+      )
 
   module _ (holds : HoldsValue g spare) where
     each_follows : (p : Place) (es : Formulas) → NamesOfAll (g.K g.unit) es → (q : ℕ) (top : ℕ) (ls : Rings) (pr : Extra) (rest next : List Line) (yea nay : Then) →
