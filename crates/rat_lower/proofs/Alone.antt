@@ -1,15 +1,12 @@
 -- A main unit by itself: both linkages, where the target's unit may declare the spare name besides.
-use Rattle.std.proofs.Common.{◌≡◌, ◌≢◌, ℕ, zero, suc, ◌+◌, ◌*◌, ◌^◌, ◌≤◌, ◌<◌, Bool, true, false, true≢false, List, [], ◌∷◌, Option, Some, None, refl, sym, ap, ◌∙◌, subst, arith, pow_pos, mul_assoc}
+use Rattle.std.proofs.Common.{◌≡◌, ◌≢◌, ℕ, zero, suc, ◌+◌, ◌*◌, ◌^◌, ◌<◌, Bool, true, false, List, [], ◌∷◌, Option, Some, None, refl, sym, ap, ◌∙◌, subst, arith}
 use Rattle.std.specs.Prelude.{if◌then◌else◌, ◌||◌, ⊤}
 use Rattle.std.specs.Str.{bytes_eq}
 use Rattle.std.proofs.Math.Nat.{pow-zero, pow-suc}
 use Rattle.std.proofs.lemmas.Slice.Eq.{bytes_eq-Decides}
-use Rattle.ground.specs.declared.value.Kind.TheVariants as kinds
-use Rattle.f66_tree.specs.declared.declaration.TypeWord.{TypeWord}
 use Rattle.f66_tree.specs.declared.declaration.TypeWord.TheVariants.{Integer}
-use Rattle.f66_tree.specs.Forms.{Text, Par, Declared, MainUnit, Area, Act, Assigns, Goes, Selects, Signs, Chooses, Loops, Invokes, Passes, Stops, Returns, Reads, Writes, Formats, Types, Dimensions, Commons, Equivalences, Presets, Line}
-use Rattle.f66_tree.specs.World.{World, Out}
-use Rattle.f66_tree.specs.Units.{Note, by_letter, if_any, sizes_in, sizes_in_areas, sizes_by, sizes_of, lists, type_in, kind_by, kind_of, format_of, Spot, Held, Lent, Linkage}
+use Rattle.f66_tree.specs.Forms.{Text, Par, Declared, Area, Act, Assigns, Goes, Selects, Signs, Chooses, Loops, Invokes, Passes, Stops, Returns, Reads, Writes, Formats, Types, Dimensions, Commons, Equivalences, Presets, Line}
+use Rattle.f66_tree.specs.Units.{Note, by_letter, if_any, sizes_in, sizes_in_areas, sizes_by, sizes_of, type_in, kind_by, Spot, Held, Lent}
 use Rattle.f66_tree.specs.Uses.{NamesOfPars}
 use Rattle.f66_tree.specs.OneUnit.{list_number, one_unit}
 use Rattle.f66_tree.proofs.Posts.{IsScope}

@@ -13,4 +13,6 @@ pub mod Notes
 pub mod Alone
 pub mod Agreement
 pub mod Whole
+pub mod Exits
+pub mod Fits
 pub mod Top

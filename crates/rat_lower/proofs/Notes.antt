@@ -1,5 +1,5 @@
 -- The statements of a unit that are not executed are those of its source, in their order.
-use Rattle.std.proofs.Common.{◌≡◌, ℕ, ◌+◌, List, [], ◌∷◌, Option, Some, None, refl, ap, ◌∙◌}
+use Rattle.std.proofs.Common.{◌≡◌, ℕ, ◌+◌, List, ◌∷◌, Option, Some, None, refl, ap, ◌∙◌}
 use Rattle.ground.specs.declared.place.Place.{Place}
 use Rattle.f66_tree.specs.Forms.{Text, Formula, Formulas, Nought, Also, Act, Line}
 use Rattle.f66_tree.specs.Units.{notes_of}

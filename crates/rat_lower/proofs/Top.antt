@@ -1,30 +1,29 @@
 -- A main unit of Ratfor and the unit of FORTRAN that it becomes agree.
-use Rattle.std.proofs.Common.{◌≡◌, ◌≢◌, ℕ, zero, suc, ◌+◌, ◌≤◌, Bool, true, false, true≢false, List, [], ◌∷◌, refl, sym, ap, ◌∙◌, subst, arith}
+use Rattle.std.proofs.Common.{◌≡◌, ◌≢◌, ℕ, suc, ◌+◌, ◌≤◌, Bool, true, false, true≢false, List, [], ◌∷◌, refl, sym, ap, ◌∙◌, subst, arith}
 use Rattle.std.specs.Prelude.{nat_eq, if◌then◌else◌, ⊤}
 use Rattle.ground.specs.declared.place.Place.{Place}
-use Rattle.ground.specs.Content.{Content, Nothing}
+use Rattle.ground.specs.Content.{Nothing}
 use Rattle.f66_tree.specs.Forms.{Text, Line}
-use Rattle.f66_tree.specs.World.{Record, Store, put_in, fresh, first_tape, State, World, Out, Lost, Shown, shown}
+use Rattle.f66_tree.specs.World.{Record, put_in, fresh, first_tape, State, World, Out, Lost, Shown, shown}
 use Rattle.f66_tree.specs.Units.{Note, notes_of, Spot, Linkage}
-use Rattle.f66_tree.specs.Execution.{runnable, stand, no_loops, start, exec, f66}
+use Rattle.f66_tree.specs.Execution.{stand, no_loops, nowhere, start, exec, f66}
 use Rattle.f66_tree.specs.Agreement.{Agrees}
 use Rattle.f66_tree.specs.OneUnit.{one_unit, executed}
 use Rattle.f66_tree.proofs.Longer.{f66_extends}
 use Rattle.rat_tree.specs.Commands.{Commands}
 use Rattle.rat_tree.specs.Meaning.{Ours, source_call}
-use Rattle.rat_tree.specs.Uses.{NamesOfCommands}
 use Rattle.rat_tree.proofs.AnyCommands.{any_commands}
 use Rattle.rat_lower.specs.Code.{have_switch, all_code, ends_so, stop_unless, declared_if, unit_code}
-use Rattle.rat_lower.specs.OneUnit.{notes_of_unit, means}
-use Rattle.rat_lower.specs.Checked.{Lacks, IsChecked}
-use Rattle.rat_lower.proofs.Spared.{Lowering, at, F}
-use Rattle.rat_lower.proofs.Counts.{occurs, ends, all_heads, all_dos}
-use Rattle.rat_lower.proofs.Labels.{Within, within_self, within_cons}
+use Rattle.rat_lower.specs.OneUnit.{all_notes, notes_of_unit, means}
+use Rattle.rat_lower.specs.Checked.{IsChecked}
+use Rattle.rat_lower.proofs.Spared.{at, F}
+use Rattle.rat_lower.proofs.Counts.{all_heads, all_dos}
+use Rattle.rat_lower.proofs.Labels.{within_self, within_cons}
 use Rattle.rat_lower.proofs.Distinct.{distinct}
 use Rattle.rat_lower.proofs.Notes.{notes_all}
-use Rattle.rat_lower.proofs.Parts.{HoldsValue}
 use Rattle.rat_lower.proofs.Alone.{unspared, spare_note, with_spare, holds_value}
 use Rattle.rat_lower.proofs.Whole.{Run_shows, unit_ahead}
+use Rattle.rat_lower.proofs.Fits.{never_lost}
 use Rattle.rat_lower.proofs.Agreement.{Ahead, agrees}
 
 -- in a store that holds nothing, nothing can be put into the spare unit
@@ -35,7 +34,7 @@ nothing_put p = λ i q. by_unit (nat_eq q p) i
     by_unit true = refl
     by_unit false = refl
 
-module _ (made : ℕ → ℕ) (spare : Text) (first last : Place) (ss : Commands) (checked : IsChecked made spare ss) (input : List Record) (never_lost : (b : ℕ) → (means ss input b).end ≢ Lost) where
+module _ (made : ℕ → ℕ) (spare : Text) (first last : Place) (ss : Commands) (checked : IsChecked made spare ss) (input : List Record) where
   abbrev notes : List Note
   notes = notes_of_unit ss
 
@@ -55,17 +54,20 @@ module _ (made : ℕ → ℕ) (spare : Text) (first last : Place) (ss : Commands
   same_notes : notes_of code1 ≡ notes
   same_notes = notes_all made spare ss 0 [] (stop_unless added last) ∙ by_end added
     where
-      by_end : (v : Bool) → Rattle.rat_lower.specs.OneUnit.all_notes ss (notes_of (stop_unless v last)) ≡ notes
+      by_end : (v : Bool) → all_notes ss (notes_of (stop_unless v last)) ≡ notes
       by_end true = refl
       by_end false = refl
 
   abbrev call : ℕ → ℕ → List Spot → World → Out ⊤
   call b = source_call (one_unit notes) (λ u. Ours ss) b 0
 
+  found : (b : ℕ) → (means ss input b).end ≢ Lost
+  found b = never_lost (one_unit notes) (λ x. refl) (call b) b (record { unit = 0; actuals = []; place = nowhere }) ss checked.built checked.fits checked.lands (at s0 0 0)
+
   -- both linkages, once the target's is known
   agrees_by : (l : Linkage) (code : List Line) (runs : ℕ → Shown) → ((b : ℕ) → Ahead b (means ss input b) runs) → ((n : ℕ) → runs n ≡ f66 l (λ u. code) input n) → Agrees (means ss input) (f66 l (λ u. code) input)
   agrees_by l code runs ahead same =
-      agrees (means ss input) (f66 l (λ u. code) input) (λ m n le. f66_extends l (λ u. code) input m n le) (λ b. subst (λ t. Ahead b (means ss input b) t) (λ i n. same n i) (ahead b)) never_lost
+      agrees (means ss input) (f66 l (λ u. code) input) (λ m n le. f66_extends l (λ u. code) input m n le) (λ b. subst (λ t. Ahead b (means ss input b) t) (λ i n. same n i) (ahead b)) found
 
   without_switch : have_switch ss ≡ false → Agrees (means ss input) (f66 (one_unit notes) (λ u. code1) input)
   without_switch none_there =
@@ -83,8 +85,9 @@ module _ (made : ℕ → ℕ) (spare : Text) (first last : Place) (ss : Commands
       (λ b. unit_ahead g b s0 (call b) made spare added last ss checked.built lacks.statements (λ e. holds_value spare notes code lacks.dimensions) once (within_cons _ (within_self code1)) refl (λ l. omega arith) (λ l. omega arith))
       (λ n. ap (λ st. shown (exec (one_unit (spare_note spare ∷ notes)) (λ u. code) (suc n) (F g) (stand code no_loops) (record { state = record { store = st; tape = first_tape input }; left = n; count = 0 }))) (nothing_put g.spot))
 
-  pub agrees_if_found : Agrees (means ss input) (executed (unit_code made spare first last ss) input)
-  agrees_if_found = by_switch (have_switch ss) refl
+  -- the unit does what the source means
+  pub unit_agrees : Agrees (means ss input) (executed (unit_code made spare first last ss) input)
+  unit_agrees = by_switch (have_switch ss) refl
     where
       by_switch : (v : Bool) → have_switch ss ≡ v → Agrees (means ss input) (executed (declared_if v first spare code1) input)
       by_switch false e = subst (λ N. Agrees (means ss input) (f66 (one_unit N) (λ u. code1) input)) (sym same_notes) (without_switch e)

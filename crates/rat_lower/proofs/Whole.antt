@@ -1,10 +1,10 @@
 -- A whole main unit: from what its statements do to what its run shows.
-use Rattle.std.proofs.Common.{◌≡◌, ◌≢◌, ℕ, zero, suc, ◌+◌, ◌*◌, ◌≤◌, ◌<◌, Bool, true, false, List, [], ◌∷◌, length, Option, Some, None, refl, sym, ap, ◌∙◌, subst, arith}
+use Rattle.std.proofs.Common.{◌≡◌, ℕ, zero, suc, ◌+◌, ◌≤◌, ◌<◌, Bool, true, false, List, [], ◌∷◌, length, None, refl, sym, ap, ◌∙◌, subst, arith}
 use Rattle.std.specs.Prelude.{⊤}
 use Rattle.ground.specs.declared.place.Place.{Place}
 use Rattle.ground.specs.Content.{Content, Nothing}
 use Rattle.f66_tree.specs.Forms.{Text, Stops, Line, bare}
-use Rattle.f66_tree.specs.World.{State, World, counted, Done, Finish, End, Ended, GoesOn, Lost, Out, Gives, Halts, Shown, shown}
+use Rattle.f66_tree.specs.World.{State, World, Done, Finish, Ended, GoesOn, Lost, Out, Gives, Halts, Shown, shown}
 use Rattle.f66_tree.specs.Units.{is_main, Spot}
 use Rattle.f66_tree.specs.Execution.{runnable, no_loops, past_end, fetch, exec}
 use Rattle.f66_tree.specs.Agreement.{Same}
@@ -12,12 +12,11 @@ use Rattle.rat_tree.specs.Commands.{Commands}
 use Rattle.rat_tree.specs.Meaning.{Went, Jumps, Backs, Leave, Again, Flow, all_meaning, ended}
 use Rattle.rat_tree.specs.Uses.{NamesOfCommands}
 use Rattle.rat_lower.specs.Code.{have_switch, all_code, stop_unless}
-use Rattle.rat_lower.specs.Checked.{AreBuilt, all_given}
+use Rattle.rat_lower.specs.Checked.{AreBuilt}
 use Rattle.rat_lower.proofs.Spared.{Lowering, at, near, spared, F}
-use Rattle.rat_lower.proofs.Follows.{Extra, keeps_self, Part, Comes, none_begun, Run, Under, Follows, first}
+use Rattle.rat_lower.proofs.Follows.{Extra, keeps_self, none_begun, Run, Under, Follows, first}
 use Rattle.rat_lower.proofs.Counts.{occurs, occurs-all, ends, ends-all, all_heads, all_dos}
 use Rattle.rat_lower.proofs.Labels.{AreUnique, Within}
-use Rattle.rat_lower.proofs.Distinct.{distinct}
 use Rattle.rat_lower.proofs.Parts.{Src, HoldsValue}
 use Rattle.rat_lower.proofs.Lists.{list_right}
 use Rattle.rat_lower.proofs.Switches.{all_right, from_right}
