@@ -16,3 +16,7 @@ pub mod Whole
 pub mod Exits
 pub mod Fits
 pub mod Top
+pub mod NoFault
+pub mod Accepted
+pub mod Once
+pub mod BuiltCode
