@@ -1,20 +1,14 @@
 -- A main unit without a fault: its statements are built, its loops are left from within, its jumps land, no switch is there.
-use Rattle.std.proofs.Common.{◌≡◌, ℕ, zero, suc, ◌+◌, ◌≤◌, ◌<◌, Bool, true, false, true≢false, List, [], ◌∷◌, ◌++◌, Option, Some, None, refl, sym, ap, ◌∙◌, subst, arith, append-nil, append_assoc, leb-true}
-use Rattle.std.specs.Prelude.{not, nat_eq, nat_le, ◌&&◌, ◌||◌, if◌then◌else◌, ⊤}
-use Rattle.std.proofs.lemmas.Bool.{eqb-true}
-use Rattle.std.proofs.lemmas.Option.{none-some}
-use Rattle.ground.specs.declared.place.Place.{Place}
-use Rattle.f66_tree.specs.Forms.{Text, Formula, Act, Assigns, Goes, Selects, Signs, Chooses, Loops, Invokes, Passes, Stops, Returns, Reads, Writes, Formats, Types, Dimensions, Commons, Equivalences, Presets, Line}
+use Rattle.std.proofs.Common.{◌≡◌, ℕ, suc, ◌≤◌, true, false, true≢false, List, [], ◌∷◌, ◌++◌, Option, Some, None, refl, sym, leb-true}
+use Rattle.std.specs.Prelude.{nat_le, ◌&&◌}
+use Rattle.f66_tree.specs.Forms.{Act, Assigns, Goes, Selects, Signs, Chooses, Loops, Invokes, Passes, Stops, Returns, Reads, Writes, Formats, Types, Dimensions, Commons, Equivalences, Presets}
 use Rattle.f66_tree.specs.Units.{Note}
-use Rattle.f66_tree.specs.Execution.{has_label}
-use Rattle.f66_tree.specs.Built.{is_condition, is_plain, is_built, are_built}
-use Rattle.rat_tree.specs.Commands.{Command, Empty, Together, When, Either, Whilst, Through, Repeats, Until, Counts, Switches, Leaves, Turns, GivesBack, Plainly, Marked, Commands, NoCommand, AndCommand, Clauses, NoClause, AndClause}
-use Rattle.name_alloc.specs.Numbers.{is_in}
-use Rattle.rat_lower.specs.Code.{Rings, jump, unless, here, with_test, with_act, labels, has_switch, have_switch, code_of, all_code}
-use Rattle.rat_lower.specs.Checked.{IsPlain, IsPlainIfAny, IsBuilt, AreBuilt, Fits, AllFit, stands_in, AllStandIn, ActLands, ActLandsIfAny, Lands, AllLand, bit, given, all_given, clause_given}
-use Rattle.rat_lower.specs.Refusals.{are_labels, all_stand, is_aimed, aimed_if_any, plain_if_any, condition_if_any, is_count, own, labels_in, all_labels_in, clause_labels_in, Found, or_else, fault_at, fault_of_formula, fault_of_none, fault_of_parts, fault_of_loop, fault_of_act, fault_in, fault_in_all}
-
-use Rattle.rat_lower.proofs.NoFault.{and_true, both_false, or_none, Keeps, keeps, plain_is}
+use Rattle.f66_tree.specs.Built.{is_condition, is_plain}
+use Rattle.rat_tree.specs.Commands.{Command, Empty, Together, When, Either, Whilst, Through, Repeats, Until, Counts, Switches, Leaves, Turns, GivesBack, Plainly, Marked, Commands, NoCommand, AndCommand}
+use Rattle.rat_lower.specs.Code.{has_switch, have_switch}
+use Rattle.rat_lower.specs.Checked.{IsPlainIfAny, IsBuilt, AreBuilt, Fits, AllFit, stands_in, AllStandIn, ActLands, ActLandsIfAny, Lands, AllLand}
+use Rattle.rat_lower.specs.Refusals.{are_labels, all_stand, is_aimed, aimed_if_any, plain_if_any, condition_if_any, is_count, own, labels_in, or_else, fault_of_formula, fault_of_none, fault_of_parts, fault_of_loop, fault_in, fault_in_all}
+use Rattle.rat_lower.proofs.NoFault.{and_true, both_false, or_none, keeps, plain_is}
 
 module _ (notes : List Note) where
   all_aimed : (around : List Commands) (ls : List ℕ) → all_stand around ls ≡ true → AllStandIn ls around

@@ -20,3 +20,4 @@ pub mod NoFault
 pub mod Accepted
 pub mod Once
 pub mod BuiltCode
+pub mod Checks

@@ -1,24 +1,20 @@
 -- In a main unit without a fault no label stands twice.
-use Rattle.std.proofs.Common.{◌≡◌, ℕ, zero, suc, ◌+◌, ◌≤◌, ◌<◌, Bool, true, false, true≢false, List, [], ◌∷◌, ◌++◌, Option, Some, None, refl, sym, ap, ◌∙◌, subst, arith, append-nil, append_assoc, leb-true}
-use Rattle.std.specs.Prelude.{not, nat_eq, nat_le, ◌&&◌, ◌||◌, if◌then◌else◌, ⊤}
+use Rattle.std.proofs.Common.{◌≡◌, ℕ, suc, ◌+◌, ◌≤◌, Bool, true, false, true≢false, List, [], ◌∷◌, ◌++◌, Option, Some, None, refl, sym, ap, subst, arith}
+use Rattle.std.specs.Prelude.{not, nat_eq, nat_le, ◌&&◌, ◌||◌}
 use Rattle.std.proofs.lemmas.Bool.{eqb-true}
-use Rattle.std.proofs.lemmas.Option.{none-some}
 use Rattle.ground.specs.declared.place.Place.{Place}
-use Rattle.f66_tree.specs.Forms.{Text, Formula, Par, Act, Assigns, Goes, Selects, Signs, Chooses, Loops, Invokes, Passes, Stops, Returns, Reads, Writes, Formats, Types, Dimensions, Commons, Equivalences, Presets, Line}
+use Rattle.f66_tree.specs.Forms.{Text, Formula, Par, Act}
 use Rattle.f66_tree.specs.Units.{Note}
 use Rattle.f66_tree.specs.Execution.{has_label}
-use Rattle.f66_tree.specs.Built.{is_condition, is_par, is_plain, is_built, are_built}
+use Rattle.f66_tree.specs.Built.{is_condition, is_par, is_plain}
 use Rattle.rat_tree.specs.Commands.{Command, Empty, Together, When, Either, Whilst, Through, Repeats, Until, Counts, Switches, Leaves, Turns, GivesBack, Plainly, Marked, Commands, NoCommand, AndCommand, Clauses, NoClause, AndClause}
 use Rattle.name_alloc.specs.Numbers.{is_in}
-use Rattle.rat_lower.specs.Code.{Rings, jump, unless, here, with_test, with_act, labels, has_switch, have_switch, code_of, all_code}
-use Rattle.rat_lower.specs.Checked.{IsPlain, IsPlainIfAny, IsBuilt, AreBuilt, Fits, AllFit, stands_in, AllStandIn, ActLands, ActLandsIfAny, Lands, AllLand, bit, given, all_given, clause_given}
-use Rattle.rat_lower.specs.Refusals.{are_labels, all_stand, is_aimed, aimed_if_any, plain_if_any, condition_if_any, is_count, own, labels_in, all_labels_in, clause_labels_in, Found, or_else, fault_at, fault_of_formula, fault_of_none, fault_of_parts, fault_of_loop, fault_of_act, fault_in, fault_in_all}
-
-use Rattle.rat_lower.proofs.NoFault.{and_true, or_none, not_true, Keeps, keeps}
-use Rattle.rat_lower.proofs.Counts.{same_number}
+use Rattle.rat_lower.specs.Checked.{bit, given, all_given, clause_given}
+use Rattle.rat_lower.specs.Refusals.{are_labels, is_aimed, aimed_if_any, plain_if_any, condition_if_any, is_count, own, labels_in, all_labels_in, clause_labels_in, or_else, fault_of_formula, fault_of_none, fault_of_parts, fault_of_loop, fault_of_act, fault_in, fault_in_all}
+use Rattle.rat_lower.proofs.NoFault.{and_true, or_none, not_true, keeps}
 
 -- how often a label stands among others
-abbrev times : ℕ → List ℕ → ℕ
+abbrev pub times : ℕ → List ℕ → ℕ
 times l [] = 0
 times l (m ∷ ms) = bit (nat_eq m l) + times l ms
 
@@ -27,7 +23,7 @@ times_append l [] ns = omega arith
 times_append l (m ∷ ms) ns = omega (arith, times_append l ms ns)
 
 -- a label that is not there stands there no time
-not_there : (l : ℕ) (ms : List ℕ) → is_in ms l ≡ false → times l ms ≡ 0
+pub not_there : (l : ℕ) (ms : List ℕ) → is_in ms l ≡ false → times l ms ≡ 0
 not_there l [] e = refl
 not_there l (m ∷ ms) e = by_first (nat_eq m l) e (not_there l ms)
   where
@@ -81,7 +77,7 @@ mutual
   labels_given l (Plainly m p a) = own_given l m
   labels_given l (Marked m p c) = omega (arith, labels_given l c)
 
-  all_labels_given : (l : ℕ) (ss : Commands) → times l (all_labels_in ss) ≡ all_given l ss
+  pub all_labels_given : (l : ℕ) (ss : Commands) → times l (all_labels_in ss) ≡ all_given l ss
   all_labels_given l NoCommand = refl
   all_labels_given l (AndCommand c ss) = omega (arith, times_append l (labels_in c) (all_labels_in ss), labels_given l c, all_labels_given l ss)
 

@@ -14,13 +14,13 @@ use Rattle.rat_tree.specs.Commands.{Commands}
 use Rattle.rat_tree.specs.Meaning.{Ours, source_call}
 use Rattle.rat_tree.proofs.AnyCommands.{any_commands}
 use Rattle.rat_lower.specs.Code.{have_switch, all_code, ends_so, stop_unless, declared_if, unit_code}
-use Rattle.rat_lower.specs.OneUnit.{all_notes, notes_of_unit, means}
+use Rattle.rat_lower.specs.OneUnit.{notes_of_unit, means}
 use Rattle.rat_lower.specs.Checked.{IsChecked}
 use Rattle.rat_lower.proofs.Spared.{at, F}
 use Rattle.rat_lower.proofs.Counts.{all_heads, all_dos}
 use Rattle.rat_lower.proofs.Labels.{within_self, within_cons}
 use Rattle.rat_lower.proofs.Distinct.{distinct}
-use Rattle.rat_lower.proofs.Notes.{notes_all}
+use Rattle.rat_lower.proofs.Notes.{notes_whole}
 use Rattle.rat_lower.proofs.Alone.{unspared, spare_note, with_spare, holds_value}
 use Rattle.rat_lower.proofs.Whole.{Run_shows, unit_ahead}
 use Rattle.rat_lower.proofs.Fits.{never_lost}
@@ -52,11 +52,7 @@ module _ (made : ℕ → ℕ) (spare : Text) (first last : Place) (ss : Commands
   once l = distinct made checked.rises ss checked.unused checked.once l
 
   same_notes : notes_of code1 ≡ notes
-  same_notes = notes_all made spare ss 0 [] (stop_unless added last) ∙ by_end added
-    where
-      by_end : (v : Bool) → all_notes ss (notes_of (stop_unless v last)) ≡ notes
-      by_end true = refl
-      by_end false = refl
+  same_notes = notes_whole made spare ss added last
 
   abbrev call : ℕ → ℕ → List Spot → World → Out ⊤
   call b = source_call (one_unit notes) (λ u. Ours ss) b 0
