@@ -21,3 +21,4 @@ pub mod Accepted
 pub mod Once
 pub mod BuiltCode
 pub mod Checks
+mod Examples
