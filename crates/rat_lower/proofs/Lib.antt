@@ -1,0 +1,24 @@
+pub mod Spared
+pub mod Tracks
+pub mod Follows
+pub mod Counts
+pub mod Labels
+pub mod Parts
+pub mod Loops
+pub mod Lists
+pub mod Statements
+pub mod Switches
+pub mod Distinct
+pub mod Notes
+pub mod Alone
+pub mod Agreement
+pub mod Whole
+pub mod Exits
+pub mod Fits
+pub mod Top
+pub mod NoFault
+pub mod Accepted
+pub mod Once
+pub mod BuiltCode
+pub mod Checks
+mod Examples
