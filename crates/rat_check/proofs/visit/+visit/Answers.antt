@@ -6,7 +6,8 @@ use Rattle.rat_check.specs.Parts.{Rests, Asks, part, parts_of, parts_in, clause_
 use Rattle.rat_check.specs.FormViews.{depth_of, other_parts, until_parts}
 use Rattle.rat_check.specs.Survey.{is_among}
 use Rattle.rat_check.proofs.StatementLemmas.{block_parts, switch_parts, if_parts, repeat_parts, then_noted}
-use Rattle.rat_check.proofs.PartLemmas.{behind}
+use Rattle.rat_check.proofs.PartLemmas.{behind, list_noted}
+use Rattle.rat_check.proofs.LoopLemmas.{statement_passed, clause_passed}
 use Rattle.rat_check.proofs.visit.+visit.Goals as goal
 
 pub visit-returns-in_ok-note-in-Block : goal.visit-returns-in_ok-note-in-Block
@@ -48,3 +49,20 @@ visit-returns-in_ok-visit-in-Repeat t c =
       (λ q. until_parts k q c.in-Repeat.until) first
       (ap (λ x. head ∷ (parts_of (suc k) r None (command x) ++ until_parts k r c.in-Repeat.until)) c.deref-in-Repeat.ensures ∙ repeat_parts k r c.args.statement.now c.in-Repeat.body c.in-Repeat.until c.in-Repeat.is)
       c.note_until.ensures
+
+pub visit_each-loop-statement-preserved : goal.visit_each-loop-statement-preserved
+visit_each-loop-statement-preserved t c =
+    let l = c.loop-statement in
+    let next = statement_passed c.args.list.now l.statement-index c.statement-item.result (depth_of c.args.around.now) c.args.survey.now l.survey c.visit.new.survey _ c.loop-statement-test.true c.statement-item.is l.invariant.reach l.invariant.noted c.in_ok-visit.ensures in
+    record { reach = next.0; noted = next.1 }
+
+pub visit_clauses-loop-clause-preserved : goal.visit_clauses-loop-clause-preserved
+visit_clauses-loop-clause-preserved t c =
+    let l = c.loop-clause in
+    let next = clause_passed c.args.list.now l.clause-index c.clause-item.result (depth_of c.args.around.now) l.seen c.args.survey.now l.survey c.visit_clause.new.survey _ c.loop-clause-test.true c.clause-item.is l.invariant.reach l.invariant.noted c.in_ok-visit_clause.ensures in
+    record { reach = next.0; noted = next.1 }
+
+pub visit_list-returns : goal.visit_list-returns
+visit_list-returns t c =
+    list_noted c.args.survey.now c.enter.new.self c.visit_each.new.survey c.leave.new.self (depth_of c.args.around.now) (commands c.args.list.now) c.in_ok-outside.outside
+      c.in_ok-outside.ensures.outside c.in_ok-outside.ensures.inside c.in_ok-visit_each.ensures c.leave.ensures
