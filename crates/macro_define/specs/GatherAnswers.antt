@@ -1,6 +1,8 @@
 -- What gather answers.
-use Rattle.std.specs.Prelude.{◌≡◌, ⊤, ℕ, List, Option, Result, Ok, Err}
+use Rattle.std.specs.Prelude.{◌≡◌, ◌++◌, ◌∷◌, [], ⊤, ℕ, List, Option, Result, Ok, Err}
 use Rattle.ground.specs.declared.token.Dialect.{Dialect}
+use Rattle.ground.specs.declared.token.Token.{Token}
+use Rattle.ground.specs.declared.token.TokenKind.TheVariants.{TextEnd}
 use Rattle.macro_define.specs.declared.whole_text.Gathered.{Gathered}
 use Rattle.macro_define.specs.declared.refusal.GatherRefusal.{GatherRefusal}
 use Rattle.macro_define.specs.declared.refusal.GatherRefusal.TheVariants as refusals
@@ -14,6 +16,10 @@ IsAnswer told names (Ok all) = (w : World) × ((told ≡ Ok w) × (all.tokens.it
 IsAnswer told names (Err (refusals.Fault fault name)) = told ≡ Err (record { fault = fault; file = name; fetched = names })
 IsAnswer told names (Err refusals.Library) = ⊤
 IsAnswer told names (Err refusals.Memory) = ⊤
+
+-- the last token is the end of the text
+abbrev pub EndsText : List Token → Type 0
+EndsText ts = (front : List Token) × (last : Token) × (ts ≡ front ++ last ∷ []) × (last.kind ≡ TextEnd)
 
 -- The answer is that of the definition, by what the library tells, or where it tells nothing by what its fetches gave. F
 -- holds of the names that were fetched.

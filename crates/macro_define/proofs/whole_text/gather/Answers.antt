@@ -3,6 +3,7 @@ use Rattle.macro_define.specs.declared.whole_text.Gathered.{Gathered}
 use Rattle.macro_define.specs.Answers.{knows}
 use Rattle.macro_define.specs.Expansion.{gathered, text_made}
 use Rattle.macro_define.specs.Gathered.{Gathers, world}
+use Rattle.macro_define.proofs.EndLemmas.{answer-ends}
 use Rattle.macro_define.proofs.WholeLemmas.{answers-failed, answers-memory, answers-whole, gathered-start, through-gathered}
 use Rattle.macro_define.proofs.whole_text.gather.Goals as goal
 
@@ -49,3 +50,9 @@ returns-clause-text g c =
     c.in_ok-add_text.ensures.made
     (λ a b h. answers-whole (text_made d 10 bytes (world old (knows a []))) (gathered d name a) new b all
     (gathered-start d name bytes old a c.as_bytes-name.ensures.value is.tokens is.left is.macros is.files is.room) h refl c.in_ok-files.ensures)
+
+pub returns-clause-ended : goal.returns-clause-ended
+returns-clause-ended g c =
+    let all : Gathered = record { tokens = c.add_text.new.gathering.output.tokens; files = c.in_ok-files.files } in
+    let is = returns-clause-text g c in
+    answer-ends c.args.dialect c.args.name.now is.known is.names all is.by
