@@ -16,7 +16,7 @@ use Rattle.macro_define.specs.declared.defines.FirstWord.TheVariants.{Define, In
 use Rattle.macro_define.specs.declared.whole_text.Gathered.{Gathered}
 use Rattle.macro_define.specs.Answers.{Answers, Known}
 use Rattle.macro_define.specs.Defines.{Broken, Closed, CutOff, Defined, Enclosed, define_from, define_of, define_of_name, enclosed_define, enclosed_text, ends_line, ends_text, first_word, is_close, is_comma, is_full, is_open, is_reserved, line_text, name_in, named_define, with_enclosed}
-use Rattle.macro_define.specs.Expansion.{Left, Stop, World, behind_name, fetched_file, file_made, file_number, from_tokens, gathered, in_file, include_made, include_token, is_quoted, is_text_end, part, plain_token, quoted_next, start, text_made, with_made}
+use Rattle.macro_define.specs.Expansion.{Left, Stop, World, behind_name, fetched_file, file_made, file_number, from_tokens, gathered, in_file, include_made, include_token, is_quoted, is_text_end, part, plain_token, quoted_next, start, with_made}
 use Rattle.macro_define.specs.GatherAnswers.{EndsText, IsAnswer}
 use Rattle.macro_define.specs.Macros.{Macros, key}
 use Rattle.macro_define.specs.Made.{Made, and_then, fault_at, put}

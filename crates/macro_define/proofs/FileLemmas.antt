@@ -1,10 +1,9 @@
 -- What the tokens of a file and its includes make, step by step.
-use Rattle.std.proofs.Common.{◌≡◌, ℕ, zero, suc, ◌-◌, ◌==◌, ◌≤◌, Bool, true, false, nat_lt, List, [], ◌∷◌, length, refl, sym, ◌∙◌, ap, subst, arith, Some, None, Ok, Err, true≢false, inl, inr}
+use Rattle.std.proofs.Common.{◌≡◌, ℕ, zero, suc, ◌-◌, ◌==◌, ◌≤◌, Bool, true, false, nat_lt, List, [], ◌∷◌, length, refl, sym, ◌∙◌, ap, subst, arith, Some, None, Ok, Err, true≢false}
 use Rattle.std.specs.Prelude.{Option, Result, IsErr}
 use Rattle.std.specs.Result.{IsErrAnd}
 use Rattle.std.proofs.lemmas.Result.{err_from_is_err_and}
 use Rattle.ground.specs.declared.fault.Fault.{Fault}
-use Rattle.ground.specs.declared.fault.Refusal.TheVariants.{Fault as Faulty}
 use Rattle.ground.specs.declared.place.Place.{Place}
 use Rattle.ground.specs.declared.token.Dialect.{Dialect}
 use Rattle.ground.specs.declared.token.Token.{Token}
@@ -17,7 +16,7 @@ use Rattle.macro_define.specs.declared.refusal.GatherRefusal.TheVariants as refu
 use Rattle.macro_define.specs.Answers.{Answers}
 use Rattle.macro_define.specs.Defines.{ends_line, first_word}
 use Rattle.macro_define.specs.Expansion.{behind_name, Left, Stop, World, end_of, fetched_file, file_made, file_number, from_tokens, include_made, include_token, part, plain_token, quoted_next, stop_in}
-use Rattle.macro_define.specs.Gathered.{Fetches, Gathers, IsInFile}
+use Rattle.macro_define.specs.Gathered.{Fetches, Gathers}
 use Rattle.macro_define.specs.Made.{and_then}
 
 -- a call that refused, and what is told around it
@@ -86,7 +85,7 @@ module _ (include : Place → List ℕ → World → Result World Stop) (d : Dia
       let less : n ≡ suc n - 1 = omega arith in
       ap (λ k. and_then (part include d outermost name (first_word begins t.kind) t ts w) (λ p. from_tokens include d outermost name k (ends_line t.kind) p.0 fault p.1)) less
 
-  pub tokens-end : (n : ℕ) (begins : Bool) (fault : Option Fault) (w : World) → from_tokens include d outermost name n begins [] fault w ≡ end_of include d outermost name fault w
+  pub tokens-end : (n : ℕ) (begins : Bool) (fault : Option Fault) (w : World) → from_tokens include d outermost name n begins [] fault w ≡ end_of name fault w
   tokens-end zero begins fault w = refl
   tokens-end (suc n) begins fault w = refl
 
@@ -151,11 +150,6 @@ module _ (include : Place → List ℕ → World → Result World Stop) (d : Dia
       let whole : Reading → Result World Stop = λ r. from_tokens include d outermost name (length r.tokens) true r.tokens r.fault w in
       let same : scanned d text number ≡ record { tokens = tokens; fault = fault } = λ i. record { tokens = sym f i; fault = sym g i } in
       ap (λ k. whole (scanned d text k)) (sym e) ∙ ap whole same
-
--- the fault of a file
-pub refused-in : (told left : Result World Stop) (after : Answers) (name : List ℕ) (fault : Fault) (e : GatherRefusal) → IsInFile name (Faulty fault) e → told ≡ Err (stop_in name after fault) → Gathers {B = Unit {0}} told (Err e) left after
-refused-in told left after name fault e (inl is) h = subst (λ (q : GatherRefusal). Gathers {B = Unit {0}} told (Err q) left after) (sym is) h
-refused-in told left after name fault e (inr is) h = subst (λ (q : GatherRefusal). Gathers {B = Unit {0}} told (Err q) left after) (sym is) Prim.tt
 
 -- want of memory says nothing
 pub gathers-memory : {A : Type 0} (told left : Result A Stop) (after : Answers) (r : Result (Unit {0}) GatherRefusal) → IsErr r × IsErrAnd r (λ f. f ≡ refusals.Memory) → Gathers told r left after

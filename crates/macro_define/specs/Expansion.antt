@@ -112,6 +112,11 @@ abbrev pub behind_name : List Token → List Token
 behind_name [] = []
 behind_name (t ∷ ts) = if is_quoted (t.kind) then ts else t ∷ ts
 
+-- the end of a file's tokens, or the fault at which the scan stopped
+abbrev pub end_of : List ℕ → Option Fault → World → Result World Stop
+end_of name (Some fault) w = Err (stop_in name w.answers fault)
+end_of name None w = Ok w
+
 -- `include` says what the file of a name makes, which is wanted at a place.
 module _ (include : Place → List ℕ → World → Result World Stop) where
   -- an include of a file: the LineEnd of its line stays
@@ -126,15 +131,10 @@ module _ (include : Place → List ℕ → World → Result World Stop) where
     part Include t ts w = include_token (quoted_next ts) (behind_name ts) w
     part Other t ts w = and_then (plain_token d outermost name t w) (λ v. Ok (ts, v))
 
-    -- the end of a file's tokens, or the fault at which the scan stopped
-    abbrev pub end_of : Option Fault → World → Result World Stop
-    end_of (Some fault) w = Err (stop_in name w.answers fault)
-    end_of None w = Ok w
-
     -- the tokens of a file from here on, of which there are at most n, and then their end
     abbrev pub from_tokens : ℕ → Bool → List Token → Option Fault → World → Result World Stop
-    from_tokens zero begins ts fault w = end_of fault w
-    from_tokens (suc n) begins [] fault w = end_of fault w
+    from_tokens zero begins ts fault w = end_of name fault w
+    from_tokens (suc n) begins [] fault w = end_of name fault w
     from_tokens (suc n) begins (t ∷ ts) fault w = and_then (part (first_word begins (t.kind)) t ts w) (λ p. from_tokens n (ends_line (t.kind)) (p.0) fault (p.1))
 
 -- a file's text

@@ -7,7 +7,7 @@ use Rattle.macro_define.specs.declared.whole_text.Gathered.{Gathered}
 use Rattle.macro_define.specs.declared.refusal.GatherRefusal.{GatherRefusal}
 use Rattle.macro_define.specs.declared.refusal.GatherRefusal.TheVariants as refusals
 use Rattle.macro_define.specs.Answers.{Known, IsOf}
-use Rattle.macro_define.specs.Expansion.{Stop, World, gathered, stop_in}
+use Rattle.macro_define.specs.Expansion.{Stop, World, gathered}
 
 -- The tokens and the files are those of the definition, or the fault is, and so are the names that were fetched; a failed
 -- fetch and want of memory say nothing.

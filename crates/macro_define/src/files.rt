@@ -1,7 +1,7 @@
 // The files of a text, token by token, each include in its place.
 ghost use Rattle.std.specs.Prelude.{◌≡◌, ◌≤◌, ◌<◌, length, OnOk, Ok};
 ghost use Rattle.macro_define.specs.Answers.{Answers, Through};
-ghost use Rattle.macro_define.specs.Expansion.{behind_name, define_token, file_made, include_made, part, plain_token, quoted_next, is_quoted as is_quoted_of, is_text_end as is_text_end_of};
+ghost use Rattle.macro_define.specs.Expansion.{World, behind_name, define_token, end_of, file_made, include_made, part, plain_token, quoted_next, is_quoted as is_quoted_of, is_text_end as is_text_end_of};
 ghost use Rattle.macro_define.specs.Gathered.{Gathers, HasCause, IsUnasked, world};
 
 use crate::defines::{FirstWord, define, ends_line, first_word, next_token};
@@ -10,7 +10,7 @@ use crate::gathering::Gathering;
 use crate::macros::add_token;
 use crate::refusal::GatherRefusal;
 use free_scan::scan;
-use ground::{Dialect, Place, Text, Token, TokenKind};
+use ground::{Dialect, Fault, Place, Text, Token, TokenKind};
 use ports::Library;
 use std::alloc::Global;
 use std::collections::VecDeque;
@@ -100,7 +100,15 @@ pub fn add_file<L: Library>(
             gathering,
         )?;
     }
-    match scanned.fault {
+    end_file(alloc, name, scanned.fault)
+}
+
+/// Ends a file's tokens, at a fault of the scan if there is one.
+fn end_file(alloc: Global, name: &[u8], fault: Option<Fault>) -> Result<(), GatherRefusal>
+    ensures made { (w : World) → Gathers (end_of name.now fault w) result (Ok w) w.answers }
+    ensures unasked { IsUnasked result }
+{
+    match fault {
         Some(fault) => Err(fault_in(alloc, name, fault)),
         None => Ok(()),
     }

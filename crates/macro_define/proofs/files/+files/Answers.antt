@@ -2,10 +2,10 @@ use Rattle.std.proofs.Common.{◌≡◌, ◌==◌, ◌-◌, ◌≤◌, ℕ, List
 use Rattle.std.specs.Prelude.{Result}
 use Rattle.ground.specs.declared.token.Token.{Token}
 use Rattle.macro_define.specs.declared.defines.FirstWord.{FirstWord}
-use Rattle.macro_define.specs.Expansion.{Stop, World, end_of, fetched_file, file_made, from_tokens, include_made, part}
+use Rattle.macro_define.specs.Expansion.{Stop, World, fetched_file, file_made, from_tokens, include_made, part}
 use Rattle.macro_define.specs.Gathered.{Fetches, Gathers, world}
 use Rattle.macro_define.proofs.ThroughLemmas.{through-map, through-none, through-same, through-then}
-use Rattle.macro_define.proofs.FileLemmas.{file-begins, gathers-failed, gathers-memory, include-failed, include-goes, include-none, include-part, plain-part, refused-in, tokens-end, tokens-step, tokens-stop}
+use Rattle.macro_define.proofs.FileLemmas.{file-begins, gathers-failed, gathers-memory, include-failed, include-goes, include-none, include-part, plain-part, tokens-end, tokens-step, tokens-stop}
 use Rattle.macro_define.proofs.files.+files.Goals as goal
 
 pub add_include-returns-in_err-text-clause-made : goal.add_include-returns-in_err-text-clause-made
@@ -220,40 +220,23 @@ add_file-returns-in_err-add_part-clause-made g t c =
     (λ stop told. tokens-stop include d outermost name inv.0 begins first token all ts fault (whole (world old a)) (world mid b) stop h split inv.1.0 c.first_word-first.ensures told)
     c.from_residual-in_err-add_part.ensures)
 
-pub add_file-returns-in-Some-fault-clause-made : goal.add_file-returns-in-Some-fault-clause-made
-add_file-returns-in-Some-fault-clause-made g t c =
-    let d = c.args.dialect in
-    let name = c.args.name.now in
-    let old = c.args.gathering.now in
-    let new = c.loop-token.gathering in
-    let fault = c.in-Some-fault.fault in
-    let include = include_made d c.args.depth name in
-    let inv = c.loop-token.invariant in
-    let none : c.loop-token.tokens.items ≡ [] = search rules in
-    let whole : World → Result World Stop = λ w. file_made d include c.args.outermost name c.args.text.now w in
-    through-map (g.L.Library.files c.args.library.now) (λ names. g.L.Library.fetches c.args.library.now names c.loop-token.library)
-    (λ before after. whole (world old before) ≡ from_tokens include d c.args.outermost name inv.0 c.loop-token.begins c.loop-token.tokens.items c.in_ok-scanned.scanned.fault (world new after))
-    (λ before after. Gathers {B = Unit {0}} (whole (world old before)) (Err c.fault_in.result) (Ok (world new after)) after)
-    inv.1.1
-    (λ a b h. refused-in (whole (world old a)) (Ok (world new b)) b name fault c.fault_in.result c.fault_in.ensures
-    (h ∙ ap (λ (ts : List Token). from_tokens include d c.args.outermost name inv.0 c.loop-token.begins ts c.in_ok-scanned.scanned.fault (world new b)) none
-    ∙ tokens-end include d c.args.outermost name inv.0 c.loop-token.begins c.in_ok-scanned.scanned.fault (world new b)
-    ∙ ap (λ f. end_of include d c.args.outermost name f (world new b)) c.in-Some-fault.is))
-
 pub add_file-returns-clause-made : goal.add_file-returns-clause-made
 add_file-returns-clause-made g t c =
     let d = c.args.dialect in
     let name = c.args.name.now in
     let old = c.args.gathering.now in
     let new = c.loop-token.gathering in
+    let fault = c.in_ok-scanned.scanned.fault in
     let include = include_made d c.args.depth name in
     let inv = c.loop-token.invariant in
     let none : c.loop-token.tokens.items ≡ [] = search rules in
+    let r = c.end_file.result in
     let whole : World → Result World Stop = λ w. file_made d include c.args.outermost name c.args.text.now w in
     through-map (g.L.Library.files c.args.library.now) (λ names. g.L.Library.fetches c.args.library.now names c.loop-token.library)
-    (λ before after. whole (world old before) ≡ from_tokens include d c.args.outermost name inv.0 c.loop-token.begins c.loop-token.tokens.items c.in_ok-scanned.scanned.fault (world new after))
-    (λ before after. whole (world old before) ≡ Ok (world new after))
+    (λ before after. whole (world old before) ≡ from_tokens include d c.args.outermost name inv.0 c.loop-token.begins c.loop-token.tokens.items fault (world new after))
+    (λ before after. Gathers (whole (world old before)) r (Ok (world new after)) after)
     inv.1.1
-    (λ a b h. h ∙ ap (λ (ts : List Token). from_tokens include d c.args.outermost name inv.0 c.loop-token.begins ts c.in_ok-scanned.scanned.fault (world new b)) none
-    ∙ tokens-end include d c.args.outermost name inv.0 c.loop-token.begins c.in_ok-scanned.scanned.fault (world new b)
-    ∙ ap (λ f. end_of include d c.args.outermost name f (world new b)) c.in-None.is)
+    (λ a b h. subst (λ (x : Result World Stop). Gathers x r (Ok (world new b)) b)
+    (sym (h ∙ ap (λ (ts : List Token). from_tokens include d c.args.outermost name inv.0 c.loop-token.begins ts fault (world new b)) none
+    ∙ tokens-end include d c.args.outermost name inv.0 c.loop-token.begins fault (world new b)))
+    (c.end_file.ensures.made (world new b)))
