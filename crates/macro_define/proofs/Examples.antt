@@ -24,7 +24,7 @@ tokens_of (Err stop) = None
 
 abbrev fault_of : Result World Stop → Option (FaultKind × (ℕ × List ℕ))
 fault_of (Ok w) = None
-fault_of (Err (fault, name)) = Some (fault.kind, (fault.place.line, name))
+fault_of (Err stop) = Some (stop.fault.kind, (stop.fault.place.line, stop.file))
 
 -- a define and its use
 define : tokens_of (of_text Ratfor (codes "define n 7" ++ 10 ∷ codes "k=n"))

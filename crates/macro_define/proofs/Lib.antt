@@ -6,3 +6,4 @@ mod TableLemmas
 mod ThroughLemmas
 mod UseLemmas
 mod WholeLemmas
+mod EndLemmas

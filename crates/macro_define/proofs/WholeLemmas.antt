@@ -8,76 +8,88 @@ use Rattle.macro_define.specs.declared.gathering.Gathering.{Gathering}
 use Rattle.macro_define.specs.declared.whole_text.Gathered.{Gathered}
 use Rattle.macro_define.specs.declared.refusal.GatherRefusal.{GatherRefusal}
 use Rattle.macro_define.specs.declared.refusal.GatherRefusal.TheVariants as refusals
-use Rattle.macro_define.specs.Answers.{Answers, Holds, InTurn, Through}
-use Rattle.macro_define.specs.Expansion.{Stop, World, fetched_file, file_made, gathered, in_file, include_made, start, text_made}
+use Rattle.macro_define.specs.Answers.{Answers, Known, Holds, InTurn, Through, knows}
+use Rattle.macro_define.specs.Expansion.{Stop, World, fetched_file, file_made, gathered, include_made, start, text_made}
 use Rattle.macro_define.specs.Gathered.{Fetches, Gathers, world}
 use Rattle.macro_define.specs.GatherAnswers.{IsAnswer, IsGathered}
 use Rattle.macro_define.specs.Made.{and_then}
 
 abbrev fetched_first : List ℕ → World → Result (List ℕ × World) Stop
-fetched_first name w = in_file name (fetched_file (record { file = 0; line = 0 }) false false name w)
+fetched_first name w = fetched_file (record { file = 0; line = 0 }) false false name name w
 
 text-refused : (d : Dialect) (depth : ℕ) (name : List ℕ) (w v : World) (y : Result World Stop) (e : GatherRefusal)
-    → Fetches (fetched_first name w) (Err e) v → Gathers {B = Unit {0}} (text_made d depth name w) (Err e) y
+    → Fetches (fetched_first name w) (Err e) v → Gathers {B = Unit {0}} (text_made d depth name w) (Err e) y v.answers
 text-refused d depth name w v y (refusals.Fault fault n) h = ap (λ x. and_then x (λ p. file_made d (include_made d depth name) true name (p.0) (p.1))) h
 text-refused d depth name w v y refusals.Library h = Prim.tt
 text-refused d depth name w v y refusals.Memory h = Prim.tt
 
 pub text-failed : (d : Dialect) (depth : ℕ) (name : List ℕ) (w v : World) (y : Result World Stop) (e : GatherRefusal) (r : Result (Unit {0}) GatherRefusal)
-    → Fetches (fetched_first name w) (Err e) v → IsErr r × IsErrAnd r (λ f. f ≡ e) → Gathers (text_made d depth name w) r y
+    → Fetches (fetched_first name w) (Err e) v → IsErr r × IsErrAnd r (λ f. f ≡ e) → Gathers (text_made d depth name w) r y v.answers
 text-failed d depth name w v y e r h is =
     let p = err_from_is_err_and r is.1 in
     let same : r ≡ Err e = p.1 ∙ (λ i. Err (p.2 i)) in
-    subst (λ (q : Result (Unit {0}) GatherRefusal). Gathers (text_made d depth name w) q y) (sym same) (text-refused d depth name w v y e h)
+    subst (λ (q : Result (Unit {0}) GatherRefusal). Gathers (text_made d depth name w) q y v.answers) (sym same) (text-refused d depth name w v y e h)
 
-pub text-goes : (d : Dialect) (depth : ℕ) (name : List ℕ) (w v : World) (text : List ℕ) (r : Result (Unit {0}) GatherRefusal) (y : Result World Stop)
-    → fetched_first name w ≡ Ok (text, v) → Gathers (file_made d (include_made d depth name) true name text v) r y → Gathers (text_made d depth name w) r y
-text-goes d depth name w v text r y h on =
+pub text-goes : (d : Dialect) (depth : ℕ) (name : List ℕ) (w v : World) (text : List ℕ) (r : Result (Unit {0}) GatherRefusal) (y : Result World Stop) (after : Answers)
+    → fetched_first name w ≡ Ok (text, v) → Gathers (file_made d (include_made d depth name) true name text v) r y after → Gathers (text_made d depth name w) r y after
+text-goes d depth name w v text r y after h on =
     let goes : text_made d depth name w ≡ file_made d (include_made d depth name) true name text v =
     ap (λ x. and_then x (λ p. file_made d (include_made d depth name) true name (p.0) (p.1))) h in
-    subst (λ x. Gathers x r y) (sym goes) on
+    subst (λ x. Gathers x r y after) (sym goes) on
 
 -- a fact of what is known before and after, as one of some answers
-pub through-gathered : (files : Option (List ℕ → Option (List ℕ))) (d : Dialect) (name : List ℕ) (result : Result Gathered GatherRefusal) (P : Answers → Answers → Type 0)
-    → Through files P → ((a b : Answers) → P a b → IsAnswer (gathered d name a) result) → IsGathered files d name result
-through-gathered None d name result P h on = record { answers = InTurn (h.0 ++ []); of = (h.0 ++ [], refl); by = on (InTurn (h.0 ++ [])) (InTurn []) (h.1 []) }
-through-gathered (Some held) d name result P h on = record { answers = Holds held; of = refl; by = on (Holds held) (Holds held) h }
+pub through-gathered : (files : Option (List ℕ → Option (List ℕ))) (F : List (List ℕ) → Type 0) (d : Dialect) (name : List ℕ) (result : Result Gathered GatherRefusal) (P : Answers → Answers → Type 0)
+    → Through files F P → ((known : Known) (b : Answers) → P (knows known []) b → IsAnswer (gathered d name known) b.fetched result) → IsGathered files F d name result
+through-gathered None F d name result P h on = record {
+  known = InTurn (h.1.1.0 ++ []);
+  of = (h.1.1.0 ++ [], refl);
+  names = h.0;
+  fetched = h.1.0;
+  by = on (InTurn (h.1.1.0 ++ [])) (knows (InTurn []) h.0) (h.1.1.1 [] []);
+}
+through-gathered (Some held) F d name result P h on = record {
+  known = Holds held;
+  of = refl;
+  names = h.0;
+  fetched = h.1.0;
+  by = on (Holds held) (knows (Holds held) h.0) (h.1.1 []);
+}
 
-answers-refused : (told other left : Result World Stop) (e : GatherRefusal) → other ≡ told → Gathers {B = Unit {0}} told (Err e) left → IsAnswer other (Err e)
-answers-refused told other left (refusals.Fault fault name) same h = same ∙ h
-answers-refused told other left refusals.Library same h = Prim.tt
-answers-refused told other left refusals.Memory same h = Prim.tt
+answers-refused : (told other left : Result World Stop) (after : Answers) (e : GatherRefusal) → other ≡ told → Gathers {B = Unit {0}} told (Err e) left after → IsAnswer other after.fetched (Err e)
+answers-refused told other left after (refusals.Fault fault name) same h = same ∙ h
+answers-refused told other left after refusals.Library same h = Prim.tt
+answers-refused told other left after refusals.Memory same h = Prim.tt
 
-pub answers-failed : (told other left : Result World Stop) (e : GatherRefusal) (r : Result Gathered GatherRefusal) → other ≡ told → Gathers {B = Unit {0}} told (Err e) left
-    → IsErr r × IsErrAnd r (λ f. f ≡ e) → IsAnswer other r
-answers-failed told other left e r same h is =
+pub answers-failed : (told other left : Result World Stop) (after : Answers) (e : GatherRefusal) (r : Result Gathered GatherRefusal) → other ≡ told → Gathers {B = Unit {0}} told (Err e) left after
+    → IsErr r × IsErrAnd r (λ f. f ≡ e) → IsAnswer other after.fetched r
+answers-failed told other left after e r same h is =
     let p = err_from_is_err_and r is.1 in
-    subst (λ (q : Result Gathered GatherRefusal). IsAnswer other q) (sym (p.1 ∙ (λ i. Err (p.2 i)))) (answers-refused told other left e same h)
+    subst (λ (q : Result Gathered GatherRefusal). IsAnswer other after.fetched q) (sym (p.1 ∙ (λ i. Err (p.2 i)))) (answers-refused told other left after e same h)
 
-pub answers-memory : (told : Result World Stop) (r : Result Gathered GatherRefusal) → IsErr r × IsErrAnd r (λ f. f ≡ refusals.Memory) → IsAnswer told r
-answers-memory told r is =
+pub answers-memory : (told : Result World Stop) (names : List (List ℕ)) (r : Result Gathered GatherRefusal) → IsErr r × IsErrAnd r (λ f. f ≡ refusals.Memory) → IsAnswer told names r
+answers-memory told names r is =
     let p = err_from_is_err_and r is.1 in
-    subst (λ (q : Result Gathered GatherRefusal). IsAnswer told q) (sym (p.1 ∙ (λ i. Err (p.2 i)))) Prim.tt
+    subst (λ (q : Result Gathered GatherRefusal). IsAnswer told names q) (sym (p.1 ∙ (λ i. Err (p.2 i)))) Prim.tt
 
 -- what a text starts with
-pub world-start : (g : Gathering) (a : Answers) → g.output.tokens.items ≡ [] → g.output.left ≡ 200000 → g.macros.entries ≡ [] → g.files.keys ≡ [] → g.room ≡ 4194304
-    → start a ≡ world g a
-world-start g a tokens left macros files room = λ i. record {
+pub world-start : (g : Gathering) (known : Known) → g.output.tokens.items ≡ [] → g.output.left ≡ 200000 → g.macros.entries ≡ [] → g.files.keys ≡ [] → g.room ≡ 4194304
+    → start known ≡ world g (knows known [])
+world-start g known tokens left macros files room = λ i. record {
   made = record { tokens = sym tokens i; left = sym left i };
   macros = map (λ e. (e.0.items, e.1.items)) (sym macros i);
   files = map (λ k. k.items) (sym files i);
   room = sym room i;
-  answers = a;
+  answers = knows known [];
 }
 
 -- the definition, from what a text starts with
-pub gathered-start : (d : Dialect) (name bytes : List ℕ) (g : Gathering) (a : Answers) → bytes ≡ name
+pub gathered-start : (d : Dialect) (name bytes : List ℕ) (g : Gathering) (known : Known) → bytes ≡ name
     → g.output.tokens.items ≡ [] → g.output.left ≡ 200000 → g.macros.entries ≡ [] → g.files.keys ≡ [] → g.room ≡ 4194304
-    → gathered d name a ≡ text_made d 10 bytes (world g a)
-gathered-start d name bytes g a same tokens left macros files room =
-    ap (text_made d 10 name) (world-start g a tokens left macros files room) ∙ ap (λ n. text_made d 10 n (world g a)) (sym same)
+    → gathered d name known ≡ text_made d 10 bytes (world g (knows known []))
+gathered-start d name bytes g known same tokens left macros files room =
+    ap (text_made d 10 name) (world-start g known tokens left macros files room) ∙ ap (λ n. text_made d 10 n (world g (knows known []))) (sym same)
 
 -- the whole text's tokens and files
 pub answers-whole : (told other : Result World Stop) (g : Gathering) (b : Answers) (all : Gathered) → other ≡ told → told ≡ Ok (world g b)
-    → all.tokens.items ≡ g.output.tokens.items → all.files.items ≡ map (λ k. k.items) g.files.keys → IsAnswer other (Ok all)
-answers-whole told other g b all same h tokens files = (world g b, (same ∙ h, tokens, files))
+    → all.tokens.items ≡ g.output.tokens.items → all.files.items ≡ map (λ k. k.items) g.files.keys → IsAnswer other b.fetched (Ok all)
+answers-whole told other g b all same h tokens files = (world g b, (same ∙ h, tokens, files, refl))

@@ -4,8 +4,8 @@ ghost use Rattle.std.specs.Str.{bytes_eq};
 ghost use Rattle.indexmap.specs.IndexSet.{insert_key};
 ghost use Rattle.ground.specs.declared.fault.Refusal.TheVariants.{Fault as Faulty};
 ghost use Rattle.macro_define.specs.Made.{fault_at as fault_of};
-ghost use Rattle.macro_define.specs.Answers.{Answers, Through, later};
-ghost use Rattle.macro_define.specs.Expansion.{fetched_file, file_number as file_number_of, held_under, in_file, with_text};
+ghost use Rattle.macro_define.specs.Answers.{Answers, Through};
+ghost use Rattle.macro_define.specs.Expansion.{fetched_file, file_number as file_number_of, in_file, with_text};
 ghost use Rattle.macro_define.specs.Gathered.{Asks, Fetches, HasCause, IsInFile, IsNoFault, IsUnasked, world};
 
 use crate::gathering::Gathering;
@@ -33,8 +33,8 @@ pub fn fetch_file<L: Library>(
     name: &[u8],
     gathering: &mut Gathering,
 ) -> Result<Vec<u8>, GatherRefusal>
-    ensures text { Through (L.files library.old) (λ before after.
-        Fetches (in_file includer.now (fetched_file place too_deep too_long name.now (world gathering.old before))) result (world gathering.new after)) }
+    ensures text { Through (L.files library.old) (λ names. L.fetches library.old names library.new) (λ before after.
+        Fetches (fetched_file place too_deep too_long includer.now name.now (world gathering.old before)) result (world gathering.new after)) }
     ensures room { OnOk result (gathering.new.room ≤ gathering.old.room) }
     ensures fits { IfOk result (λ text. length text.items ≤ gathering.old.room) }
     ensures shallow { OnOk result (too_deep ≡ false) }
@@ -60,7 +60,7 @@ fn ask<L: Library>(
     library: &mut L,
     name: &[u8],
 ) -> Result<Option<Vec<u8>>, GatherRefusal>
-    ensures text { Through (L.files library.old) (λ before after. Asks (held_under name.now before) result before after) }
+    ensures text { Through (L.files library.old) (λ names. L.fetches library.old names library.new) (λ before after. Asks name.now result before after) }
     ensures faultless { IsNoFault result }
     ensures same { L.files library.new ≡ L.files library.old }
     ensures becomes { L.becomes library.old library.new }
@@ -90,8 +90,8 @@ fn count_file(
     text: Vec<u8>,
     gathering: &mut Gathering,
 ) -> Result<Vec<u8>, GatherRefusal>
-    ensures text { (a : Answers) → Fetches (in_file includer.now (with_text place too_deep too_long name.now (world gathering.old a) (Some text.items)))
-        result (world gathering.new (later a)) }
+    ensures text { (a : Answers) → Fetches (in_file includer.now a (with_text place too_deep too_long name.now (world gathering.old a) (Some text.items)))
+        result (world gathering.new a) }
     ensures room { OnOk result (gathering.new.room ≤ gathering.old.room) }
     ensures fits { IfOk result (λ text. length text.items ≤ gathering.old.room) }
     ensures shallow { OnOk result (too_deep ≡ false) }

@@ -1,7 +1,7 @@
 // The files of a text, token by token, each include in its place.
-ghost use Rattle.std.specs.Prelude.{◌≡◌, ◌≤◌, ◌<◌, drop, length, OnOk, Ok};
+ghost use Rattle.std.specs.Prelude.{◌≡◌, ◌≤◌, ◌<◌, length, OnOk, Ok};
 ghost use Rattle.macro_define.specs.Answers.{Answers, Through};
-ghost use Rattle.macro_define.specs.Expansion.{define_token, file_made, include_made, part, plain_token, quoted_next, is_text_end as is_text_end_of};
+ghost use Rattle.macro_define.specs.Expansion.{World, behind_name, define_token, end_of, file_made, include_made, part, plain_token, quoted_next, is_quoted as is_quoted_of, is_text_end as is_text_end_of};
 ghost use Rattle.macro_define.specs.Gathered.{Gathers, HasCause, IsUnasked, world};
 
 use crate::defines::{FirstWord, define, ends_line, first_word, next_token};
@@ -10,7 +10,7 @@ use crate::gathering::Gathering;
 use crate::macros::add_token;
 use crate::refusal::GatherRefusal;
 use free_scan::scan;
-use ground::{Dialect, Place, Text, Token, TokenKind};
+use ground::{Dialect, Fault, Place, Text, Token, TokenKind};
 use ports::Library;
 use std::alloc::Global;
 use std::collections::VecDeque;
@@ -31,8 +31,8 @@ fn add_include<L: Library>(
     gathering: &mut Gathering,
 ) -> Result<(), GatherRefusal>
     requires { gathering.old.room ≤ 4194304 }
-    ensures made { Through (L.files library.old) (λ before after.
-        Gathers (include_made dialect depth includer.now place name.now (world gathering.old before)) result (Ok (world gathering.new after))) }
+    ensures made { Through (L.files library.old) (λ names. L.fetches library.old names library.new) (λ before after.
+        Gathers (include_made dialect depth includer.now place name.now (world gathering.old before)) result (Ok (world gathering.new after)) after) }
     ensures room { OnOk result (gathering.new.room ≤ 4194304) }
     ensures same { L.files library.new ≡ L.files library.old }
     ensures becomes { L.becomes library.old library.new }
@@ -74,8 +74,8 @@ pub fn add_file<L: Library>(
 ) -> Result<(), GatherRefusal>
     requires short { length text.now ≤ 4194304 }
     requires room { gathering.old.room ≤ 4194304 }
-    ensures made { Through (L.files library.old) (λ before after.
-        Gathers (file_made dialect (include_made dialect depth name.now) outermost name.now text.now (world gathering.old before)) result (Ok (world gathering.new after))) }
+    ensures made { Through (L.files library.old) (λ names. L.fetches library.old names library.new) (λ before after.
+        Gathers (file_made dialect (include_made dialect depth name.now) outermost name.now text.now (world gathering.old before)) result (Ok (world gathering.new after)) after) }
     ensures room { OnOk result (gathering.new.room ≤ 4194304) }
     ensures same { L.files library.new ≡ L.files library.old }
     ensures becomes { L.becomes library.old library.new }
@@ -100,7 +100,15 @@ pub fn add_file<L: Library>(
             gathering,
         )?;
     }
-    match scanned.fault {
+    end_file(alloc, name, scanned.fault)
+}
+
+/// Ends a file's tokens, at a fault of the scan if there is one.
+fn end_file(alloc: Global, name: &[u8], fault: Option<Fault>) -> Result<(), GatherRefusal>
+    ensures made { (w : World) → Gathers (end_of name.now fault w) result (Ok w) w.answers }
+    ensures unasked { IsUnasked result }
+{
+    match fault {
         Some(fault) => Err(fault_in(alloc, name, fault)),
         None => Ok(()),
     }
@@ -121,9 +129,9 @@ fn add_part<L: Library>(
     gathering: &mut Gathering,
 ) -> Result<(), GatherRefusal>
     requires { gathering.old.room ≤ 4194304 }
-    ensures made { Through (L.files library.old) (λ before after.
+    ensures made { Through (L.files library.old) (λ names. L.fetches library.old names library.new) (λ before after.
         Gathers (part (include_made dialect depth name.now) dialect outermost name.now first token tokens.old.items (world gathering.old before))
-        result (Ok (tokens.new.items, world gathering.new after))) }
+        result (Ok (tokens.new.items, world gathering.new after)) after) }
     ensures fewer { length tokens.new.items ≤ length tokens.old.items }
     ensures room { OnOk result (gathering.new.room ≤ 4194304) }
     ensures same { L.files library.new ≡ L.files library.old }
@@ -152,13 +160,23 @@ fn add_part<L: Library>(
 /// Takes the name of a file, which stands quoted with the place of its line.
 fn next_name(tokens: &mut VecDeque<Token>) -> Option<(Place, Text)>
     ensures name { result ≡ quoted_next tokens.old.items }
-    ensures rest { tokens.new.items ≡ drop 1 tokens.old.items }
+    ensures rest { tokens.new.items ≡ behind_name tokens.old.items }
+    ensures fewer { length tokens.new.items ≤ length tokens.old.items }
 {
-    let Token { kind, place } = tokens.pop_front()?;
+    if !is_quoted(&tokens.front()?.kind) {
+        return None;
+    }
+    let Token { kind, place } = next_token(tokens)?;
     match kind {
         TokenKind::Quoted(name) => Some((place, name)),
         _ => None,
     }
+}
+
+fn is_quoted(kind: &TokenKind) -> bool
+    ensures { result ≡ is_quoted_of kind.now }
+{
+    matches!(kind, TokenKind::Quoted(_))
 }
 
 /// Keeps the macro of a define whose word stands at this place.
@@ -170,7 +188,7 @@ fn add_define(
     tokens: &mut VecDeque<Token>,
     gathering: &mut Gathering,
 ) -> Result<(), GatherRefusal>
-    ensures made { (a : Answers) → Gathers (define_token dialect name.now place tokens.old.items (world gathering.old a)) result (Ok (tokens.new.items, world gathering.new a)) }
+    ensures made { (a : Answers) → Gathers (define_token dialect name.now place tokens.old.items (world gathering.old a)) result (Ok (tokens.new.items, world gathering.new a)) a }
     ensures fewer { length tokens.new.items ≤ length tokens.old.items }
     ensures room { gathering.new.room ≡ gathering.old.room }
     ensures unasked { IsUnasked result }
@@ -190,7 +208,7 @@ fn add_plain(
     token: Token,
     gathering: &mut Gathering,
 ) -> Result<(), GatherRefusal>
-    ensures made { (a : Answers) → Gathers (plain_token dialect outermost name.now token (world gathering.old a)) result (Ok (world gathering.new a)) }
+    ensures made { (a : Answers) → Gathers (plain_token dialect outermost name.now token (world gathering.old a)) result (Ok (world gathering.new a)) a }
     ensures room { gathering.new.room ≡ gathering.old.room }
     ensures unasked { IsUnasked result }
 {

@@ -108,7 +108,7 @@ fn check(
 
 #[test]
 fn ratfor_macros(rt: HostRuntime) -> Result<(), Fail> {
-    let table: [(&[u8], &str); 17] = [
+    let table: [(&[u8], &str); 20] = [
         (b"", "0.1: end p "),
         (
             b"define n 7\nk = n\n",
@@ -128,6 +128,7 @@ fn ratfor_macros(rt: HostRuntime) -> Result<(), Fail> {
         ),
         (b"define a include q\nk a", "0.1: / 0.2: k include q end p "),
         (b"define a b\ndefine b a\n\nk = a\n", "MacroLoop 0 at p:4"),
+        (b"define a b\ndefine b a\nk = a\n", "MacroLoop 0 at p:3"),
         (b"define a a\nk", "0.1: / 0.2: k end p "),
         (b"define(one, 1", "BadDefine 0 at p:1"),
         (b"define(one, 1\n\n2)\nk one", "0.3: / 0.4: k 1 2 end p "),
@@ -136,7 +137,9 @@ fn ratfor_macros(rt: HostRuntime) -> Result<(), Fail> {
         (b"define\n", "BadDefine 0 at p:1"),
         (b"define Define x\n", "BadDefine 0 at p:1"),
         (b"define a 1 $\n", "BadByte 0 at p:1"),
+        (b"define 2147483648 x\n", "NumberTooLarge 0 at p:1"),
         (b"define a", "0.1: end p "),
+        (b"k\ndefine a b", "0.1: k / 0.2: end p "),
         (
             b"k define a b; define c d\n a",
             "0.1: k define a b ; define c d / 0.2: a end p ",
@@ -164,16 +167,18 @@ fn efl_macros(rt: HostRuntime) -> Result<(), Fail> {
     Ok(())
 }
 
+const FILES: [(&str, &[u8]); 6] = [
+    ("q", b"define n 7\nm n"),
+    ("r", b"include q\ninclude q\n"),
+    ("self", b"include self\n"),
+    ("bad", b"k\n% k\n"),
+    ("empty", b""),
+    ("define", b"define n 7"),
+];
+
 #[test]
 fn includes(rt: HostRuntime) -> Result<(), Fail> {
-    let files: [(&str, &[u8]); 5] = [
-        ("q", b"define n 7\nm n"),
-        ("r", b"include q\ninclude q\n"),
-        ("self", b"include self\n"),
-        ("bad", b"k\n% k\n"),
-        ("empty", b""),
-    ];
-    let table: [(&[u8], &str); 10] = [
+    let table: [(&[u8], &str); 13] = [
         (
             b"include q\nn\n",
             "1.1: / 1.2: m 7 0.1: / 0.2: 7 / 0.3: end p q ",
@@ -184,7 +189,10 @@ fn includes(rt: HostRuntime) -> Result<(), Fail> {
         ),
         (b"include empty # none", "0.1: / end p empty "),
         (b"k\ninclude none\n", "IncludeMissing 0 at p:2"),
+        (b"include define\nn", "0.1: / 0.2: 7 end p define "),
         (b"k\ninclude\n", "IncludeMissing 0 at p:2"),
+        (b"include ''\n", "IncludeMissing 0 at p:1"),
+        (b"include ( )\n", "IncludeMissing 0 at p:1"),
         (b"include self\n", "IncludeDepth 0 at self:1"),
         (b"include bad\n", "PercentLine 0 at bad:2"),
         (b"; include none\n", "0.1: ; include none / 0.2: end p "),
@@ -192,7 +200,28 @@ fn includes(rt: HostRuntime) -> Result<(), Fail> {
         (b"include none 'x\n$", "IncludeMissing 0 at p:1"),
     ];
     for (text, expected) in table {
-        check(&rt, rt.alloc(), Dialect::Ratfor, text, &files, expected)?;
+        check(&rt, rt.alloc(), Dialect::Ratfor, text, &FILES, expected)?;
+    }
+    Ok(())
+}
+
+/// How many files a text fetches: each as often as it is included, and none past the first fault.
+#[test]
+fn fetches(rt: HostRuntime) -> Result<(), Fail> {
+    let alloc = rt.alloc();
+    let table: [(&[u8], u64); 7] = [
+        (b"k\n", 1),
+        (b"include q\ninclude r\nk", 5),
+        (b"include\n", 1),
+        (b"include none\ninclude q\n", 2),
+        (b"include q\n$\ninclude q\n", 2),
+        (b"define a a\na\ninclude q\n", 1),
+        (b"include self\n", 12),
+    ];
+    for (text, expected) in table {
+        let mut library = library(alloc, text, &FILES, 0)?;
+        drop(gather(alloc, Dialect::Ratfor, "p", &mut library));
+        assert_eq!(rt; library.calls(), expected);
     }
     Ok(())
 }
@@ -232,6 +261,34 @@ fn each_fetch_fails(rt: HostRuntime) -> Result<(), Fail> {
     Ok(())
 }
 
+/// What stands in the last of the ten files of the chain: a file that is held is nested too deep.
+#[test]
+fn the_deepest_file(rt: HostRuntime) -> Result<(), Fail> {
+    let alloc = rt.alloc();
+    let table: [(&[u8], &str); 3] = [
+        (b"include q\n", "IncludeDepth 0 at j:1"),
+        (b"k\ninclude none\n", "IncludeMissing 0 at j:2"),
+        (b"include\n", "IncludeMissing 0 at j:1"),
+    ];
+    for (text, expected) in table {
+        let mut files = Vec::new(alloc);
+        files.push(("j", text))?;
+        files.push(("q", b"m\n".as_slice()))?;
+        for file in CHAIN {
+            files.push(file)?;
+        }
+        check(
+            &rt,
+            alloc,
+            Dialect::Ratfor,
+            b"include a\n",
+            &files,
+            expected,
+        )?;
+    }
+    Ok(())
+}
+
 #[test]
 fn a_text_that_is_missing(rt: HostRuntime) -> Result<(), Fail> {
     let alloc = rt.alloc();
@@ -259,4 +316,140 @@ fn a_chain_that_doubles(rt: HostRuntime) -> Result<(), Fail> {
         &[],
         "Limit 2 at p:41",
     )
+}
+
+/// A byte many times between two texts.
+fn repeated(
+    alloc: Global,
+    before: &[u8],
+    byte: u8,
+    count: usize,
+    after: &[u8],
+) -> Result<Vec<u8>, AllocError> {
+    let mut text = before.to_vec(alloc)?;
+    for _ in 0..count {
+        text.push(byte)?;
+    }
+    text.extend_from_slice(after)?;
+    Ok(text)
+}
+
+/// Limit 1: bytes of the text p and of the file q, both with a comment of so many bytes at the end.
+#[test]
+fn bytes(rt: HostRuntime) -> Result<(), Fail> {
+    let alloc = rt.alloc();
+    let table: [(&[u8], usize, &[u8], usize, &str); 6] = [
+        (b"", 4_194_304, b"", 0, "0.1: end p "),
+        (b"", 4_194_305, b"", 0, "Limit 1 at p:0"),
+        (
+            b"include q\ninclude q\n",
+            0,
+            b"",
+            2_097_142,
+            "0.1: / 0.2: / 0.3: end p q ",
+        ),
+        (
+            b"include q\ninclude q\n",
+            1,
+            b"",
+            2_097_142,
+            "Limit 1 at p:2",
+        ),
+        (b"include q\n", 0, b"", 4_194_295, "Limit 1 at p:1"),
+        (
+            b"include q\n",
+            0,
+            b"include q\n",
+            400_000,
+            "IncludeDepth 0 at q:1",
+        ),
+    ];
+    for (text, comment, file, more, expected) in table {
+        let text = repeated(alloc, text, b'#', comment, b"")?;
+        let file = repeated(alloc, file, b'#', more, b"")?;
+        check(
+            &rt,
+            alloc,
+            Dialect::Ratfor,
+            &text,
+            &[("q", &file)],
+            expected,
+        )?;
+    }
+    Ok(())
+}
+
+/// What a text is shown as ends so.
+fn check_end(rt: &impl Abort, alloc: Global, text: &[u8], expected: &str) -> Result<(), Fail> {
+    let mut library = library(alloc, text, &[], 0)?;
+    let answer = gather(alloc, Dialect::Ratfor, "p", &mut library);
+    let shown = shown(alloc, &answer)?;
+    assert!(rt; shown.ends_with(expected));
+    Ok(())
+}
+
+/// Limit 2: tokens. The replaced name counts, and so does the end of the text.
+#[test]
+fn tokens(rt: HostRuntime) -> Result<(), Fail> {
+    let alloc = rt.alloc();
+    let table: [(&[u8], usize, &[u8], &str); 6] = [
+        (b"", 199_999, b"", "; end p "),
+        (b"", 200_000, b"", "Limit 2 at p:1"),
+        (b"define a k\n", 199_996, b"a", "; k end p "),
+        (b"define a k\n", 199_997, b"a", "Limit 2 at p:2"),
+        (b"define a a\n", 199_998, b"a", "MacroLoop 0 at p:2"),
+        (b"define a a\n", 199_999, b"a", "Limit 2 at p:2"),
+    ];
+    for (before, count, after, expected) in table {
+        let text = repeated(alloc, before, b';', count, after)?;
+        check_end(&rt, alloc, &text, expected)?;
+    }
+    Ok(())
+}
+
+/// Limit 4: macros, behind so many defines.
+#[test]
+fn macros(rt: HostRuntime) -> Result<(), Fail> {
+    let alloc = rt.alloc();
+    let table: [(u32, &str, &str); 6] = [
+        (4095, "define b m\nb\n", "0.4097: m / 0.4098: end p "),
+        (4096, "define b m\n", "Limit 4 at p:4097"),
+        (4096, "define(b m)\n", "Limit 4 at p:4097"),
+        (4096, "define a7 m\na7\n", "0.4098: m / 0.4099: end p "),
+        (4096, "define define m\n", "BadDefine 0 at p:4097"),
+        (4096, "define 7 m\n", "BadDefine 0 at p:4097"),
+    ];
+    for (count, after, expected) in table {
+        let mut text = String::new(alloc);
+        for number in 0..count {
+            write!(text, "define a{number} k\n")?;
+        }
+        text.push_str(after)?;
+        check_end(&rt, alloc, text.as_bytes(), expected)?;
+    }
+    Ok(())
+}
+
+/// Limit 11: a file's name.
+#[test]
+fn names(rt: HostRuntime) -> Result<(), Fail> {
+    let alloc = rt.alloc();
+    let table: [(usize, usize, &str); 4] = [
+        (255, 255, "1.1: m / 0.1: / 0.2: end p f"),
+        (256, 256, "Limit 11 at p:1"),
+        (256, 255, "IncludeMissing 0 at p:1"),
+        (300, 300, "Limit 11 at p:1"),
+    ];
+    for (length, held, expected) in table {
+        let mut name = String::new(alloc);
+        for _ in 0..held {
+            name.push('f')?;
+        }
+        let text = repeated(alloc, b"include ", b'f', length, b"\n")?;
+        let mut library = library(alloc, &text, &[(name.as_str(), b"m\n")], 0)?;
+        let answer = gather(alloc, Dialect::Ratfor, "p", &mut library);
+        let shown = shown(alloc, &answer)?;
+        assert!(rt; shown.starts_with(expected));
+    }
+    Ok(())
 }

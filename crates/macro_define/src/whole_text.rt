@@ -3,7 +3,7 @@ ghost use Rattle.std.specs.Prelude.{◌≡◌, IfOk, Ok, map};
 ghost use Rattle.macro_define.specs.Answers.{Through};
 ghost use Rattle.macro_define.specs.Expansion.{text_made};
 ghost use Rattle.macro_define.specs.Gathered.{Gathers, HasCause, world};
-ghost use Rattle.macro_define.specs.GatherAnswers.{IsGathered};
+ghost use Rattle.macro_define.specs.GatherAnswers.{EndsText, IsGathered};
 
 use crate::fetches::fetch_file;
 use crate::files::add_file;
@@ -34,7 +34,8 @@ pub fn gather<L: Library>(
     name: &str,
     library: &mut L,
 ) -> Result<Gathered, GatherRefusal>
-    ensures text { IsGathered (L.files library.old) dialect name.now result }
+    ensures text { IsGathered (L.files library.old) (λ names. L.fetches library.old names library.new) dialect name.now result }
+    ensures ended { IfOk result (λ all. EndsText all.tokens.items) }
     ensures same { L.files library.new ≡ L.files library.old }
     ensures becomes { L.becomes library.old library.new }
     ensures cause { HasCause (L.faults library.old) (L.faults library.new) result }
@@ -60,8 +61,8 @@ fn add_text<L: Library>(
     gathering: &mut Gathering,
 ) -> Result<(), GatherRefusal>
     requires { gathering.old.room ≡ 4194304 }
-    ensures made { Through (L.files library.old) (λ before after.
-        Gathers (text_made dialect depth name.now (world gathering.old before)) result (Ok (world gathering.new after))) }
+    ensures made { Through (L.files library.old) (λ names. L.fetches library.old names library.new) (λ before after.
+        Gathers (text_made dialect depth name.now (world gathering.old before)) result (Ok (world gathering.new after)) after) }
     ensures same { L.files library.new ≡ L.files library.old }
     ensures becomes { L.becomes library.old library.new }
     ensures cause { HasCause (L.faults library.old) (L.faults library.new) result }

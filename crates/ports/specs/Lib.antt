@@ -8,4 +8,5 @@ pub mod SinkContent
 pub mod SourceContent
 pub mod Tally
 pub mod Failing
+pub mod Counted
 pub mod Records

@@ -1,6 +1,7 @@
 // A library in memory.
 ghost use Rattle.std.specs.Prelude.{◌≡◌, Some, IfOk};
 ghost use Rattle.ports.specs.Held.{held_bytes, fetched, texts_of};
+ghost use Rattle.ports.specs.Counted.{CountsOn, counts_nothing, counts_in_a_row};
 ghost use Rattle.ports.specs.Failing.{GoesOn, goes_on_itself, goes_on_twice};
 
 use crate::{FetchFault, Library};
@@ -22,7 +23,7 @@ impl Model for MemLibrary {
 
     ghost Value = { LibraryContent };
 
-    ghost view = { λ l. record { texts = texts_of l.names.items; failing = l.failing.items; faults = l.faults } };
+    ghost view = { λ l. record { texts = texts_of l.names.items; failing = l.failing.items; calls = l.calls; faults = l.faults } };
 }
 
 impl MemLibrary {
@@ -30,6 +31,7 @@ impl MemLibrary {
     pub fn new(names: Vec<(String, Vec<u8>)>, failing: Vec<u64>) -> Self
         ensures texts { result.texts ≡ texts_of names.items }
         ensures failing { result.failing ≡ failing.items }
+        ensures calls { result.calls ≡ 0 }
         ensures faults { result.faults ≡ 0 }
     {
         MemLibrary {
@@ -38,6 +40,13 @@ impl MemLibrary {
             calls: 0,
             faults: 0,
         }
+    }
+
+    /// How many fetches there were, at most the greatest u64.
+    pub fn calls(&self) -> u64
+        ensures { result ≡ self.now.calls }
+    {
+        self.calls
     }
 }
 
@@ -63,9 +72,15 @@ impl Library for MemLibrary {
 
     ghost becomes = { λ old new. GoesOn old.failing new.failing old.faults new.faults };
 
+    ghost fetches = { λ old names new. CountsOn old.calls names new.calls };
+
     ghost stays = { λ l. goes_on_itself l.failing l.faults };
 
     ghost goes_on = { λ a b c. goes_on_twice a.failing b.failing c.failing a.faults b.faults c.faults };
+
+    ghost nothing = { λ l. counts_nothing l.calls };
+
+    ghost in_a_row = { λ a b c xs ys. counts_in_a_row a.calls b.calls c.calls xs ys };
 
     fn faults(&self) -> u64 {
         self.faults

@@ -1,6 +1,6 @@
 // A library, a source and a sink as a program sees them. Each counts its faults, and code that is given one cannot
 // raise that count by itself: so an answer that needs a risen count cannot be made up.
-ghost use Rattle.std.specs.Prelude.{◌≡◌, ◌++◌, ℕ, List, [], IfOk, IfSome, OnOk, OnErr};
+ghost use Rattle.std.specs.Prelude.{◌≡◌, ◌++◌, ◌∷◌, ℕ, List, [], IfOk, IfSome, OnOk, OnErr};
 ghost use Rattle.std.specs.declared.option.Option.{Option};
 ghost use Rattle.std.specs.Io.{ReadsAtMost};
 ghost use Rattle.std.specs.Io.KnownBytes.{ReadConsumes};
@@ -44,6 +44,9 @@ pub trait Library {
     /// What calls can make of a library.
     ghost becomes: { Self → Self → Type 0 };
 
+    /// From a library, the names that were fetched one after the other, and the library after that.
+    ghost fetches: { Self → List (List ℕ) → Self → Type 0 };
+
     /// How often a fetch has failed, at most the greatest u64.
     fn faults(&self) -> u64
         ensures { result ≡ faults self.now };
@@ -53,11 +56,16 @@ pub trait Library {
         ensures same { files self.new ≡ files self.old }
         ensures bytes { IfSome (files self.old) (λ held. IfOk result (λ got. fetched got ≡ held name.now)) }
         ensures becomes { becomes self.old self.new }
+        ensures fetched { fetches self.old (name.now ∷ []) self.new }
         ensures cause { FetchHasCause (faults self.old) (faults self.new) result };
 
     ghost stays: { (library : Self) → becomes library library };
 
     ghost goes_on: { (first second third : Self) → becomes first second → becomes second third → becomes first third };
+
+    ghost nothing: { (library : Self) → fetches library [] library };
+
+    ghost in_a_row: { (first second third : Self) (xs ys : List (List ℕ)) → fetches first xs second → fetches second ys third → fetches first (xs ++ ys) third };
 }
 
 /// Bytes to read.

@@ -35,9 +35,15 @@ impl<'a, R: Files> Library for FileLibrary<'a, R> {
 
     ghost becomes = { λ _ _. Unit {0} };
 
+    ghost fetches = { λ _ _ _. Unit {0} };
+
     ghost stays = { λ _. tt };
 
     ghost goes_on = { λ _ _ _ _ _. tt };
+
+    ghost nothing = { λ _. tt };
+
+    ghost in_a_row = { λ _ _ _ _ _ _ _. tt };
 
     fn faults(&self) -> u64 {
         self.faults

@@ -2,10 +2,10 @@ use Rattle.std.proofs.Common.{◌≡◌, ◌==◌, ◌-◌, ◌≤◌, ℕ, List
 use Rattle.std.specs.Prelude.{Result}
 use Rattle.ground.specs.declared.token.Token.{Token}
 use Rattle.macro_define.specs.declared.defines.FirstWord.{FirstWord}
-use Rattle.macro_define.specs.Expansion.{Stop, World, end_of, fetched_file, file_made, from_tokens, in_file, include_made, part}
+use Rattle.macro_define.specs.Expansion.{Stop, World, fetched_file, file_made, from_tokens, include_made, part}
 use Rattle.macro_define.specs.Gathered.{Fetches, Gathers, world}
 use Rattle.macro_define.proofs.ThroughLemmas.{through-map, through-none, through-same, through-then}
-use Rattle.macro_define.proofs.FileLemmas.{file-begins, gathers-failed, gathers-memory, include-failed, include-goes, include-part, plain-part, refused-in, tokens-end, tokens-step, tokens-stop}
+use Rattle.macro_define.proofs.FileLemmas.{file-begins, gathers-failed, gathers-memory, include-failed, include-goes, include-none, include-part, plain-part, tokens-end, tokens-step, tokens-stop}
 use Rattle.macro_define.proofs.files.+files.Goals as goal
 
 pub add_include-returns-in_err-text-clause-made : goal.add_include-returns-in_err-text-clause-made
@@ -17,9 +17,9 @@ add_include-returns-in_err-text-clause-made g t c =
     let mid = c.fetch_file.new.gathering in
     let e = c.in_err-text.field-0.0 in
     let r = c.from_residual.result in
-    through-map (g.L.Library.files c.args.library.now)
-    (λ before after. Fetches (in_file c.args.includer.now (fetched_file c.args.place (depth == 0) (nat_lt 255 (length name)) name (world old before))) (Err e) (world mid after))
-    (λ before after. Gathers (include_made d depth c.args.includer.now c.args.place name (world old before)) r (Ok (world mid after)))
+    through-map (g.L.Library.files c.args.library.now) (λ names. g.L.Library.fetches c.args.library.now names c.fetch_file.new.library)
+    (λ before after. Fetches (fetched_file c.args.place (depth == 0) (nat_lt 255 (length name)) c.args.includer.now name (world old before)) (Err e) (world mid after))
+    (λ before after. Gathers (include_made d depth c.args.includer.now c.args.place name (world old before)) r (Ok (world mid after)) after)
     c.in_err-text.ensures.text
     (λ a b h. include-failed d depth c.args.includer.now c.args.place name (world old a) (world mid b) (Ok (world mid b)) e r h c.from_residual.ensures)
 
@@ -34,14 +34,17 @@ add_include-returns-clause-made g t c =
     let text = c.in_ok-text.text in
     let r = c.add_file.result in
     let files = g.L.Library.files c.args.library.now in
-    through-then files
-    (λ before after. Fetches (in_file c.args.includer.now (fetched_file c.args.place (depth == 0) (nat_lt 255 (length name)) name (world old before))) (Ok text) (world mid after))
-    (λ before after. Gathers (file_made d (include_made d (depth - 1) name) false name c.deref.result.now (world mid before)) r (Ok (world new after)))
-    (λ before after. Gathers (include_made d depth c.args.includer.now c.args.place name (world old before)) r (Ok (world new after)))
+    through-then files (λ names. g.L.Library.fetches c.args.library.now names c.fetch_file.new.library)
+    (λ names. g.L.Library.fetches c.fetch_file.new.library names c.add_file.new.library)
+    (λ names. g.L.Library.fetches c.args.library.now names c.add_file.new.library)
+    (λ before after. Fetches (fetched_file c.args.place (depth == 0) (nat_lt 255 (length name)) c.args.includer.now name (world old before)) (Ok text) (world mid after))
+    (λ before after. Gathers (file_made d (include_made d (depth - 1) name) false name c.deref.result.now (world mid before)) r (Ok (world new after)) after)
+    (λ before after. Gathers (include_made d depth c.args.includer.now c.args.place name (world old before)) r (Ok (world new after)) after)
+    (g.met.L.Library.in_a_row c.args.library.now c.fetch_file.new.library c.add_file.new.library)
     c.in_ok-text.ensures.text
-    (through-same files (g.L.Library.files c.fetch_file.new.library) (λ before after. Gathers (file_made d (include_made d (depth - 1) name) false name c.deref.result.now (world mid before)) r (Ok (world new after))) c.in_ok-text.ensures.same c.add_file.ensures.made)
-    (λ a b x h k. include-goes d depth c.args.includer.now c.args.place name (world old a) (world mid b) text.items r (Ok (world new x)) c.in_ok-text.ensures.shallow h
-    (subst (λ (bs : List ℕ). Gathers (file_made d (include_made d (depth - 1) name) false name bs (world mid b)) r (Ok (world new x))) c.deref.ensures.value k))
+    (through-same files (g.L.Library.files c.fetch_file.new.library) (λ names. g.L.Library.fetches c.fetch_file.new.library names c.add_file.new.library) (λ before after. Gathers (file_made d (include_made d (depth - 1) name) false name c.deref.result.now (world mid before)) r (Ok (world new after)) after) c.in_ok-text.ensures.same c.add_file.ensures.made)
+    (λ a b x h k. include-goes d depth c.args.includer.now c.args.place name (world old a) (world mid b) text.items r (Ok (world new x)) x c.in_ok-text.ensures.shallow h
+    (subst (λ (bs : List ℕ). Gathers (file_made d (include_made d (depth - 1) name) false name bs (world mid b)) r (Ok (world new x)) x) c.deref.ensures.value k))
 
 pub add_part-returns-in-Define-clause-made : goal.add_part-returns-in-Define-clause-made
 add_part-returns-in-Define-clause-made g t c =
@@ -53,9 +56,10 @@ add_part-returns-in-Define-clause-made g t c =
     let rest = c.add_define.new.tokens.items in
     let r = c.add_define.result in
     let include = include_made d c.args.depth name in
-    through-none (g.L.Library.files c.args.library.now)
-    (λ before after. Gathers (part include d c.args.outermost name c.args.first c.args.token ts (world old before)) r (Ok (rest, world new after)))
-    (λ a. subst (λ (f : FirstWord). Gathers (part include d c.args.outermost name f c.args.token ts (world old a)) r (Ok (rest, world new a))) (sym c.in-Define.is) (c.add_define.ensures.made a))
+    through-none (g.L.Library.files c.args.library.now) (λ names. g.L.Library.fetches c.args.library.now names c.args.library.now)
+    (λ before after. Gathers (part include d c.args.outermost name c.args.first c.args.token ts (world old before)) r (Ok (rest, world new after)) after)
+    (g.met.L.Library.nothing c.args.library.now)
+    (λ a. subst (λ (f : FirstWord). Gathers (part include d c.args.outermost name f c.args.token ts (world old a)) r (Ok (rest, world new a)) a) (sym c.in-Define.is) (c.add_define.ensures.made a))
 
 pub add_part-returns-in-Some-clause-made : goal.add_part-returns-in-Some-clause-made
 add_part-returns-in-Some-clause-made g t c =
@@ -67,12 +71,25 @@ add_part-returns-in-Some-clause-made g t c =
     let rest = c.next_name.new.tokens.items in
     let r = c.add_include.result in
     let include = include_made d c.args.depth name in
-    through-map (g.L.Library.files c.args.library.now)
-    (λ before after. Gathers (include c.in-Some.place c.as_bytes.result.now (world old before)) r (Ok (world new after)))
-    (λ before after. Gathers (part include d c.args.outermost name c.args.first c.args.token ts (world old before)) r (Ok (rest, world new after)))
+    through-map (g.L.Library.files c.args.library.now) (λ names. g.L.Library.fetches c.args.library.now names c.add_include.new.library)
+    (λ before after. Gathers (include c.in-Some.place c.as_bytes.result.now (world old before)) r (Ok (world new after)) after)
+    (λ before after. Gathers (part include d c.args.outermost name c.args.first c.args.token ts (world old before)) r (Ok (rest, world new after)) after)
     c.add_include.ensures.made
-    (λ a b h. include-part include d c.args.outermost name c.args.first c.args.token ts rest c.in-Some.place c.in-Some.file c.as_bytes.result.now (world old a) (world new b) r
+    (λ a b h. include-part include d c.args.outermost name c.args.first c.args.token ts rest c.in-Some.place c.in-Some.file c.as_bytes.result.now (world old a) (world new b) b r
     c.in-Include.is c.in-Some.ensures.name c.in-Some.ensures.rest c.as_bytes.ensures h)
+
+pub add_part-returns-in-Include-clause-made : goal.add_part-returns-in-Include-clause-made
+add_part-returns-in-Include-clause-made g t c =
+    let d = c.args.dialect in
+    let name = c.args.name.now in
+    let old = c.args.gathering.now in
+    let ts = c.args.tokens.now.items in
+    let rest = c.next_name.new.tokens.items in
+    let include = include_made d c.args.depth name in
+    through-none (g.L.Library.files c.args.library.now) (λ names. g.L.Library.fetches c.args.library.now names c.args.library.now)
+    (λ before after. part include d c.args.outermost name c.args.first c.args.token ts (world old before) ≡ Ok (rest, world old after))
+    (g.met.L.Library.nothing c.args.library.now)
+    (λ a. include-none include d c.args.outermost name c.args.first c.args.token ts rest (world old a) c.in-Include.is c.in-None.ensures.name c.in-None.ensures.rest)
 
 pub add_part-returns-clause-made : goal.add_part-returns-clause-made
 add_part-returns-clause-made g t c =
@@ -83,18 +100,20 @@ add_part-returns-clause-made g t c =
     let ts = c.args.tokens.now.items in
     let r = c.add_plain.result in
     let include = include_made d c.args.depth name in
-    through-none (g.L.Library.files c.args.library.now)
-    (λ before after. Gathers (part include d c.args.outermost name c.args.first c.args.token ts (world old before)) r (Ok (ts, world new after)))
-    (λ a. plain-part include d c.args.outermost name c.args.first c.args.token ts (world old a) (world new a) r c.in-Other.is (c.add_plain.ensures.made a))
+    through-none (g.L.Library.files c.args.library.now) (λ names. g.L.Library.fetches c.args.library.now names c.args.library.now)
+    (λ before after. Gathers (part include d c.args.outermost name c.args.first c.args.token ts (world old before)) r (Ok (ts, world new after)) after)
+    (g.met.L.Library.nothing c.args.library.now)
+    (λ a. plain-part include d c.args.outermost name c.args.first c.args.token ts (world old a) (world new a) a r c.in-Other.is (c.add_plain.ensures.made a))
 
 pub add_file-returns-in_err-scanned-clause-made : goal.add_file-returns-in_err-scanned-clause-made
 add_file-returns-in_err-scanned-clause-made g t c =
     let d = c.args.dialect in
     let old = c.args.gathering.now in
     let whole : World → Result World Stop = λ w. file_made d (include_made d c.args.depth c.args.name.now) c.args.outermost c.args.name.now c.args.text.now w in
-    through-none (g.L.Library.files c.args.library.now)
-    (λ before after. Gathers (whole (world old before)) c.from_residual.result (Ok (world old after)))
-    (λ a. gathers-memory (whole (world old a)) (Ok (world old a)) c.from_residual.result c.from_residual.ensures)
+    through-none (g.L.Library.files c.args.library.now) (λ names. g.L.Library.fetches c.args.library.now names c.args.library.now)
+    (λ before after. Gathers (whole (world old before)) c.from_residual.result (Ok (world old after)) after)
+    (g.met.L.Library.nothing c.args.library.now)
+    (λ a. gathers-memory (whole (world old a)) (Ok (world old a)) a c.from_residual.result c.from_residual.ensures)
 
 pub add_file-loop-token-init : goal.add_file-loop-token-init
 add_file-loop-token-init g t c =
@@ -108,8 +127,9 @@ add_file-loop-token-init g t c =
       length tokens,
       (
         omega arith,
-        through-none (g.L.Library.files c.args.library.now)
+        through-none (g.L.Library.files c.args.library.now) (λ names. g.L.Library.fetches c.args.library.now names c.args.library.now)
             (λ before after. file_made d include c.args.outermost name text (world old before) ≡ from_tokens include d c.args.outermost name (length tokens) true tokens fault (world old after))
+            (g.met.L.Library.nothing c.args.library.now)
             (λ a. file-begins include d c.args.outermost name text (world old a) c.file_number.result tokens fault c.file_number.ensures (c.from_vec-tokens.ensures.items ∙ c.in_ok-scanned.ensures.tokens) c.in_ok-scanned.ensures.fault),
         c.requires.room,
         refl,
@@ -144,12 +164,15 @@ add_file-loop-token-preserved g t c =
       inv.0 - 1,
       (
         omega arith,
-        through-then files
+        through-then files (λ names. g.L.Library.fetches c.args.library.now names c.loop-token.library)
+            (λ names. g.L.Library.fetches c.loop-token.library names c.add_part.new.library)
+            (λ names. g.L.Library.fetches c.args.library.now names c.add_part.new.library)
             (λ before after. whole (world old before) ≡ from_tokens include d outermost name inv.0 begins all fault (world mid after))
             (λ before after. part include d outermost name first token ts (world mid before) ≡ Ok (rest, world new after))
             (λ before after. whole (world old before) ≡ from_tokens include d outermost name (inv.0 - 1) later rest fault (world new after))
+            (g.met.L.Library.in_a_row c.args.library.now c.loop-token.library c.add_part.new.library)
             inv.1.1
-            (through-same files (g.L.Library.files c.loop-token.library)
+            (through-same files (g.L.Library.files c.loop-token.library) (λ names. g.L.Library.fetches c.loop-token.library names c.add_part.new.library)
             (λ before after. part include d outermost name first token ts (world mid before) ≡ Ok (rest, world new after)) inv.1.3 c.in_ok-add_part.ensures.made)
             (λ a b x h k. tokens-step include d outermost name inv.0 begins later first token all ts rest fault (whole (world old a)) (world mid b) (world new x)
             h split inv.1.0 c.first_word-first.ensures c.ends_line-begins.ensures k),
@@ -183,36 +206,19 @@ add_file-returns-in_err-add_part-clause-made g t c =
     let r = c.from_residual-in_err-add_part.result in
     let whole : World → Result World Stop = λ w. file_made d include outermost name c.args.text.now w in
     let files = g.L.Library.files c.args.library.now in
-    through-then files
+    through-then files (λ names. g.L.Library.fetches c.args.library.now names c.loop-token.library)
+    (λ names. g.L.Library.fetches c.loop-token.library names c.add_part.new.library)
+    (λ names. g.L.Library.fetches c.args.library.now names c.add_part.new.library)
     (λ before after. whole (world old before) ≡ from_tokens include d outermost name inv.0 begins all fault (world mid after))
-    (λ before after. Gathers {B = Unit {0}} (part include d outermost name first token ts (world mid before)) (Err e) (Ok (rest, world new after)))
-    (λ before after. Gathers (whole (world old before)) r (Ok (world new after)))
+    (λ before after. Gathers {B = Unit {0}} (part include d outermost name first token ts (world mid before)) (Err e) (Ok (rest, world new after)) after)
+    (λ before after. Gathers (whole (world old before)) r (Ok (world new after)) after)
+    (g.met.L.Library.in_a_row c.args.library.now c.loop-token.library c.add_part.new.library)
     inv.1.1
-    (through-same files (g.L.Library.files c.loop-token.library)
-    (λ before after. Gathers {B = Unit {0}} (part include d outermost name first token ts (world mid before)) (Err e) (Ok (rest, world new after))) inv.1.3 c.in_err-add_part.ensures.made)
-    (λ a b x h k. gathers-failed (part include d outermost name first token ts (world mid b)) (Ok (rest, world new x)) (whole (world old a)) (Ok (world new x)) e r k
+    (through-same files (g.L.Library.files c.loop-token.library) (λ names. g.L.Library.fetches c.loop-token.library names c.add_part.new.library)
+    (λ before after. Gathers {B = Unit {0}} (part include d outermost name first token ts (world mid before)) (Err e) (Ok (rest, world new after)) after) inv.1.3 c.in_err-add_part.ensures.made)
+    (λ a b x h k. gathers-failed (part include d outermost name first token ts (world mid b)) (Ok (rest, world new x)) (whole (world old a)) (Ok (world new x)) x e r k
     (λ stop told. tokens-stop include d outermost name inv.0 begins first token all ts fault (whole (world old a)) (world mid b) stop h split inv.1.0 c.first_word-first.ensures told)
     c.from_residual-in_err-add_part.ensures)
-
-pub add_file-returns-in-Some-fault-clause-made : goal.add_file-returns-in-Some-fault-clause-made
-add_file-returns-in-Some-fault-clause-made g t c =
-    let d = c.args.dialect in
-    let name = c.args.name.now in
-    let old = c.args.gathering.now in
-    let new = c.loop-token.gathering in
-    let fault = c.in-Some-fault.fault in
-    let include = include_made d c.args.depth name in
-    let inv = c.loop-token.invariant in
-    let none : c.loop-token.tokens.items ≡ [] = search rules in
-    let whole : World → Result World Stop = λ w. file_made d include c.args.outermost name c.args.text.now w in
-    through-map (g.L.Library.files c.args.library.now)
-    (λ before after. whole (world old before) ≡ from_tokens include d c.args.outermost name inv.0 c.loop-token.begins c.loop-token.tokens.items c.in_ok-scanned.scanned.fault (world new after))
-    (λ before after. Gathers {B = Unit {0}} (whole (world old before)) (Err c.fault_in.result) (Ok (world new after)))
-    inv.1.1
-    (λ a b h. refused-in (whole (world old a)) (Ok (world new b)) name fault c.fault_in.result c.fault_in.ensures
-    (h ∙ ap (λ (ts : List Token). from_tokens include d c.args.outermost name inv.0 c.loop-token.begins ts c.in_ok-scanned.scanned.fault (world new b)) none
-    ∙ tokens-end include d c.args.outermost name inv.0 c.loop-token.begins c.in_ok-scanned.scanned.fault (world new b)
-    ∙ ap (λ f. end_of include d c.args.outermost name f (world new b)) c.in-Some-fault.is))
 
 pub add_file-returns-clause-made : goal.add_file-returns-clause-made
 add_file-returns-clause-made g t c =
@@ -220,14 +226,17 @@ add_file-returns-clause-made g t c =
     let name = c.args.name.now in
     let old = c.args.gathering.now in
     let new = c.loop-token.gathering in
+    let fault = c.in_ok-scanned.scanned.fault in
     let include = include_made d c.args.depth name in
     let inv = c.loop-token.invariant in
     let none : c.loop-token.tokens.items ≡ [] = search rules in
+    let r = c.end_file.result in
     let whole : World → Result World Stop = λ w. file_made d include c.args.outermost name c.args.text.now w in
-    through-map (g.L.Library.files c.args.library.now)
-    (λ before after. whole (world old before) ≡ from_tokens include d c.args.outermost name inv.0 c.loop-token.begins c.loop-token.tokens.items c.in_ok-scanned.scanned.fault (world new after))
-    (λ before after. whole (world old before) ≡ Ok (world new after))
+    through-map (g.L.Library.files c.args.library.now) (λ names. g.L.Library.fetches c.args.library.now names c.loop-token.library)
+    (λ before after. whole (world old before) ≡ from_tokens include d c.args.outermost name inv.0 c.loop-token.begins c.loop-token.tokens.items fault (world new after))
+    (λ before after. Gathers (whole (world old before)) r (Ok (world new after)) after)
     inv.1.1
-    (λ a b h. h ∙ ap (λ (ts : List Token). from_tokens include d c.args.outermost name inv.0 c.loop-token.begins ts c.in_ok-scanned.scanned.fault (world new b)) none
-    ∙ tokens-end include d c.args.outermost name inv.0 c.loop-token.begins c.in_ok-scanned.scanned.fault (world new b)
-    ∙ ap (λ f. end_of include d c.args.outermost name f (world new b)) c.in-None.is)
+    (λ a b h. subst (λ (x : Result World Stop). Gathers x r (Ok (world new b)) b)
+    (sym (h ∙ ap (λ (ts : List Token). from_tokens include d c.args.outermost name inv.0 c.loop-token.begins ts fault (world new b)) none
+    ∙ tokens-end include d c.args.outermost name inv.0 c.loop-token.begins fault (world new b)))
+    (c.end_file.ensures.made (world new b)))

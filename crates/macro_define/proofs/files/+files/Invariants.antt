@@ -18,7 +18,7 @@ decreases-add_part g l = 3 * l.depth + 1
 abbrev pub invariant-add_file-loop-token : goal.invariant-add_file-loop-token
 invariant-add_file-loop-token g l =
     (n : ℕ) × ((length l.tokens.items ≤ n)
-    × Through (g.L.Library.files l.fn.library) (λ before after.
+    × Through (g.L.Library.files l.fn.library) (λ names. g.L.Library.fetches l.fn.library names l.library) (λ before after.
     file_made l.dialect (include_made l.dialect l.depth l.name) l.outermost l.name l.text (world l.fn.gathering before)
     ≡ from_tokens (include_made l.dialect l.depth l.name) l.dialect l.outermost l.name n l.begins l.tokens.items l.scanned.fault (world l.gathering after))
     × (l.gathering.room ≤ 4194304)
