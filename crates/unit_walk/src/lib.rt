@@ -1,0 +1,4 @@
+//! A walk of one main unit of FORTRAN, statement by statement.
+#![tactic(auto)]
+
+mod value;
