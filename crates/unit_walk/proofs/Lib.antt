@@ -1,0 +1,3 @@
+mod Spots
+mod ValueLemmas
+mod StatementLemmas

@@ -1,4 +1,7 @@
 //! A walk of one main unit of FORTRAN, statement by statement.
 #![tactic(auto)]
 
+mod statement;
 mod value;
+
+pub use statement::RunEnd;
