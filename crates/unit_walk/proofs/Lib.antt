@@ -1,3 +1,6 @@
 mod Spots
 mod ValueLemmas
 mod StatementLemmas
+mod LoopLemmas
+mod WriteLemmas
+mod ShapeLemmas

@@ -1,22 +1,24 @@
 -- What plain statements do to the values and the records.
-use Rattle.std.proofs.Common.{◌≡◌, ℕ, ℤ, ◌+◌, zero, suc, pos, Bool, true, false, ◌&&◌, List, [], ◌∷◌, ◌++◌, nat_eq, nat_le, Option, Some, None, Result, Ok, Err, refl, sym, ◌∙◌, ap, subst, if◌then◌else◌}
-use Rattle.std.specs.Prelude.{⊤, int_le}
+use Rattle.std.proofs.Common.{◌≡◌, ℕ, ℤ, ◌+◌, ◌<◌, ◌≤◌, ◌≤ℤ◌, ◌-◌, zero, suc, pos, negsuc, length, get_or, arith, Bool, true, false, ◌&&◌, List, [], ◌∷◌, ◌++◌, nat_eq, nat_le, Option, Some, None, Result, Ok, Err, refl, sym, ◌∙◌, ap, subst, if◌then◌else◌}
+use Rattle.std.specs.Prelude.{⊤, unsigned_abs}
 use Rattle.std.specs.Str.{bytes_eq}
 use Rattle.ground.specs.declared.place.Place.{Place}
 use Rattle.ground.specs.declared.trap.Trap.{Trap}
+use Rattle.ground.specs.declared.trap.Trap.TheVariants.{BadBranch}
 use Rattle.ground.specs.declared.value.Kind.{Kind}
 use Rattle.ground.specs.declared.value.Kind.TheVariants.{Integer as AnInteger}
+use Rattle.ground.specs.Arithmetic.{IsInRange}
 use Rattle.ground.specs.Content.{Content, Nothing, Whole, Truth}
 use Rattle.f66_tree.specs.Turns.{◌>>=◌}
 use Rattle.f66_tree.specs.Forms.{Text, Formula, Variable, Act, Assigns, Selects, Line}
 use Rattle.f66_tree.specs.World.{Record, Store, put_in, World, Out, Gives, Halts, Ended, Trapped, Try, Yields, Traps, bind, settle, lifted, holding}
 use Rattle.f66_tree.specs.Units.{Note, Frame, Held}
 use Rattle.f66_tree.specs.Evaluation.{whole, value_of, store_at}
-use Rattle.f66_tree.specs.Statements.{Exit, Next, To, label_at, does}
+use Rattle.f66_tree.specs.Statements.{Exit, Next, To, nth, label_at, does}
 use Rattle.f66_tree.specs.Execution.{Stand}
 use Rattle.f66_tree.specs.OneUnit.{list_number}
 use Rattle.f66_tree.specs.Built.{is_whole}
-use Rattle.unit_walk.specs.Values.{Values, known, whole_value}
+use Rattle.unit_walk.specs.Values.{Values, AllInRange, known, whole_value}
 use Rattle.unit_walk.specs.Walking.{content_of, HoldsValues, Holds, AreFormats, main_at, around_main, SameCounts, Comes}
 use Rattle.unit_walk.proofs.Spots.{same_unit}
 use Rattle.unit_walk.proofs.ValueLemmas.{variable_is, whole_is}
@@ -57,3 +59,63 @@ module _ (notes : List Note) (are : AreFormats notes) (code : List Line) (n : �
     holds = holds;
     same = same_counts w;
   }
+
+  -- the computed GO TO
+  pub selects : (ls : List ℕ) (x : Text) (z : ℤ) (r : Result ℕ Trap) → Ok z ≡ known (values x) → lifted r ≡ label_at ls (Whole z)
+      → Comes (does (around_main notes code n run) (main_at p) (Selects ls x) w) (λ w1. bind (settle p (lifted r) w1) (λ l w2. Gives (To l) w2)) w values records
+  selects ls x z r is label = record {
+    after = w;
+    is =
+        ap (λ (o : Out Content). bind o (λ v w1. bind (settle p (label_at ls v) w1) (λ l w2. Gives (To l) w2))) (variable_is notes are code n run values p w holds.store x)
+        ∙ ap (λ (r1 : Result ℤ Trap). bind (settle p (whole r1) w) (λ v w1. bind (settle p (label_at ls v) w1) (λ l w2. Gives (To l) w2))) (sym is)
+        ∙ ap (λ (t : Try ℕ). bind (settle p t w) (λ l w2. Gives (To l) w2)) (sym label);
+    holds = holds;
+    same = same_counts w;
+  }
+
+  pub select_fails : (ls : List ℕ) (x : Text) (t : Trap) → Err t ≡ known (values x)
+      → Comes (does (around_main notes code n run) (main_at p) (Selects ls x) w) (λ w1. Halts (Ended (Trapped t p)) w1) w values records
+  select_fails ls x t is = record {
+    after = w;
+    is =
+        ap (λ (o : Out Content). bind o (λ v w1. bind (settle p (label_at ls v) w1) (λ l w2. Gives (To l) w2))) (variable_is notes are code n run values p w holds.store x)
+        ∙ ap (λ (r1 : Result ℤ Trap). bind (settle p (whole r1) w) (λ v w1. bind (settle p (label_at ls v) w1) (λ l w2. Gives (To l) w2))) (sym is);
+    holds = holds;
+    same = same_counts w;
+  }
+
+pub set_in_range : (values new : Values) (name : Text) (z : ℤ) → Sets values name (Some z) new → IsInRange z → AllInRange values → AllInRange new
+set_in_range values new name z set range all q y is = by_test (bytes_eq name q) (sym (set q) ∙ is)
+  where
+    by_test : (b : Bool) → (if b then Some z else values q) ≡ Some y → IsInRange y
+    by_test true here = let same : z ≡ y = cc here in subst IsInRange same range
+    by_test false before = all q y before
+
+pub forget_in_range : (values new : Values) (name : Text) → Sets values name None new → AllInRange values → AllInRange new
+forget_in_range values new name set all q y is = by_test (bytes_eq name q) (sym (set q) ∙ is)
+  where
+    by_test : (b : Bool) → (if b then None else values q) ≡ Some y → IsInRange y
+    by_test true here = cc here
+    by_test false before = all q y before
+
+nth_none : (ls : List ℕ) (n : ℕ) → length ls ≤ n → Traps BadBranch ≡ nth ls n
+nth_none [] n is = refl
+nth_none (l ∷ ls) zero is = absurd (omega arith)
+nth_none (l ∷ ls) (suc n) is = nth_none ls n (omega arith)
+
+nth_some : (ls : List ℕ) (n l : ℕ) → n < length ls → l ≡ get_or ls n l → Yields l ≡ nth ls n
+nth_some [] n l within is = absurd (omega arith)
+nth_some (k ∷ ls) zero l within is = ap (λ (m : ℕ). let t : Try ℕ = Yields m in t) is
+nth_some (k ∷ ls) (suc n) l within is = nth_some ls n l (omega arith) is
+
+pub label_is : (ls : List ℕ) (z : ℤ) (l : ℕ) → pos 1 ≤ℤ z → unsigned_abs z - 1 < length ls → l ≡ get_or ls (unsigned_abs z - 1) l → Yields l ≡ label_at ls (Whole z)
+label_is ls (pos zero) l first within is = absurd (omega arith)
+label_is ls (negsuc n) l first within is = absurd (omega arith)
+label_is ls (pos (suc n)) l first within is =
+    let at : suc n - 1 ≡ n = omega arith in
+    nth_some ls n l (omega (arith, within)) (is ∙ ap (λ (m : ℕ). get_or ls m l) at)
+
+pub no_label : (ls : List ℕ) (z : ℤ) → pos 1 ≤ℤ z → length ls ≤ unsigned_abs z - 1 → Traps BadBranch ≡ label_at ls (Whole z)
+no_label ls (pos zero) first behind = absurd (omega arith)
+no_label ls (negsuc n) first behind = absurd (omega arith)
+no_label ls (pos (suc n)) first behind = nth_none ls n (omega (arith, behind))

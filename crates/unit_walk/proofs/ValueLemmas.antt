@@ -55,7 +55,7 @@ both_second false b is = cc is
 
 -- ---- values ----
 
-asked_is : (o : Option ℤ) → asked AnInteger (content_of o) ≡ whole (known o)
+pub asked_is : (o : Option ℤ) → asked AnInteger (content_of o) ≡ whole (known o)
 asked_is None = refl
 asked_is (Some z) = refl
 

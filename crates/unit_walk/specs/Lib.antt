@@ -1,3 +1,4 @@
 pub mod Values
 pub mod Walking
 pub mod Leaving
+pub mod Loops

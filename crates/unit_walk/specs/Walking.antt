@@ -3,8 +3,9 @@ use Rattle.std.specs.Prelude.{◌≡◌, ℕ, ℤ, zero, suc, ◌+◌, ◌-◌, 
 use Rattle.ground.specs.declared.place.Place.{Place}
 use Rattle.ground.specs.declared.trap.Trap.{Trap}
 use Rattle.ground.specs.Content.{Content, Nothing, Whole}
-use Rattle.f66_tree.specs.Fields.{Fields}
-use Rattle.f66_tree.specs.Forms.{Text, Act, Formats, Line}
+use Rattle.f66_tree.specs.declared.editing.EditKind.TheVariants as edits
+use Rattle.f66_tree.specs.Fields.{Takes, Fields, NoField, Single}
+use Rattle.f66_tree.specs.Forms.{Text, Variable, One, Entries, NoEntry, AndEntry, Act, Formats, Line}
 use Rattle.f66_tree.specs.World.{Record, Store, World, Out, Gives, Halts}
 use Rattle.f66_tree.specs.Units.{Note, Frame, Setting}
 use Rattle.f66_tree.specs.Execution.{target, Stand}
@@ -51,3 +52,11 @@ pub record Comes {A : Type 0} (o : Out A) (leads : World → Out A) (w : World) 
   pub is : o ≡ leads after
   pub holds : Holds values records after
   pub same : SameCounts w after
+
+-- a format of one integer field of this width
+abbrev pub one_field : ℕ → Fields
+one_field width = Single 1 (Takes edits.Whole width) NoField
+
+-- a list of one variable
+abbrev pub one_item : Text → Entries
+one_item x = AndEntry (One (Variable x)) NoEntry
