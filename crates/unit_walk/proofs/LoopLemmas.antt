@@ -15,11 +15,11 @@ use Rattle.f66_tree.specs.Statements.{Loop, fit_loop, fit_loop_in, loop_start, t
 use Rattle.f66_tree.specs.Execution.{Stand}
 use Rattle.f66_tree.specs.OneUnit.{list_number}
 use Rattle.unit_walk.specs.declared.do_loop.Pass.{Pass}
-use Rattle.unit_walk.specs.Values.{Values, known, par_value}
+use Rattle.unit_walk.specs.Values.{Values, Sets, known, par_value}
 use Rattle.unit_walk.specs.Loops.{loop_of, fitted, begun_loop, next_value, turned}
 use Rattle.unit_walk.specs.Walking.{content_of, HoldsValues, Holds, AreFormats, main_at, around_main, SameCounts, Comes}
 use Rattle.unit_walk.proofs.ValueLemmas.{asked_is, par_is}
-use Rattle.unit_walk.proofs.StatementLemmas.{Sets, put_holds, same_counts}
+use Rattle.unit_walk.proofs.StatementLemmas.{put_holds, same_counts}
 
 -- the trap, or the store of the first value
 started_by : Setting → Place → Text → World → Result (ℤ × Pass) Trap → Out Loop
@@ -101,6 +101,18 @@ module _ (notes : List Note) (are : AreFormats notes) (code : List Line) (n : �
     holds = record { store = put_holds values new w.state.store x (next_value k z) sets holds.store; written = holds.written };
     same = record { left = refl; count = refl };
   }
+
+  pub turns_on : (new : Values) (x : Text) (k : Loop) (z y : ℤ) → Ok z ≡ known (values x) → Some y ≡ next_value k z → Sets values x (Some y) new
+      → Comes (loop_turn (around_main notes code n run) (main_at p) x k w) (λ w1. Gives true w1) w new records
+  turns_on new x k z y is next sets =
+      let set : Sets values x (next_value k z) new = subst (λ (o : Option ℤ). Sets values x o new) next sets in
+      subst (λ (o : Option ℤ). Comes (loop_turn (around_main notes code n run) (main_at p) x k w) (λ w1. Gives (is_some o) w1) w new records) (sym next) (loop_turns new x k z is set)
+
+  pub turns_out : (new : Values) (x : Text) (k : Loop) (z : ℤ) → Ok z ≡ known (values x) → None ≡ next_value k z → Sets values x None new
+      → Comes (loop_turn (around_main notes code n run) (main_at p) x k w) (λ w1. Gives false w1) w new records
+  turns_out new x k z is next sets =
+      let set : Sets values x (next_value k z) new = subst (λ (o : Option ℤ). Sets values x o new) next sets in
+      subst (λ (o : Option ℤ). Comes (loop_turn (around_main notes code n run) (main_at p) x k w) (λ w1. Gives (is_some o) w1) w new records) (sym next) (loop_turns new x k z is set)
 
   pub turn_fails : (x : Text) (k : Loop) (t : Trap) → Err t ≡ known (values x)
       → Comes (loop_turn (around_main notes code n run) (main_at p) x k w) (λ w1. Halts (Ended (Trapped t p)) w1) w values records

@@ -18,14 +18,10 @@ use Rattle.f66_tree.specs.Statements.{Exit, Next, To, nth, label_at, does}
 use Rattle.f66_tree.specs.Execution.{Stand}
 use Rattle.f66_tree.specs.OneUnit.{list_number}
 use Rattle.f66_tree.specs.Built.{is_whole}
-use Rattle.unit_walk.specs.Values.{Values, AllInRange, known, whole_value}
+use Rattle.unit_walk.specs.Values.{Values, AllInRange, Sets, known, whole_value}
 use Rattle.unit_walk.specs.Walking.{content_of, HoldsValues, Holds, AreFormats, main_at, around_main, SameCounts, Comes}
 use Rattle.unit_walk.proofs.Spots.{same_unit}
 use Rattle.unit_walk.proofs.ValueLemmas.{variable_is, whole_is}
-
--- the new values are the old ones but for this name
-abbrev pub Sets : Values → Text → Option ℤ → Values → Type 0
-Sets values name o new = (q : Text) → new q ≡ (if bytes_eq name q then o else values q)
 
 pub put_holds : (values new : Values) (store : Store) (name : Text) (o : Option ℤ) → Sets values name o new → HoldsValues values store → HoldsValues new (put_in (list_number (0 ∷ name)) (content_of o) store)
 put_holds values new store name o sets holds = record { under = λ q. put_is q (nat_eq (list_number (0 ∷ q)) (list_number (0 ∷ name))) (same_unit q name) }

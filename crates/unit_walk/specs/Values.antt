@@ -1,5 +1,6 @@
 -- Values of integer expressions and conditions, by the variables that have one (X3.9-1966, section 6).
-use Rattle.std.specs.Prelude.{◌≡◌, ℕ, ℤ, neg_ℤ, int_lt, int_le, Bool, true, false, not, ◌&&◌, ◌||◌, List, Option, Some, None, Result, Ok, Err}
+use Rattle.std.specs.Prelude.{◌≡◌, ℕ, ℤ, neg_ℤ, int_lt, int_le, Bool, true, false, not, ◌&&◌, ◌||◌, List, Option, Some, None, Result, Ok, Err, if◌then◌else◌}
+use Rattle.std.specs.Str.{bytes_eq}
 use Rattle.std.specs.BTreeMap.{BTreeMap, get_by}
 use Rattle.std.specs.Cmp.Lexicographic.{slice_cmp}
 use Rattle.std.specs.Ordering.{nat_cmp}
@@ -22,6 +23,10 @@ value_under variables name = get_by (λ k. slice_cmp nat_cmp name k.now) variabl
 
 abbrev pub AllInRange : Values → Type 0
 AllInRange values = (name : Text) (z : ℤ) → values name ≡ Some z → IsInRange z
+
+-- the new values are the old ones but for this name
+abbrev pub Sets : Values → Text → Option ℤ → Values → Type 0
+Sets values name o new = (q : Text) → new q ≡ (if bytes_eq name q then o else values q)
 
 -- the value of a variable, or the trap of one that has none
 abbrev pub known : Option ℤ → Result ℤ Trap

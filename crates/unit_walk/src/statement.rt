@@ -14,7 +14,7 @@ ghost use Rattle.unit_walk.specs.Values.{value_under, AllInRange};
 ghost use Rattle.unit_walk.specs.Walking.{AreFormats, one_field, one_item};
 ghost use Rattle.unit_walk.specs.Leaving.{Does, DoesAnywhere};
 
-use crate::value::{Variables, evaluate, value_of};
+use crate::value::{Variables, evaluate, set, value_of};
 use f66_tree::{Entry, Expr, Field, Name, Stmt, StmtKind};
 use ground::{Place, Text, Trap};
 use itoa::Buffer;
@@ -89,7 +89,7 @@ fn assign<'a>(
 {
     match evaluate(variables, right) {
         Ok(value) => {
-            variables.insert(variable(left).as_bytes(), value)?;
+            set(variables, variable(left), value)?;
             Ok(Exit::Next)
         }
         Err(trap) => Ok(Exit::Ends(RunEnd::Trapped(trap, place))),

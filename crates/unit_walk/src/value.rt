@@ -1,12 +1,13 @@
 // Values of integer expressions and conditions (X3.9-1966, section 6).
-ghost use Rattle.std.specs.Prelude.{◌≡◌, true, IfOk};
+ghost use Rattle.std.specs.Prelude.{◌≡◌, true, IfOk, OnOk};
 ghost use Rattle.f66_tree.specs.Views.{formula_of, par_of};
 ghost use Rattle.f66_tree.specs.Built.{is_arithmetic, is_relation, is_whole, is_condition, is_par};
 ghost use Rattle.ground.specs.Arithmetic.{IsInRange};
-ghost use Rattle.unit_walk.specs.Values.{value_under, AllInRange, known, combined, whole_value, related, truth, par_value};
+ghost use Rattle.unit_walk.specs.Values.{value_under, AllInRange, Sets, known, combined, whole_value, related, truth, par_value};
 
 use f66_tree::{Expr, Name, Operator, Par};
 use ground::{Trap, add, div, mul, power, sub};
+use std::alloc::AllocError;
 use std::collections::BTreeMap;
 
 /// The integers that have a value, by their names.
@@ -20,6 +21,30 @@ pub(crate) fn value_of(variables: &Variables<'_>, name: &Name) -> Result<i64, Tr
         Some(value) => Ok(*value),
         None => Err(Trap::Undefined),
     }
+}
+
+/// A variable gets a value.
+pub(crate) fn set<'a>(
+    variables: &mut Variables<'a>,
+    name: &'a Name,
+    value: i64,
+) -> Result<(), AllocError>
+    requires range { AllInRange (value_under variables.old) }
+    requires value { IsInRange value }
+    ensures sets { OnOk result (Sets (value_under variables.old) name.now (Some value) (value_under variables.new)) }
+    ensures range { OnOk result (AllInRange (value_under variables.new)) }
+{
+    variables.insert(name.as_bytes(), value)?;
+    Ok(())
+}
+
+/// A variable has no value from here on.
+pub(crate) fn forget(variables: &mut Variables<'_>, name: &Name)
+    requires { AllInRange (value_under variables.old) }
+    ensures sets { Sets (value_under variables.old) name.now None (value_under variables.new) }
+    ensures range { AllInRange (value_under variables.new) }
+{
+    variables.remove(name.as_bytes());
 }
 
 /// The value of a constant or a variable.
