@@ -4,3 +4,5 @@ mod StatementLemmas
 mod LoopLemmas
 mod WriteLemmas
 mod ShapeLemmas
+mod ComesLemmas
+mod ClosingLemmas

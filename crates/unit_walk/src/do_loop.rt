@@ -1,11 +1,12 @@
 // DO loops: how one begins, and what comes after its last statement (X3.9-1966, section 7.1.2.8).
-ghost use Rattle.std.specs.Prelude.{◌≡◌, ℕ, ◌<◌, List, length, true, IfOk, IfSome};
+ghost use Rattle.std.specs.Prelude.{◌≡◌, ℕ, ◌<◌, List, length, true, IfOk, IfSome, All, slice_index_or};
 ghost use Rattle.ground.specs.Arithmetic.{IsInRange};
 ghost use Rattle.f66_tree.specs.Forms.{Line};
 ghost use Rattle.f66_tree.specs.Views.{par_of};
 ghost use Rattle.f66_tree.specs.Built.{is_par};
 ghost use Rattle.unit_walk.specs.Values.{value_under, AllInRange};
 ghost use Rattle.unit_walk.specs.Loops.{FitsPass, PassesFit, loop_of, begun_loop, next_value as value_behind, Begins, Turns};
+ghost use Rattle.unit_walk.specs.Closing.{Closes};
 
 use crate::statement::RunEnd;
 use crate::value::{Variables, forget, set, value_of, value_of_par};
@@ -118,4 +119,36 @@ fn next_value(value: i64, pass: Pass) -> Option<i64>
 {
     let next = value + pass.step;
     if next <= pass.limit { Some(next) } else { None }
+}
+
+/// After the last statement of some DO loops, the innermost first, and before the line at `next`.
+pub(crate) fn close<'a>(
+    variables: &mut Variables<'a>,
+    passes: &[Pass],
+    closings: &[Closing<'a>],
+    next: usize,
+    place: Place,
+) -> Result<Lead, AllocError>
+    requires range { AllInRange (value_under variables.old) }
+    requires fit { PassesFit passes.now }
+    requires within { All (λ e. e.index < length passes.now) closings.now }
+    ensures closes { IfOk result (λ lead. Closes passes.now closings.now next place (value_under variables.old) lead (value_under variables.new)) }
+    ensures range { IfOk result (λ lead. AllInRange (value_under variables.new)) }
+{
+    for closing in closings {
+        let pass = pass_at(passes, closing.index);
+        match turn(variables, closing.variable, pass)? {
+            Ok(true) => return Ok(Lead::At(closing.index + 1)),
+            Ok(false) => {}
+            Err(trap) => return Ok(Lead::Over(RunEnd::Trapped(trap, place))),
+        }
+    }
+    Ok(Lead::At(next))
+}
+
+fn pass_at(passes: &[Pass], index: usize) -> Pass
+    requires { index < length passes.now }
+    ensures { result ≡ slice_index_or passes.now index result }
+{
+    passes[index]
 }
