@@ -1,21 +1,19 @@
 -- What comes after the last statement of some DO loops, loop by loop.
-use Rattle.std.proofs.Common.{◌≡◌, ℕ, suc, ◌+◌, ◌<◌, Bool, true, false, List, [], ◌∷◌, drop, length, map, get_or, Result, Ok, Err, refl, sym, ◌∙◌, ap, subst, arith}
-use Rattle.std.specs.Prelude.{⊤}
+use Rattle.std.proofs.Common.{◌≡◌, ℕ, ◌+◌, ◌<◌, Bool, List, [], ◌∷◌, drop, length, get_or, Result, sym, ◌∙◌, ap, subst}
 use Rattle.ground.specs.declared.place.Place.{Place}
 use Rattle.ground.specs.declared.trap.Trap.{Trap}
 use Rattle.f66_tree.specs.Forms.{Line}
-use Rattle.f66_tree.specs.World.{Record, World, Out, Gives, Halts, bind, settle, lifted, choose}
-use Rattle.f66_tree.specs.Units.{Frame, Setting, notes_of}
+use Rattle.f66_tree.specs.World.{Record, bind, settle, lifted, choose}
+use Rattle.f66_tree.specs.Units.{Setting, notes_of}
 use Rattle.f66_tree.specs.Statements.{Loop, loop_turn}
-use Rattle.f66_tree.specs.Execution.{Progress, Stand, stand, Closer, Onward, close}
-use Rattle.unit_walk.specs.declared.statement.RunEnd.TheVariants.{Trapped}
+use Rattle.f66_tree.specs.Execution.{stand}
 use Rattle.unit_walk.specs.declared.do_loop.Pass.{Pass}
 use Rattle.unit_walk.specs.declared.do_loop.Closing.{Closing}
-use Rattle.unit_walk.specs.declared.do_loop.Lead.TheVariants.{At, Over}
+use Rattle.unit_walk.specs.declared.do_loop.Lead.TheVariants.{At}
 use Rattle.unit_walk.specs.Values.{Values}
-use Rattle.unit_walk.specs.Walking.{Holds, AreFormats, main_at, around_main, Comes}
+use Rattle.unit_walk.specs.Walking.{AreFormats, main_at, around_main}
 use Rattle.unit_walk.specs.Loops.{loop_of, Turns}
-use Rattle.unit_walk.specs.Running.{LoopsAre, closer_at, Part, led_to, Leads}
+use Rattle.unit_walk.specs.Running.{Part, Leads}
 use Rattle.unit_walk.specs.Closing.{closing, Closes, ClosedTo}
 use Rattle.unit_walk.proofs.ComesLemmas.{comes_at_once, comes_then, comes_bound, comes_as}
 

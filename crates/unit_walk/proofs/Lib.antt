@@ -6,3 +6,7 @@ mod WriteLemmas
 mod ShapeLemmas
 mod ComesLemmas
 mod ClosingLemmas
+mod StepLemmas
+mod RunLemmas
+mod WholeLemmas
+mod PlanLemmas

@@ -1,23 +1,23 @@
 -- What DO loops do to the values.
-use Rattle.std.proofs.Common.{◌≡◌, ℕ, ℤ, pos, ◌+ℤ◌, Bool, true, false, ◌&&◌, List, [], ◌∷◌, Option, Some, None, Result, Ok, Err, refl, sym, ◌∙◌, ap, subst, if◌then◌else◌}
+use Rattle.std.proofs.Common.{◌≡◌, ℕ, ℤ, pos, ◌+ℤ◌, Bool, true, false, ◌&&◌, List, ◌∷◌, Option, Some, None, Result, Ok, Err, refl, sym, ◌∙◌, ap, subst, if◌then◌else◌}
 use Rattle.std.specs.Prelude.{⊤, int_le, is_some}
 use Rattle.ground.specs.declared.place.Place.{Place}
 use Rattle.ground.specs.declared.trap.Trap.{Trap}
 use Rattle.ground.specs.declared.trap.Trap.TheVariants.{BadDo}
 use Rattle.ground.specs.declared.value.Kind.TheVariants.{Integer as AnInteger}
-use Rattle.ground.specs.Content.{Content, Nothing, Whole, Truth}
+use Rattle.ground.specs.Content.{Content, Nothing, Whole}
 use Rattle.f66_tree.specs.Turns.{◌>>=◌}
 use Rattle.f66_tree.specs.Forms.{Text, Par, Line}
-use Rattle.f66_tree.specs.World.{Record, Store, put_in, World, Out, Gives, Halts, Ended, Trapped, Try, Yields, Traps, bind, settle, lifted, holding}
-use Rattle.f66_tree.specs.Units.{Note, Frame, Setting, Spot, Held}
+use Rattle.f66_tree.specs.World.{Record, put_in, World, Out, Gives, Halts, Ended, Trapped, Try, Yields, Traps, bind, settle, holding}
+use Rattle.f66_tree.specs.Units.{Note, Frame, Setting, Held}
 use Rattle.f66_tree.specs.Evaluation.{whole, par_in, store_at, asked}
 use Rattle.f66_tree.specs.Statements.{Loop, fit_loop, fit_loop_in, loop_start, turn_of, loop_turn}
 use Rattle.f66_tree.specs.Execution.{Stand}
 use Rattle.f66_tree.specs.OneUnit.{list_number}
 use Rattle.unit_walk.specs.declared.do_loop.Pass.{Pass}
 use Rattle.unit_walk.specs.Values.{Values, Sets, known, par_value}
-use Rattle.unit_walk.specs.Loops.{loop_of, fitted, begun_loop, next_value, turned}
-use Rattle.unit_walk.specs.Walking.{content_of, HoldsValues, Holds, AreFormats, main_at, around_main, SameCounts, Comes}
+use Rattle.unit_walk.specs.Loops.{loop_of, fitted, begun_loop, next_value}
+use Rattle.unit_walk.specs.Walking.{content_of, Holds, AreFormats, main_at, around_main, Comes}
 use Rattle.unit_walk.proofs.ValueLemmas.{asked_is, par_is}
 use Rattle.unit_walk.proofs.StatementLemmas.{put_holds, same_counts}
 

@@ -1,6 +1,5 @@
 -- The shapes of formats and lists that are built.
-use Rattle.std.proofs.Common.{◌≡◌, ℕ, Bool, true, false, ◌&&◌, nat_eq, nat_le, List, [], ◌∷◌, get_or, refl, sym, ◌∙◌, ap}
-use Rattle.std.proofs.lemmas.Bool.Decides.{nat_tests}
+use Rattle.std.proofs.Common.{◌≡◌, ℕ, true, List, [], ◌∷◌, get_or, sym, ap}
 use Rattle.f66_tree.specs.declared.format.Field.{Field}
 use Rattle.f66_tree.specs.declared.format.Field as f
 use Rattle.f66_tree.specs.declared.statement.Entry.{Entry}

@@ -1,20 +1,17 @@
 -- What plain statements do to the values and the records.
-use Rattle.std.proofs.Common.{◌≡◌, ℕ, ℤ, ◌+◌, ◌<◌, ◌≤◌, ◌≤ℤ◌, ◌-◌, zero, suc, pos, negsuc, length, get_or, arith, Bool, true, false, ◌&&◌, List, [], ◌∷◌, ◌++◌, nat_eq, nat_le, Option, Some, None, Result, Ok, Err, refl, sym, ◌∙◌, ap, subst, if◌then◌else◌}
+use Rattle.std.proofs.Common.{◌≡◌, ℕ, ℤ, ◌<◌, ◌≤◌, ◌≤ℤ◌, ◌-◌, zero, suc, pos, negsuc, length, get_or, arith, Bool, true, false, List, [], ◌∷◌, nat_eq, Option, Some, None, Result, Ok, Err, refl, sym, ◌∙◌, ap, subst, if◌then◌else◌}
 use Rattle.std.specs.Prelude.{⊤, unsigned_abs}
 use Rattle.std.specs.Str.{bytes_eq}
 use Rattle.ground.specs.declared.place.Place.{Place}
 use Rattle.ground.specs.declared.trap.Trap.{Trap}
 use Rattle.ground.specs.declared.trap.Trap.TheVariants.{BadBranch}
-use Rattle.ground.specs.declared.value.Kind.{Kind}
-use Rattle.ground.specs.declared.value.Kind.TheVariants.{Integer as AnInteger}
 use Rattle.ground.specs.Arithmetic.{IsInRange}
-use Rattle.ground.specs.Content.{Content, Nothing, Whole, Truth}
-use Rattle.f66_tree.specs.Turns.{◌>>=◌}
-use Rattle.f66_tree.specs.Forms.{Text, Formula, Variable, Act, Assigns, Selects, Line}
+use Rattle.ground.specs.Content.{Content, Whole}
+use Rattle.f66_tree.specs.Forms.{Text, Formula, Variable, Assigns, Selects, Line}
 use Rattle.f66_tree.specs.World.{Record, Store, put_in, World, Out, Gives, Halts, Ended, Trapped, Try, Yields, Traps, bind, settle, lifted, holding}
 use Rattle.f66_tree.specs.Units.{Note, Frame, Held}
-use Rattle.f66_tree.specs.Evaluation.{whole, value_of, store_at}
-use Rattle.f66_tree.specs.Statements.{Exit, Next, To, nth, label_at, does}
+use Rattle.f66_tree.specs.Evaluation.{whole, store_at}
+use Rattle.f66_tree.specs.Statements.{Next, To, nth, label_at, does}
 use Rattle.f66_tree.specs.Execution.{Stand}
 use Rattle.f66_tree.specs.OneUnit.{list_number}
 use Rattle.f66_tree.specs.Built.{is_whole}

@@ -1,18 +1,18 @@
 -- The value of an expression in a store that holds the values of the variables.
-use Rattle.std.proofs.Common.{◌≡◌, ℕ, ℤ, neg_ℤ, Bool, true, false, not, ◌&&◌, ◌||◌, List, [], ◌∷◌, nat_le, Option, Some, None, Result, Ok, Err, refl, sym, ◌∙◌, ap, if◌then◌else◌}
+use Rattle.std.proofs.Common.{◌≡◌, ℕ, ℤ, neg_ℤ, Bool, true, false, not, ◌&&◌, ◌||◌, List, [], ◌∷◌, nat_le, Option, Some, None, Result, Ok, Err, refl, ◌∙◌, ap, if◌then◌else◌}
 use Rattle.std.specs.Prelude.{⊤}
 use Rattle.ground.specs.declared.place.Place.{Place}
 use Rattle.ground.specs.declared.trap.Trap.{Trap}
 use Rattle.ground.specs.declared.value.Kind.{Kind}
 use Rattle.ground.specs.declared.value.Kind.TheVariants.{Integer as AnInteger}
-use Rattle.ground.specs.Content.{Content, Nothing, Whole, Truth}
+use Rattle.ground.specs.Content.{Content, Whole, Truth}
 use Rattle.f66_tree.specs.declared.declaration.TypeWord.{TypeWord}
-use Rattle.f66_tree.specs.declared.declaration.TypeWord.TheVariants.{Integer, Logical, Other}
+use Rattle.f66_tree.specs.declared.declaration.TypeWord.TheVariants.{Integer, Other}
 use Rattle.f66_tree.specs.declared.expression.Operator.{Operator}
 use Rattle.f66_tree.specs.declared.expression.Operator.TheVariants.{Add, Sub, Mul, Div, Power, Lt, Le, Eq, Ne, Ge, Gt, And, Or}
 use Rattle.f66_tree.specs.Turns.{◌>>=◌}
-use Rattle.f66_tree.specs.Forms.{Text, Formula, Number, Fact, Letter, Variable, Applied, Grouped, Positive, Negative, Negated, Joined, Par, Constant, Named, Line, MainUnit}
-use Rattle.f66_tree.specs.World.{World, Out, Gives, Halts, Try, Yields, Traps, bind, settle, lifted}
+use Rattle.f66_tree.specs.Forms.{Text, Formula, Number, Fact, Letter, Variable, Applied, Grouped, Positive, Negative, Negated, Joined, Par, Constant, Named, Line}
+use Rattle.f66_tree.specs.World.{World, Out, Try, Yields, Traps, bind, settle, lifted}
 use Rattle.f66_tree.specs.Units.{Note, Frame, kind_by, by_letter, type_in, typed_by, sizes_of, sizes_by}
 use Rattle.f66_tree.specs.Evaluation.{whole, on_whole, on_truth, operate, opposite, denied, same_whole, truth_in, asked, variable_in, par_in, value_of, asks, by_operator}
 use Rattle.f66_tree.specs.Execution.{Stand}

@@ -1,5 +1,5 @@
 -- What a WRITE of one integer does.
-use Rattle.std.proofs.Common.{◌≡◌, ℕ, ◌+◌, ◌-◌, ◌≤◌, ◌<◌, ℤ, pos, Bool, true, false, ◌&&◌, List, [], ◌∷◌, ◌++◌, length, replicate, nat_le, Option, Some, None, Result, Ok, Err, refl, sym, ◌∙◌, ap, arith, if◌then◌else◌}
+use Rattle.std.proofs.Common.{◌≡◌, ℕ, ◌+◌, ◌-◌, ◌≤◌, ◌<◌, ℤ, pos, Bool, true, false, ◌&&◌, List, [], ◌∷◌, ◌++◌, length, replicate, nat_le, Option, Some, Result, Ok, Err, refl, sym, ◌∙◌, ap, arith, if◌then◌else◌}
 use Rattle.std.proofs.lemmas.Bool.Decides.{nat_tests}
 use Rattle.std.proofs.lemmas.Grind.{common_steps}
 use Rattle.std.specs.Prelude.{⊤, int_le}
@@ -9,23 +9,22 @@ use Rattle.ground.specs.declared.trap.Trap.{Trap}
 use Rattle.ground.specs.declared.trap.Trap.TheVariants.{BadUnit, LongRecord}
 use Rattle.ground.specs.declared.value.Kind.{Kind}
 use Rattle.ground.specs.declared.value.Kind.TheVariants.{Integer as AnInteger}
-use Rattle.ground.specs.Content.{Content, Nothing, Whole, Truth}
+use Rattle.ground.specs.Content.{Content}
 use Rattle.f66_tree.specs.declared.editing.Way.TheVariants.{Writing}
 use Rattle.f66_tree.specs.declared.editing.EditKind.TheVariants as edits
 use Rattle.f66_tree.specs.declared.editing.Mark.TheVariants.{Between, Due, Over}
-use Rattle.f66_tree.specs.Fields.{Takes, Fields, NoField, Single, steps, again}
+use Rattle.f66_tree.specs.Fields.{Fields, steps, again}
 use Rattle.f66_tree.specs.Fielded.{right_in, whole_text}
-use Rattle.f66_tree.specs.Turns.{Hand, ◌>>=◌, extended, started, stands}
-use Rattle.f66_tree.specs.Forms.{Text, Formula, Variable, Par, Constant, One, Entries, NoEntry, AndEntry, Act, Writes, Line}
-use Rattle.f66_tree.specs.World.{Record, Tape, files_of, tape_of, World, Out, Gives, Halts, Ended, Trapped, Try, Yields, Traps, then_try, lifted, bind, settle, taping}
+use Rattle.f66_tree.specs.Turns.{◌>>=◌, extended, started, stands}
+use Rattle.f66_tree.specs.Forms.{Text, Par, Constant, Writes, Line}
+use Rattle.f66_tree.specs.World.{Record, files_of, tape_of, World, Out, Gives, Halts, Ended, Trapped, Try, Yields, Traps, then_try, lifted, bind, settle, taping}
 use Rattle.f66_tree.specs.Records.{put, closed}
-use Rattle.f66_tree.specs.Units.{Note, Frame, Setting, Held, Spot, format_of, sizes_of, type_in, kind_by, by_letter}
+use Rattle.f66_tree.specs.Units.{Note, Frame, Held, format_of, sizes_of}
 use Rattle.f66_tree.specs.Evaluation.{whole, asked}
-use Rattle.f66_tree.specs.Statements.{Exit, Next, taped, edited, one_or_row, items, opened_by, on_unit, record_by, does}
+use Rattle.f66_tree.specs.Statements.{Exit, Next, taped, edited, one_or_row, items, opened_by, does}
 use Rattle.f66_tree.specs.Execution.{Stand}
-use Rattle.f66_tree.specs.OneUnit.{list_number}
 use Rattle.unit_walk.specs.Values.{Values, known}
-use Rattle.unit_walk.specs.Walking.{content_of, HoldsValues, Holds, AreFormats, main_at, around_main, SameCounts, Comes, one_field, one_item}
+use Rattle.unit_walk.specs.Walking.{HoldsValues, Holds, AreFormats, main_at, around_main, Comes, one_field, one_item}
 use Rattle.unit_walk.proofs.ValueLemmas.{asked_is, kind_is, sizes_are}
 
 abbrev pub over : World → Out ⊤

@@ -1,9 +1,8 @@
 -- How statements are left, and how runs end.
-use Rattle.std.specs.Prelude.{ℕ, List, Option, Some, None, Result, Ok, Err, ⊤}
+use Rattle.std.specs.Prelude.{ℕ, List, ⊤}
 use Rattle.ground.specs.declared.place.Place.{Place}
-use Rattle.ground.specs.declared.trap.Trap.{Trap}
-use Rattle.f66_tree.specs.Forms.{Text, Act, Line}
-use Rattle.f66_tree.specs.World.{Record, World, Finish, Done, Stopped, Trapped, End, Ended, GoesOn, Out, Gives, Halts}
+use Rattle.f66_tree.specs.Forms.{Act, Line}
+use Rattle.f66_tree.specs.World.{Record, World, Done, Stopped, Trapped, End, Ended, GoesOn, Out, Gives, Halts}
 use Rattle.f66_tree.specs.Units.{Frame, notes_of}
 use Rattle.f66_tree.specs.Statements as meant
 use Rattle.f66_tree.specs.Execution.{Stand}

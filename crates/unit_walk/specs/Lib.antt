@@ -4,3 +4,6 @@ pub mod Leaving
 pub mod Loops
 pub mod Running
 pub mod Closing
+pub mod Standing
+pub mod Shows
+pub mod Prepared

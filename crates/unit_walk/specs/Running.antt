@@ -1,17 +1,15 @@
 -- Where a run of a main unit stands, by an index, and where a statement leads.
-use Rattle.std.specs.Prelude.{◌≡◌, ℕ, suc, ◌+◌, ◌<◌, List, [], ◌∷◌, drop, length, map, All, slice_index_or as get_or, Vec, ⊤}
-use Rattle.std.specs.declared.alloc.Global.{Global}
+use Rattle.std.specs.Prelude.{◌≡◌, ℕ, ◌+◌, ◌<◌, List, drop, length, slice_index_or as get_or, ⊤}
 use Rattle.f66_tree.specs.Forms.{Line}
 use Rattle.f66_tree.specs.World.{Record, World, Out, Halts}
 use Rattle.f66_tree.specs.Units.{Frame, Setting, notes_of}
-use Rattle.f66_tree.specs.Execution.{Progress, Stand, stand, Closer, closers_at, Onward, nowhere, perform, exec}
-use Rattle.f66_tree.specs.OneUnit.{one_unit}
+use Rattle.f66_tree.specs.Execution.{Progress, Stand, stand, Closer, Onward}
 use Rattle.unit_walk.specs.declared.do_loop.Pass.{Pass}
 use Rattle.unit_walk.specs.declared.do_loop.Closing.{Closing}
 use Rattle.unit_walk.specs.declared.do_loop.Lead.{Lead}
 use Rattle.unit_walk.specs.declared.do_loop.Lead.TheVariants.{At, Over}
 use Rattle.unit_walk.specs.Values.{Values}
-use Rattle.unit_walk.specs.Walking.{Holds, main_at, around_main, Comes}
+use Rattle.unit_walk.specs.Walking.{Holds, around_main, Comes}
 use Rattle.unit_walk.specs.Loops.{loop_of}
 use Rattle.unit_walk.specs.Leaving.{end_of}
 

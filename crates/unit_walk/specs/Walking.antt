@@ -1,12 +1,11 @@
 -- What a walk keeps of a run: the variables that have a value, the records, and where the run stands.
-use Rattle.std.specs.Prelude.{◌≡◌, ℕ, ℤ, zero, suc, ◌+◌, ◌-◌, ◌<◌, List, [], ◌∷◌, drop, length, Option, Some, None, Result, Ok, Err, ⊤}
+use Rattle.std.specs.Prelude.{◌≡◌, ℕ, ℤ, List, [], ◌∷◌, Option, Some, None, ⊤}
 use Rattle.ground.specs.declared.place.Place.{Place}
-use Rattle.ground.specs.declared.trap.Trap.{Trap}
 use Rattle.ground.specs.Content.{Content, Nothing, Whole}
 use Rattle.f66_tree.specs.declared.editing.EditKind.TheVariants as edits
 use Rattle.f66_tree.specs.Fields.{Takes, Fields, NoField, Single}
 use Rattle.f66_tree.specs.Forms.{Text, Variable, One, Entries, NoEntry, AndEntry, Act, Formats, Line}
-use Rattle.f66_tree.specs.World.{Record, Store, World, Out, Gives, Halts}
+use Rattle.f66_tree.specs.World.{Record, Store, World, Out}
 use Rattle.f66_tree.specs.Units.{Note, Frame, Setting}
 use Rattle.f66_tree.specs.Execution.{target, Stand}
 use Rattle.f66_tree.specs.OneUnit.{list_number, one_unit}

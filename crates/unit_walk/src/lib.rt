@@ -2,7 +2,11 @@
 #![tactic(auto)]
 
 mod do_loop;
+mod plan;
+mod run;
 mod statement;
 mod value;
+mod walked;
 
 pub use statement::RunEnd;
+pub use walked::{Walked, walk};

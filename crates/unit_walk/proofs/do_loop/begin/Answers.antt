@@ -1,8 +1,7 @@
-use Rattle.std.proofs.Common.{rules, ◌≡◌, ℕ, List, Ok, Err}
+use Rattle.std.proofs.Common.{rules}
 use Rattle.f66_tree.specs.Units.{notes_of}
 use Rattle.f66_tree.specs.Views.{par_of}
 use Rattle.unit_walk.specs.Values.{value_under}
-use Rattle.unit_walk.specs.Loops.{begun_loop}
 use Rattle.unit_walk.proofs.LoopLemmas.{loop_begins, loop_fails}
 use Rattle.unit_walk.proofs.do_loop.begin.Goals as goal
 

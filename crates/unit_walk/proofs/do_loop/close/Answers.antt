@@ -1,9 +1,8 @@
-use Rattle.std.proofs.Common.{rules, ◌≡◌, ℕ, ◌+◌, ◌<◌, true, false, Bool, List, [], ◌∷◌, drop, length, get_or, Result, Ok, Err, sym, ◌∙◌, ap, subst}
+use Rattle.std.proofs.Common.{rules, ◌≡◌, ℕ, ◌+◌, ◌<◌, true, false, Bool, List, ◌∷◌, drop, length, get_or, Result, Ok, Err, sym, ◌∙◌, ap, subst}
 use Rattle.std.proofs.lemmas.List.{drop_more, drop_all}
 use Rattle.ground.specs.declared.trap.Trap.{Trap}
-use Rattle.unit_walk.specs.declared.do_loop.Pass.{Pass}
 use Rattle.unit_walk.specs.declared.do_loop.Closing.{Closing}
-use Rattle.unit_walk.specs.Values.{Values, value_under}
+use Rattle.unit_walk.specs.Values.{value_under}
 use Rattle.unit_walk.specs.Loops.{Turns}
 use Rattle.unit_walk.proofs.ClosingLemmas.{close_turns, close_ends}
 use Rattle.unit_walk.proofs.do_loop.close.Goals as goal

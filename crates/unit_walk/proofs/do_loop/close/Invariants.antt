@@ -1,4 +1,3 @@
-use Rattle.std.proofs.Common.{drop}
 use Rattle.unit_walk.specs.Values.{value_under, AllInRange}
 use Rattle.unit_walk.specs.Closing.{ClosedTo}
 use Rattle.unit_walk.proofs.do_loop.close.Given as goal

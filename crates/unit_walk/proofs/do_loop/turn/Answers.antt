@@ -1,7 +1,7 @@
-use Rattle.std.proofs.Common.{rules, ◌≡◌, ℕ, ℤ, List, Some, None, Ok, Err, sym, ap, ◌∙◌, subst}
+use Rattle.std.proofs.Common.{rules}
 use Rattle.f66_tree.specs.Units.{notes_of}
-use Rattle.unit_walk.specs.Values.{value_under, known, Sets}
-use Rattle.unit_walk.specs.Loops.{loop_of, next_value}
+use Rattle.unit_walk.specs.Values.{value_under}
+use Rattle.unit_walk.specs.Loops.{loop_of}
 use Rattle.unit_walk.proofs.LoopLemmas.{turns_on, turns_out, turn_fails}
 use Rattle.unit_walk.proofs.do_loop.turn.Goals as goal
 

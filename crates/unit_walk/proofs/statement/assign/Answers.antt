@@ -1,4 +1,4 @@
-use Rattle.std.proofs.Common.{rules, ◌≡◌, ℕ, List, true, Ok, Err, refl}
+use Rattle.std.proofs.Common.{rules, ◌≡◌, ℕ, List, true, refl}
 use Rattle.f66_tree.specs.Forms.{Formula, Variable}
 use Rattle.f66_tree.specs.Units.{notes_of}
 use Rattle.f66_tree.specs.Views.{formula_of}

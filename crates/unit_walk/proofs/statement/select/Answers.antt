@@ -1,9 +1,6 @@
-use Rattle.std.proofs.Common.{rules, ◌≡◌, ℕ, Ok, Err}
-use Rattle.ground.specs.Content.{Whole}
-use Rattle.f66_tree.specs.World.{lifted}
-use Rattle.f66_tree.specs.Statements.{label_at}
-use Rattle.unit_walk.specs.Values.{value_under, known}
-use Rattle.unit_walk.proofs.StatementLemmas.{selects, select_fails}
+use Rattle.std.proofs.Common.{rules, Ok, Err}
+use Rattle.unit_walk.specs.Values.{value_under}
+use Rattle.unit_walk.proofs.StatementLemmas.{selects}
 use Rattle.f66_tree.specs.Units.{notes_of}
 use Rattle.unit_walk.proofs.statement.select.Goals as goal
 

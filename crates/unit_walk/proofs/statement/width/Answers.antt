@@ -1,5 +1,4 @@
-use Rattle.std.proofs.Common.{rules, ◌≡◌, true, get_or, sym, ◌∙◌, ap, subst}
-use Rattle.f66_tree.specs.declared.format.Field.{Field}
+use Rattle.std.proofs.Common.{rules, ◌≡◌, true, get_or, ◌∙◌, subst}
 use Rattle.f66_tree.specs.Fields.{NoField, Fields}
 use Rattle.f66_tree.specs.Views.{field_then, fields_of}
 use Rattle.f66_tree.specs.Built.{is_one_field}

@@ -1,12 +1,10 @@
-use Rattle.std.proofs.Common.{rules, ◌≡◌, ◌++◌, ◌∷◌, [], ◌&&◌, ℕ, ℤ, pos, ◌<◌, ◌≤◌, true, List, Ok, Err, ap, sym, ◌∙◌, refl, arith}
+use Rattle.std.proofs.Common.{rules, ◌≡◌, ◌++◌, ◌∷◌, [], ◌&&◌, ℕ, ℤ, pos, true, List, refl}
 use Rattle.std.specs.Prelude.{int_le}
-use Rattle.std.proofs.lemmas.Grind.{common_steps}
-use Rattle.ground.specs.declared.trap.Trap.TheVariants.{LongRecord}
 use Rattle.f66_tree.specs.Fielded.{whole_text}
 use Rattle.f66_tree.specs.Forms.{Par, Constant, Named}
 use Rattle.f66_tree.specs.Units.{notes_of}
 use Rattle.f66_tree.specs.Built.{is_printer}
-use Rattle.unit_walk.specs.Values.{value_under, known}
+use Rattle.unit_walk.specs.Values.{value_under}
 use Rattle.unit_walk.proofs.WriteLemmas.{writes, write_too_long, write_fails, fits_record, passes_record}
 use Rattle.unit_walk.proofs.statement.write.Goals as goal
 

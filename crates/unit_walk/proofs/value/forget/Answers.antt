@@ -1,4 +1,4 @@
-use Rattle.std.proofs.Common.{rules, ◌≡◌, ℕ, List, None}
+use Rattle.std.proofs.Common.{◌≡◌, None}
 use Rattle.std.proofs.lemmas.Map.Text.{btree_map_updates_str}
 use Rattle.unit_walk.specs.Values.{value_under, Sets}
 use Rattle.unit_walk.proofs.StatementLemmas.{forget_in_range}
