@@ -9,4 +9,5 @@ returns-clause-plan c = record {
   formats = formats_alone (notes_of (lines_of c.args.code.now)) (lines_of c.args.code.now) c.requires;
   closes = c.in_ok-closings.ensures.closes;
   size = c.in_ok-closings.ensures.size;
+  labels = c.in_ok-lines.ensures;
 }
