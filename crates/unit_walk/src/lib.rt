@@ -12,3 +12,6 @@ mod walked;
 pub use built::is_built;
 pub use statement::RunEnd;
 pub use walked::{Walked, walk};
+
+#[cfg(test)]
+mod tests;
