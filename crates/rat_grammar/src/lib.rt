@@ -14,8 +14,6 @@ mod plain;
 mod symbols;
 mod table;
 mod terminals;
-#[cfg(test)]
-mod tests;
 mod transfers;
 mod units;
 mod value;
