@@ -9,11 +9,11 @@ mod expressions;
 mod formats;
 mod language;
 mod lists;
+mod parse_table;
 mod plain;
+mod symbols;
 mod table;
 mod terminals;
-#[cfg(test)]
-mod tests;
 mod transfers;
 mod units;
 mod value;

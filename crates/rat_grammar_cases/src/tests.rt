@@ -5,9 +5,9 @@ ghost use Rattle.std.specs.Prelude.{IfOk};
 ghost use Rattle.grammar.specs.Grammar.{EndsWith};
 ghost use Rattle.rat_grammar.specs.Ratfor.{grammar as ratfor, certificate};
 
-use crate::parse;
 use free_scan::scan;
 use ground::{Dialect, Place, Refusal, Token, TokenKind};
+use rat_grammar::parse;
 use std::alloc::{AllocError, Global};
 use std::process::Abort;
 use std::test::Fail;
@@ -190,6 +190,27 @@ fn nested(alloc: Global, count: usize) -> Result<Vec<u8>, AllocError> {
     Ok(text)
 }
 
+/// `k = -1` and so many times `+k`: two nodes, and two more each time.
+fn sum(alloc: Global, count: usize) -> Result<Vec<u8>, AllocError> {
+    let mut text = Vec::new(alloc);
+    text.extend_from_slice(b"k = -1")?;
+    for _ in 0..count {
+        text.extend_from_slice(b"+k")?;
+    }
+    text.extend_from_slice(b"\nend")?;
+    Ok(text)
+}
+
+/// A unit of so many empty statements, with two tokens more.
+fn empties(alloc: Global, count: usize) -> Result<Vec<u8>, AllocError> {
+    let mut text = Vec::new(alloc);
+    for _ in 0..count {
+        text.push(b';')?;
+    }
+    text.extend_from_slice(b"end\n")?;
+    Ok(text)
+}
+
 #[test]
 fn limits(rt: HostRuntime) -> Result<(), Fail> {
     let most = nested(rt.alloc(), 100)?;
@@ -203,13 +224,14 @@ fn limits(rt: HostRuntime) -> Result<(), Fail> {
     check(&rt, rt.alloc(), &ends, None)?;
     ends.extend_from_slice(b"\nend\n")?;
     check(&rt, rt.alloc(), &ends, Some((1002, 5)))?;
-    let mut sum = Vec::new(rt.alloc());
-    sum.extend_from_slice(b"k = 1")?;
-    for _ in 0..500 {
-        sum.extend_from_slice(b"+k")?;
-    }
-    sum.extend_from_slice(b"\nend")?;
-    check(&rt, rt.alloc(), &sum, Some((1003, 10)))?;
+    let most = sum(rt.alloc(), 499)?;
+    check(&rt, rt.alloc(), &most, None)?;
+    let more = sum(rt.alloc(), 500)?;
+    check(&rt, rt.alloc(), &more, Some((1003, 10)))?;
+    let most = empties(rt.alloc(), 19_998)?;
+    check(&rt, rt.alloc(), &most, None)?;
+    let more = empties(rt.alloc(), 19_999)?;
+    check(&rt, rt.alloc(), &more, Some((20_001, 6)))?;
     Ok(())
 }
 
