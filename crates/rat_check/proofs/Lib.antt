@@ -1,0 +1,4 @@
+pub mod BuiltLemmas
+pub mod PartLemmas
+pub mod StatementLemmas
+pub mod SurveyLemmas
