@@ -2,10 +2,10 @@
 use Rattle.std.proofs.Common.{◌≡◌, ℕ, Option, None, Some, List, [], ◌∷◌, refl, ap, ◌∙◌, sym, Bool, true, false, if◌then◌else◌}
 use Rattle.ground.specs.declared.place.Place.{Place}
 use Rattle.ground.specs.declared.fault.Fault.{Fault}
-use Rattle.rat_check.specs.Parts.{Labels, no_label, with_label, Part}
+use Rattle.rat_check.specs.Parts.{no_label, Part}
 use Rattle.rat_check.specs.Rules.{is_built_form, broken_rule}
 use Rattle.rat_check.specs.FirstFault.{or_else, first_unbuilt, fault_if, format_label, with_formats, with_own, first_broken, unbuilt_at, fault_of_parts}
-use Rattle.rat_check.specs.Survey.{is_among, adding_if, Survey, starting, noting, noting_all, verdict}
+use Rattle.rat_check.specs.Survey.{is_among, Survey, starting, noting, noting_all, verdict}
 use Rattle.rat_check.proofs.PartLemmas.{among_adding_if}
 
 or_else_again : {A : Type 0} (a b c : Option A) → or_else (or_else a b) c ≡ or_else a (or_else b c)
@@ -48,7 +48,7 @@ pub told : (vs : List Part) (none_yet formats : List ℕ) (first last : Survey) 
 told vs none_yet formats first last o nothing one found two is =
     let known : is_among formats ≡ with_formats vs no_label = ap is_among found ∙ ap (λ s. is_among s.found) (one ∙ ap (λ ls. noting_all vs (starting ls)) nothing) ∙ noted_found vs (starting []) in
     sym (is ∙ ap verdict two ∙ ap (λ u. or_else (unbuilt_at u) (noting_all vs (starting formats)).fault) (noted_unbuilt vs (starting formats))
-      ∙ ap (or_else (unbuilt_at (first_unbuilt vs))) (noted_fault vs (starting formats) ∙ ap (λ ls. first_broken ls no_label vs) known))
+    ∙ ap (or_else (unbuilt_at (first_unbuilt vs))) (noted_fault vs (starting formats) ∙ ap (λ ls. first_broken ls no_label vs) known))
 
 pub labels_told : (vs : List Part) (last : Survey) (formats labels : List ℕ) → last ≡ noting_all vs (starting formats) → labels ≡ last.before → is_among labels ≡ with_own vs no_label
 labels_told vs last formats labels two is = ap is_among is ∙ ap (λ s. is_among s.before) two ∙ noted_before vs (starting formats)

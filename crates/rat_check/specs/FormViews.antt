@@ -1,17 +1,18 @@
 -- The forms of parts in memory, and the loops around them.
-use Rattle.std.specs.Prelude.{ℕ, zero, suc, List, [], ◌∷◌, Option, Some, None, Box}
+use Rattle.std.specs.Prelude.{ℕ, zero, suc, Bool, List, [], ◌∷◌, Option, Some, None, Box}
 use Rattle.std.specs.declared.alloc.Global.{Global}
 use Rattle.ground.specs.declared.place.Place.{Place}
 use Rattle.f66_tree.specs.declared.expression.Expr.{Expr}
 use Rattle.rat_tree.specs.declared.program.RatStmt.{RatStmt}
+use Rattle.rat_tree.specs.declared.program.RatCase.{RatCase, out-RatCase}
 use Rattle.f66_tree.specs.Views.{formula_of, formulas_of, par_of, act_of}
-use Rattle.rat_tree.specs.Views.{act_if_any, formula_if_any, command}
+use Rattle.rat_tree.specs.Views.{act_if_any, formula_if_any, command, commands}
 use Rattle.rat_check.specs.declared.forms.Form.{Form}
 use Rattle.rat_check.specs.declared.forms.Form.TheVariants as f
 use Rattle.rat_check.specs.declared.forms.Around.{Around}
 use Rattle.rat_check.specs.declared.forms.Around.TheVariants.{Outside, Inside'}
 use Rattle.rat_check.specs.Parts as parts
-use Rattle.rat_check.specs.Parts.{Labels, Part, part, parts_of, Rests, Says, Asks, Takes, Compares, Prepares, Counting, Leaving, Returning}
+use Rattle.rat_check.specs.Parts.{Labels, Part, part, parts_of, parts_in, with_labels, Rests, Says, Asks, Takes, Compares, Prepares, Counting, Leaving, Returning}
 
 abbrev pub form_of : Form → parts.Form
 form_of f.Rests = Rests
@@ -36,3 +37,9 @@ other_parts k r (Some other) = parts_of k r None (command other.value)
 abbrev pub until_parts : ℕ → Labels → Option (Expr × Place) → List Part
 until_parts k r None = []
 until_parts k r (Some u) = part k r None u.1 (Asks (formula_of u.0)) ∷ []
+
+-- the parts of a clause, and whether it is a second default
+abbrev pub case_parts : ℕ → Labels → Bool → RatCase → List Part
+case_parts k r second c =
+    part k r None (out-RatCase c).place (Compares (formulas_of (out-RatCase c).tests.items) second)
+    ∷ parts_in k (with_labels (commands (out-RatCase c).body.items) r) (commands (out-RatCase c).body.items)

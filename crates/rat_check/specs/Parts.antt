@@ -1,7 +1,7 @@
 -- The parts of a Ratfor unit in reading order, each with what its rules ask of the statements around it. The words of a
 -- control statement with what stands in its parentheses are one part; the condition of `until` and each clause of a switch
 -- are parts of their own, at their own places (Kernighan, Ratfor: A Preprocessor for a Rational Fortran, 1975).
-use Rattle.std.specs.Prelude.{ℕ, suc, nat_eq, Bool, true, false, ◌&&◌, ◌||◌, List, [], ◌∷◌, ◌++◌, Option, Some, None, if◌then◌else◌}
+use Rattle.std.specs.Prelude.{ℕ, suc, nat_eq, Bool, false, ◌&&◌, ◌||◌, List, [], ◌∷◌, ◌++◌, Option, Some, None, if◌then◌else◌}
 use Rattle.ground.specs.declared.place.Place.{Place}
 use Rattle.f66_tree.specs.Forms.{Text, Formula, Formulas, Par, Act}
 use Rattle.f66_tree.specs.Units.{is_note}

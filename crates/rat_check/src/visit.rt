@@ -2,7 +2,7 @@
 ghost use Rattle.std.specs.Prelude.{◌≡◌, suc, OnOk, None, false};
 ghost use Rattle.rat_tree.specs.Views.{command, commands, clauses};
 ghost use Rattle.rat_check.specs.Parts.{parts_of, parts_in, clause_parts, with_labels};
-ghost use Rattle.rat_check.specs.FormViews.{depth_of, other_parts, until_parts};
+ghost use Rattle.rat_check.specs.FormViews.{depth_of, other_parts, until_parts, case_parts};
 ghost use Rattle.rat_check.specs.Survey.{is_among, noting_all};
 
 use crate::{Around, Form, Survey};
@@ -45,7 +45,12 @@ fn visit(statement: &RatStmt, around: &Around, survey: &mut Survey) -> Result<()
             note_until(until, &*around, survey)
         }
         RatKind::Do(name, first, last, step, body) => {
-            survey.note(&*around, label, place, Form::Counting(name, first, last, step))?;
+            survey.note(
+                &*around,
+                label,
+                place,
+                Form::Counting(name, first, last, step),
+            )?;
             visit(body, &inside, survey)
         }
         RatKind::Switch(value, list) => {
@@ -110,19 +115,27 @@ fn visit_each(list: &[RatStmt], around: &Around, survey: &mut Survey) -> Result<
 }
 
 #[cycle(visit)]
-fn visit_clauses(
-    list: &[RatCase],
-    around: &Around,
-    survey: &mut Survey,
-) -> Result<(), AllocError>
+fn visit_clauses(list: &[RatCase], around: &Around, survey: &mut Survey) -> Result<(), AllocError>
     ensures { OnOk result (survey.new ≡ noting_all (clause_parts (depth_of around.now) (is_among survey.old.reach) false (clauses list.now)) survey.old) }
 {
     let mut seen = false;
     for clause in list {
-        let form = Form::Compares(&clause.tests, seen && clause.fallback);
-        survey.note(&*around, None, clause.place, form)?;
-        visit_list(&clause.body, &*around, survey)?;
-        seen = seen || clause.fallback;
+        visit_clause(clause, seen & clause.fallback, &*around, survey)?;
+        seen |= clause.fallback;
     }
     Ok(())
+}
+
+#[cycle(visit)]
+fn visit_clause(
+    clause: &RatCase,
+    second: bool,
+    around: &Around,
+    survey: &mut Survey,
+) -> Result<(), AllocError>
+    ensures { OnOk result (survey.new ≡ noting_all (case_parts (depth_of around.now) (is_among survey.old.reach) second clause.now) survey.old) }
+{
+    let form = Form::Compares(&clause.tests, second);
+    survey.note(&*around, None, clause.place, form)?;
+    visit_list(&clause.body, &*around, survey)
 }

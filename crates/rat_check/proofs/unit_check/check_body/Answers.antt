@@ -7,11 +7,11 @@ use Rattle.rat_check.proofs.unit_check.check_body.Goals as goal
 
 pub returns-in-Some-clause-fault : goal.returns-in-Some-clause-fault
 returns-in-Some-clause-fault c =
-    told (unit_parts (commands c.args.body.now)) c.new.result c.into_formats-formats.result c.in_ok-formats.field-0 c.in_ok-survey.field-0 _ c.new.ensures c.in_ok-formats.ensures c.into_formats-formats.ensures c.in_ok-survey.ensures (sym c.in-Some.is ∙ c.verdict.ensures)
+    told (unit_parts (commands c.args.body.now)) c.new.result c.into_formats-formats.result _ _ _ c.new.ensures c.in_ok-survey_of.ensures c.into_formats-formats.ensures c.in_ok-survey.ensures (sym c.in-Some.is ∙ c.verdict.ensures)
 
 pub returns-in_ok-into_labels-in-None-clause-fault : goal.returns-in_ok-into_labels-in-None-clause-fault
 returns-in_ok-into_labels-in-None-clause-fault c =
-    told (unit_parts (commands c.args.body.now)) c.new.result c.into_formats-formats.result c.in_ok-formats.field-0 c.in_ok-survey.field-0 _ c.new.ensures c.in_ok-formats.ensures c.into_formats-formats.ensures c.in_ok-survey.ensures (sym c.in-None.is ∙ c.verdict.ensures)
+    told (unit_parts (commands c.args.body.now)) c.new.result c.into_formats-formats.result _ _ _ c.new.ensures c.in_ok-survey_of.ensures c.into_formats-formats.ensures c.in_ok-survey.ensures (sym c.in-None.is ∙ c.verdict.ensures)
 
 pub returns-in_ok-into_labels-in-None-clause-labels : goal.returns-in_ok-into_labels-in-None-clause-labels
 returns-in_ok-into_labels-in-None-clause-labels c =
