@@ -17,8 +17,12 @@ pub mod Exits
 pub mod Fits
 pub mod Top
 pub mod NoFault
+pub mod BuiltForms
+pub mod Reached
+pub mod NamesKept
 pub mod Accepted
-pub mod Once
+pub mod PartLabels
+pub mod PartNotes
 pub mod BuiltCode
 pub mod Checks
 mod Examples

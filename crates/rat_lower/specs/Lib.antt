@@ -1,5 +1,4 @@
 pub mod Code
 pub mod OneUnit
 pub mod Checked
-pub mod Refusals
 pub mod Lowered
