@@ -1,10 +1,12 @@
--- The statements of a main unit that are built so far: integer expressions, conditions, control, and a WRITE of one integer.
+-- The statements of a main unit that are built so far: integer expressions, conditions, control, a WRITE of one integer, and
+-- the declaration of integers.
 use Rattle.std.specs.Prelude.{ℕ, ℤ, pos, int_le, Bool, true, false, nat_eq, nat_le, ◌&&◌, List, [], ◌∷◌, Option, Some, None, if◌then◌else◌}
 use Rattle.f66_tree.specs.declared.expression.Operator.{Operator}
 use Rattle.f66_tree.specs.declared.expression.Operator.TheVariants.{Add, Sub, Mul, Div, Power, Lt, Le, Eq, Ne, Ge, Gt, And, Or}
+use Rattle.f66_tree.specs.declared.declaration.TypeWord.TheVariants.{Integer}
 use Rattle.f66_tree.specs.declared.editing.EditKind.TheVariants as edits
 use Rattle.f66_tree.specs.Fields.{Step, Takes, Fields, NoField, Single}
-use Rattle.f66_tree.specs.Forms.{Formula, Number, Variable, Grouped, Positive, Negative, Negated, Joined, Par, Constant, Named, Entry, One, Entries, NoEntry, AndEntry, Act, Assigns, Goes, Selects, Chooses, Loops, Passes, Stops, Writes, Formats, Line}
+use Rattle.f66_tree.specs.Forms.{Formula, Number, Variable, Grouped, Positive, Negative, Negated, Joined, Par, Constant, Named, Declared, Entry, One, Entries, NoEntry, AndEntry, Act, Assigns, Goes, Selects, Chooses, Loops, Passes, Stops, Writes, Formats, Types, Line}
 use Rattle.f66_tree.specs.Units.{Note, notes_of, format_of}
 
 abbrev pub is_constant : ℤ → Bool
@@ -72,6 +74,15 @@ abbrev pub is_variable : Formula → Bool
 is_variable (Variable x) = true
 is_variable _ = false
 
+-- names without dimensions
+abbrev pub is_scalar : List Par → Bool
+is_scalar [] = true
+is_scalar (n ∷ ns) = false
+
+abbrev pub are_scalars : List Declared → Bool
+are_scalars [] = true
+are_scalars (d ∷ ds) = is_scalar d.sizes && are_scalars ds
+
 abbrev pub is_plain : List Note → Act → Bool
 is_plain notes (Assigns x e) = is_variable x && is_whole e
 is_plain notes (Goes l) = true
@@ -80,6 +91,7 @@ is_plain notes Passes = true
 is_plain notes (Stops n) = true
 is_plain notes (Writes u l es) = is_printer u && (is_one_variable es && is_one_field_of (format_of l notes))
 is_plain notes (Formats f) = is_one_field f
+is_plain notes (Types Integer ds) = are_scalars ds
 is_plain notes _ = false
 
 abbrev pub is_built : List Note → Act → Bool
