@@ -10,3 +10,6 @@ pub mod Statements
 pub mod Switches
 pub mod Distinct
 pub mod Notes
+pub mod MadeLabels
+pub mod Sizes
+pub mod Blocks

@@ -1,2 +1,15 @@
 //! From Ratfor to FORTRAN: a main unit of Ratfor becomes a unit of FORTRAN that does the same.
 #![tactic(auto)]
+
+mod around;
+mod emission;
+mod lines;
+mod maker;
+
+
+use around::{Around, Turn, label_again, label_behind};
+use lines::{
+    append, put_act, put_cases, put_copy, put_do, put_here, put_jump, put_mark, put_return, put_step, put_test,
+    put_unless, put_value,
+};
+use maker::Maker;
