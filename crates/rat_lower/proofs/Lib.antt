@@ -13,3 +13,4 @@ pub mod Notes
 pub mod MadeLabels
 pub mod Sizes
 pub mod Blocks
+pub mod Members

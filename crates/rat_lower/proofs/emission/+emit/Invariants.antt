@@ -2,7 +2,9 @@ use Rattle.std.proofs.Common.{◌≡◌, drop, ◌+◌, ◌*◌}
 use Rattle.f66_tree.specs.Views.{lines_of}
 use Rattle.rat_tree.specs.Views.{command, commands, clauses}
 use Rattle.rat_lower.specs.Around.{rings_of}
+use Rattle.std.proofs.Common.{List}
 use Rattle.rat_lower.proofs.Blocks.{SoFar}
+use Rattle.rat_lower.proofs.Members.{ClausesSoFar}
 use Rattle.rat_lower.proofs.Sizes.{size_of, size_of_all, size_of_clauses}
 use Rattle.rat_lower.proofs.emission.+emit.Given as goal
 
@@ -32,3 +34,7 @@ decreases-emit_clauses l = 2 * size_of_clauses (clauses l.list.now) + 1
 
 abbrev pub invariant-emit_all-loop-statement : goal.invariant-emit_all-loop-statement
 invariant-emit_all-loop-statement l = SoFar (commands l.list) (commands (drop l.statement-index l.list)) (rings_of l.around) l.initial.maker l.maker (lines_of l.initial.code.items) (lines_of l.code.items)
+
+abbrev pub invariant-emit_clauses-loop-clause : goal.invariant-emit_clauses-loop-clause
+invariant-emit_clauses-loop-clause l =
+    ClausesSoFar (clauses l.list) (clauses (drop l.clause-index l.list)) l.behind (rings_of l.around) l.default l.initial.maker l.maker (lines_of l.initial.code.items) (lines_of l.code.items) (lines_of l.initial.bodies.items) (lines_of l.bodies.items)
