@@ -14,3 +14,5 @@ pub mod MadeLabels
 pub mod Sizes
 pub mod Blocks
 pub mod Members
+pub mod CappedCounts
+pub mod Units

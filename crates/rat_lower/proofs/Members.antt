@@ -8,13 +8,14 @@ use Rattle.f66_tree.specs.Forms.{Text, Formulas, Line}
 use Rattle.f66_tree.specs.Views.{formula_of, formulas_of}
 use Rattle.rat_tree.specs.declared.program.RatStmt.{RatStmt}
 use Rattle.std.proofs.Math.Seq.{drop-cons}
+use Rattle.std.proofs.Math.ListN.{drop_of_length-le}
 use Rattle.rat_tree.specs.declared.program.RatCase.{RatCase, out-RatCase, roll-out-RatCase}
 use Rattle.rat_tree.specs.declared.program.RatKind.TheVariants.{Block, Switch}
 use Rattle.rat_tree.specs.Commands.{Command, Together, Switches, Commands, Clauses, NoClause, AndClause}
 use Rattle.rat_tree.specs.Views.{labelled, command_of, command, commands, clause_then, clauses}
 use Rattle.rat_tree.proofs.Rows.{block_commands, switch_clauses, case_clause}
 use Rattle.rat_lower.specs.Around.{with_label, with_mark}
-use Rattle.rat_lower.specs.Code.{Rings, here, jump, labels, all_labels, clause_labels, code_of, all_code, each_test, tests, bodies, default_label}
+use Rattle.rat_lower.specs.Code.{Rings, here, jump, labels, all_labels, clause_labels, code_of, all_code, each_test, tests, bodies, default_label, has_switch, have_switch}
 use Rattle.rat_lower.specs.Emitted.{Making, labels_past, Adds, Emitted, AllEmitted, ClausesEmitted, first_default}
 use Rattle.rat_lower.proofs.Blocks.{label_or}
 use Rattle.rat_lower.proofs.Sizes.{size_of, size_of_all, size_of_clauses, labelled_size}
@@ -57,6 +58,13 @@ from_block s v list (Ok _) ls before after old mid new is value mark h =
     (marked s.label s.place (Together s.place (commands list)) ls before after old mid new (subst (λ k. Adds old mid (with_mark s.label s.place k)) is mark) (record { taken = h.taken; spare = h.spare; made = h.made; added = h.added }))
 from_block s v list (Err e) ls before after old mid new is value mark h = tt
 
+labelled_has : (l : Option ℕ) (p : Place) (s : Command) → has_switch (labelled l p s) ≡ has_switch s
+labelled_has None p s = refl
+labelled_has (Some l) p s = refl
+
+pub block_has : (s : RatStmt) (v : Vec RatStmt Global) (list : List RatStmt) → s.kind ≡ Block v → list ≡ v.items → has_switch (command s) ≡ have_switch (commands list)
+block_has s v list is value = ap has_switch (block_command s v list is value) ∙ labelled_has s.label s.place (Together s.place (commands list))
+
 -- ---- switches ----
 
 switch_command : (s : RatStmt) (e : Expr) (v : Vec RatCase Global) (list : List RatCase) → s.kind ≡ Switch e v → list ≡ v.items → command s ≡ labelled s.label s.place (Switches s.place (formula_of e) (clauses list))
@@ -89,6 +97,9 @@ pub next_clause : (list : List RatCase) (i : ℕ) (c : RatCase) → i < length l
 next_clause list i c lt is =
     let e : suc i ≡ i + 1 = omega arith in
     ap clauses (drop-cons list i c lt) ∙ ap (λ x. clause_then x (clauses (drop (suc i) list))) (sym is) ∙ ap (λ m. clause_then c (clauses (drop m list))) e ∙ clause_is c (clauses (drop (i + 1) list))
+
+pub last_clause : (list : List RatCase) (i : ℕ) → length list ≤ i → clauses (drop i list) ≡ NoClause
+last_clause list i le = ap clauses (drop_of_length-le list le)
 
 pub clause_size : (list : List RatCase) (i : ℕ) (c : RatCase) → i < length list → c ≡ get_or list i c → size_of_all (commands (out-RatCase c).body.items) < size_of_clauses (clauses list)
 clause_size list i c lt is = let h = ap (λ x. size_of_all (commands (out-RatCase x).body.items)) is in omega (arith, h, inner list i c lt)
