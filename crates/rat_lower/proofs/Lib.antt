@@ -16,3 +16,4 @@ pub mod Blocks
 pub mod Members
 pub mod CappedCounts
 pub mod Units
+pub mod BuiltUnits

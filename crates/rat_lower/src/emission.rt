@@ -8,8 +8,8 @@ ghost use Rattle.rat_lower.specs.Code.{all_labels, clause_labels, default_label,
 ghost use Rattle.rat_lower.specs.Emitted.{AllEmitted, ClausesEmitted, Emitted, first_default, labels_past};
 
 use crate::{
-    Around, Maker, Turn, append, label_again, label_behind, put_act, put_cases, put_copy, put_do, put_here, put_jump,
-    put_mark, put_return, put_step, put_test, put_unless, put_value,
+    Around, Maker, Turn, append, label_again, label_behind, put_act, put_cases, put_copy, put_do,
+    put_here, put_jump, put_mark, put_return, put_step, put_test, put_unless, put_value,
 };
 use f66_tree::{Expr, Stmt};
 use ground::{List, Memory, Place};

@@ -158,7 +158,12 @@ pub fn put_do(
     let first = copy_par(parameters.0)?;
     let last = copy_par(parameters.1)?;
     let step = copy_par(parameters.2)?;
-    put(code, None, place, StmtKind::Loop(end, name, first, last, step))
+    put(
+        code,
+        None,
+        place,
+        StmtKind::Loop(end, name, first, last, step),
+    )
 }
 
 /// RETURN, behind the value of a function where there is one.
