@@ -17,3 +17,15 @@ pub mod Members
 pub mod CappedCounts
 pub mod Units
 pub mod BuiltUnits
+pub mod Alone
+pub mod Agreement
+pub mod Whole
+pub mod Exits
+pub mod Fits
+pub mod Top
+pub mod NoFault
+pub mod Accepted
+pub mod Once
+pub mod BuiltCode
+pub mod Checks
+mod Examples

@@ -4,3 +4,5 @@ pub mod Checked
 pub mod Around
 pub mod Emitted
 pub mod Profile
+pub mod Refusals
+pub mod Lowered
