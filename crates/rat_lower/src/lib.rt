@@ -13,7 +13,7 @@ pub use counting::count_labels;
 use counting::have_switch;
 use emission::emit_all;
 use lines::{
-    append, put, put_act, put_cases, put_copy, put_do, put_here, put_jump, put_mark, put_return,
+    append, put, put_act, put_break, put_cases, put_copy, put_do, put_here, put_jump, put_mark, put_next, put_return,
     put_step, put_test, put_unless, put_value,
 };
 use maker::Maker;
