@@ -3,9 +3,9 @@ use Rattle.std.proofs.Common.{◌≡◌, ◌≢◌, ℕ, Bool, true, false, true
 use Rattle.ground.specs.declared.place.Place.{Place}
 use Rattle.f66_tree.specs.Forms.{Text}
 use Rattle.f66_tree.specs.World.{Record}
-use Rattle.f66_tree.specs.Units.{Note, format_of}
+use Rattle.f66_tree.specs.Units.{format_of}
 use Rattle.f66_tree.specs.Agreement.{Agrees}
-use Rattle.f66_tree.specs.Built.{is_one_field_of, are_built, is_built_unit}
+use Rattle.f66_tree.specs.Built.{is_one_field_of, is_built_unit}
 use Rattle.f66_tree.specs.OneUnit.{executed}
 use Rattle.rat_tree.specs.Commands.{Commands}
 use Rattle.name_alloc.proofs.Free.{made-free, made-rises}
@@ -13,18 +13,16 @@ use Rattle.rat_check.specs.Parts.{Labels, no_label, with_labels, unit_parts}
 use Rattle.rat_check.specs.Rules.{is_real}
 use Rattle.rat_check.specs.FirstFault.{with_formats, with_own, fault_of_parts}
 use Rattle.rat_check.specs.Survey.{is_among}
-use Rattle.rat_lower.specs.Code.{have_switch, all_code, ends_so, stop_unless, declared_if}
 use Rattle.rat_lower.specs.OneUnit.{notes_of_unit, means}
 use Rattle.rat_lower.specs.Checked.{NamesOfNotes, Lacks, IsChecked}
-use Rattle.rat_lower.specs.Lowered.{labels_past, spare_name, lowered}
-use Rattle.rat_lower.proofs.Notes.{notes_whole}
-use Rattle.rat_lower.proofs.Alone.{spare_note}
+use Rattle.rat_lower.specs.Emitted.{labels_past, spare_name}
+use Rattle.rat_lower.specs.Lowered.{lowered}
 use Rattle.rat_lower.proofs.NoFault.{Passed, passed}
 use Rattle.rat_lower.proofs.Reached.{Sees, sees_list}
 use Rattle.rat_lower.proofs.Accepted.{AllClear, all_clear}
 use Rattle.rat_lower.proofs.PartLabels.{given_once, not_given}
 use Rattle.rat_lower.proofs.PartNotes.{unit_notes, names_of_notes, has_format}
-use Rattle.rat_lower.proofs.BuiltCode.{AllBuilt, all_code_ok}
+use Rattle.rat_lower.proofs.BuiltUnits.{unit_built}
 use Rattle.rat_lower.proofs.Top.{unit_agrees}
 
 -- a name that is declared nowhere and isn't real is not the spare one
@@ -44,8 +42,11 @@ module _ (ss : Commands) (accepted : fault_of_parts (unit_parts ss) ≡ None) (t
   sees : Sees (with_labels ss no_label) (ss ∷ [])
   sees = sees_list ss no_label [] sees_none
 
-  clear : AllClear (λ x. x ≢ spare_name) not_spare formats 0 (ss ∷ []) ss
-  clear = all_clear (λ x. x ≢ spare_name) not_spare formats ss 0 (with_labels ss no_label) (ss ∷ []) sees clean.fine
+  has : (m : ℕ) → formats m ≡ true → is_one_field_of (format_of m (notes_of_unit ss)) ≡ true
+  has = has_format formats ss clean.fine
+
+  clear : AllClear (λ x. x ≢ spare_name) not_spare formats (notes_of_unit ss) has 0 (ss ∷ []) ss
+  clear = all_clear (λ x. x ≢ spare_name) not_spare formats (notes_of_unit ss) has ss 0 (with_labels ss no_label) (ss ∷ []) sees clean.fine
 
   lacks : Lacks spare_name ss
   lacks = record {
@@ -69,28 +70,6 @@ module _ (ss : Commands) (accepted : fault_of_parts (unit_parts ss) ≡ None) (t
     pub accepted_agrees : (input : List Record) → Agrees (means ss input) (executed (lowered taken first last ss) input)
     accepted_agrees input = unit_agrees (labels_past taken) spare_name first last ss is_checked input
 
-    abbrev made : ℕ → ℕ
-    made = labels_past taken
-
-    -- the statements by themselves, among notes that hold those of the source
-    all_built : (notes : List Note) → ((m : ℕ) → format_of m notes ≡ format_of m (notes_of_unit ss)) → (v : Bool) → are_built notes (all_code made spare_name ss 0 [] (stop_unless v last)) ≡ true
-    all_built notes same v =
-        (all_code_ok notes made spare_name formats (λ m e. ap is_one_field_of (same m) ∙ has_format formats ss clean.fine m e) ss 0 (with_labels ss no_label) clean.fine 0 [] (stop_unless v last) (last_built v)).by
-      where
-        last_built : (u : Bool) → AllBuilt notes made spare_name (stop_unless u last)
-        last_built true = record { by = refl }
-        last_built false = record { by = refl }
-
     -- and is one of those that are built
     pub accepted_built : is_built_unit (lowered taken first last ss) ≡ true
-    accepted_built = by_switch (have_switch ss)
-      where
-        v : Bool
-        v = ends_so false (all_code made spare_name ss 0 [] [])
-        by_switch : (u : Bool) → is_built_unit (declared_if u first spare_name (all_code made spare_name ss 0 [] (stop_unless v last))) ≡ true
-        by_switch true =
-            ap (λ notes. are_built (spare_note spare_name ∷ notes) (all_code made spare_name ss 0 [] (stop_unless v last))) (notes_whole made spare_name ss v last)
-            ∙ all_built (spare_note spare_name ∷ notes_of_unit ss) (λ m. refl) v
-        by_switch false =
-            ap (λ notes. are_built notes (all_code made spare_name ss 0 [] (stop_unless v last))) (notes_whole made spare_name ss v last)
-            ∙ all_built (notes_of_unit ss) (λ m. refl) v
+    accepted_built = unit_built (labels_past taken) spare_name first last ss clear.profile

@@ -15,11 +15,10 @@ use Rattle.f66_tree.proofs.ExampleParts.{here, i, k, num, var, set, write, i3}
 use Rattle.rat_tree.specs.Commands.{Command, Together, When, Repeats, Until, Counts, Switches, Leaves, Turns, GivesBack, Plainly, Commands, NoCommand, AndCommand, NoClause, AndClause}
 use Rattle.rat_check.specs.Parts.{unit_parts}
 use Rattle.rat_check.specs.FirstFault.{fault_at, fault_of_parts}
-use Rattle.rat_check.specs.Survey.{own_labels}
 use Rattle.rat_lower.specs.Code.{unit_code}
 use Rattle.rat_lower.specs.OneUnit.{means}
 use Rattle.rat_lower.specs.Checked.{bit, all_given, Lacks, IsChecked}
-use Rattle.rat_lower.specs.Lowered.{lowered}
+use Rattle.rat_lower.specs.Lowered.{source_labels, lowered}
 use Rattle.rat_lower.proofs.Top.{unit_agrees}
 
 abbrev all : List Command → Commands
@@ -40,7 +39,7 @@ abbrev z : Text
 z = codes "Z00001"
 
 abbrev unit : List Command → List Line
-unit cs = lowered (own_labels (unit_parts (all cs)) []) (here 1) (here 99) (all cs)
+unit cs = lowered (source_labels (all cs)) (here 1) (here 99) (all cs)
 
 abbrev shows : List Command → ℕ → Shown
 shows cs b = means (all cs) [] b

@@ -10,6 +10,13 @@ pub mod Statements
 pub mod Switches
 pub mod Distinct
 pub mod Notes
+pub mod MadeLabels
+pub mod Sizes
+pub mod Blocks
+pub mod Members
+pub mod CappedCounts
+pub mod Units
+pub mod BuiltUnits
 pub mod Alone
 pub mod Agreement
 pub mod Whole
@@ -20,9 +27,8 @@ pub mod NoFault
 pub mod BuiltForms
 pub mod Reached
 pub mod NamesKept
-pub mod Accepted
 pub mod PartLabels
 pub mod PartNotes
-pub mod BuiltCode
+pub mod Accepted
 pub mod Checks
 mod Examples
