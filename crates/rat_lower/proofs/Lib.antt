@@ -31,4 +31,5 @@ pub mod PartLabels
 pub mod PartNotes
 pub mod Accepted
 pub mod Checks
+pub mod MainUnits
 mod Examples

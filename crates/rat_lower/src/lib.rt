@@ -5,16 +5,17 @@ mod around;
 mod counting;
 mod emission;
 mod lines;
+mod main_unit;
 mod maker;
 mod unit;
 
 use around::{Around, Turn, label_again, label_behind};
-pub use counting::count_labels;
-use counting::have_switch;
+use counting::{count_labels, have_switch};
 use emission::emit_all;
 use lines::{
     append, put, put_act, put_break, put_cases, put_copy, put_do, put_here, put_jump, put_mark, put_next, put_return,
     put_step, put_test, put_unless, put_value,
 };
+pub use main_unit::lower;
 use maker::Maker;
-pub use unit::lower_body;
+use unit::lower_body;
