@@ -8,8 +8,8 @@ ghost use Rattle.rat_lower.specs.Code.{all_labels, clause_labels, default_label,
 ghost use Rattle.rat_lower.specs.Emitted.{AllEmitted, ClausesEmitted, Emitted, first_default, labels_past};
 
 use crate::{
-    Around, Maker, Turn, append, put_act, put_break, put_cases, put_copy, put_do, put_here, put_jump, put_mark, put_next,
-    put_return, put_step, put_test, put_unless, put_value,
+    Around, Maker, Turn, append, put_act, put_break, put_cases, put_copy, put_do, put_here,
+    put_jump, put_mark, put_next, put_return, put_step, put_test, put_unless, put_value,
 };
 use f66_tree::{Expr, Stmt};
 use ground::{List, Memory, Place};
@@ -162,7 +162,8 @@ fn emit_until(
     let again = maker.fresh_label()?;
     let behind = maker.fresh_label()?;
     put_here(code, place, head)?;
-    emit(maker, code, body, &Around::Loop(behind, again, &*around))?;
+    let inside = Around::Loop(behind, again, &*around);
+    emit(maker, code, body, &inside)?;
     put_here(code, place, again)?;
     put_unless(maker.alloc(), code, at, e, head)?;
     put_here(code, place, behind)?;
