@@ -19,6 +19,11 @@ abbrev pub adding_if : Option ℕ → List ℕ → List ℕ
 adding_if None ls = ls
 adding_if (Some l) ls = adding l ls
 
+-- the labels of the parts are added, each once
+abbrev pub own_labels : List Part → List ℕ → List ℕ
+own_labels [] ls = ls
+own_labels (v ∷ vs) ls = own_labels vs (adding_if v.label ls)
+
 -- the labels that stand directly in a list are added
 abbrev pub adding_all : Commands → List ℕ → List ℕ
 adding_all NoCommand ls = ls

@@ -12,12 +12,13 @@ use Rattle.f66_tree.specs.World.{Record, Shown, Ended, Done, GoesOn}
 use Rattle.f66_tree.specs.Agreement.{Agrees}
 use Rattle.f66_tree.specs.OneUnit.{executed}
 use Rattle.f66_tree.proofs.ExampleParts.{here, i, k, num, var, set, write, i3}
-use Rattle.rat_tree.specs.Commands.{Command, Together, When, Repeats, Until, Counts, Switches, Leaves, Turns, Plainly, Commands, NoCommand, AndCommand, NoClause, AndClause}
+use Rattle.rat_tree.specs.Commands.{Command, Together, When, Repeats, Until, Counts, Switches, Leaves, Turns, GivesBack, Plainly, Commands, NoCommand, AndCommand, NoClause, AndClause}
+use Rattle.rat_check.specs.Parts.{unit_parts}
+use Rattle.rat_check.specs.FirstFault.{fault_at, fault_of_parts}
 use Rattle.rat_lower.specs.Code.{unit_code}
 use Rattle.rat_lower.specs.OneUnit.{means}
 use Rattle.rat_lower.specs.Checked.{bit, all_given, Lacks, IsChecked}
-use Rattle.rat_lower.specs.Refusals.{first_fault}
-use Rattle.rat_lower.specs.Lowered.{lowered}
+use Rattle.rat_lower.specs.Lowered.{source_labels, lowered}
 use Rattle.rat_lower.proofs.Top.{unit_agrees}
 
 abbrev all : List Command → Commands
@@ -38,7 +39,7 @@ abbrev z : Text
 z = codes "Z00001"
 
 abbrev unit : List Command → List Line
-unit cs = lowered z (here 1) (here 99) (all cs)
+unit cs = lowered (source_labels (all cs)) (here 1) (here 99) (all cs)
 
 abbrev shows : List Command → ℕ → Shown
 shows cs b = means (all cs) [] b
@@ -115,7 +116,7 @@ loops =
     Counts (here 1) i (Constant (pos 1)) (Constant (pos 3)) (Constant (pos 1)) (block 1 (When (here 2) (Joined Eq (var i) (num (pos 2))) (Turns (here 2) 1) ∷ plain 3 (write (i ∷ [])) ∷ []))
     ∷ plain 4 (set k (num (pos 0))) ∷ Plainly (Some 20) (here 5) (set k (Joined Add (var k) (num (pos 1)))) ∷ When (here 6) (Joined Lt (var k) (num (pos 3))) (plain 6 (Goes 20)) ∷ plain 7 (write (k ∷ [])) ∷ plain 8 (Stops None) ∷ format ∷ []
 
-loops_accepted : first_fault (all loops) ≡ None
+loops_accepted : fault_of_parts (unit_parts (all loops)) ≡ None
 loops_accepted = refl
 
 loops_mean : (shows loops 3).records ≡ codes "  1" ∷ codes "  3" ∷ codes "  3" ∷ []
@@ -136,30 +137,34 @@ loops_go_on = refl
 abbrev too_far : Command
 too_far = Repeats (here 2) (block 2 (Leaves (here 3) 2 ∷ []))
 
-loop_refused : first_fault (all (plain 1 (set i (num (pos 1))) ∷ too_far ∷ [])) ≡ Some (BadBreak, here 3)
+loop_refused : fault_of_parts (unit_parts (all (plain 1 (set i (num (pos 1))) ∷ too_far ∷ []))) ≡ Some (fault_at (here 3) BadBreak)
 loop_refused = refl
 
 -- goto 10 to a label within braces
-label_refused : first_fault (all (plain 1 (Goes 10) ∷ block 2 (Plainly (Some 10) (here 2) (set i (num (pos 1))) ∷ []) ∷ [])) ≡ Some (BadLabel, here 1)
+label_refused : fault_of_parts (unit_parts (all (plain 1 (Goes 10) ∷ block 2 (Plainly (Some 10) (here 2) (set i (num (pos 1))) ∷ []) ∷ []))) ≡ Some (fault_at (here 1) BadLabel)
 label_refused = refl
 
 -- a label that stands twice
-second_refused : first_fault (all (Plainly (Some 10) (here 1) (set i (num (pos 1))) ∷ Plainly (Some 10) (here 2) (set i (num (pos 1))) ∷ [])) ≡ Some (BadLabel, here 2)
+second_refused : fault_of_parts (unit_parts (all (Plainly (Some 10) (here 1) (set i (num (pos 1))) ∷ Plainly (Some 10) (here 2) (set i (num (pos 1))) ∷ []))) ≡ Some (fault_at (here 2) BadLabel)
 second_refused = refl
 
 -- a name of seven letters that would be real, and one of one letter
-long_refused : first_fault (all (plain 1 (set i (var (codes "ABCDEFG"))) ∷ [])) ≡ Some (NameTooLong, here 1)
+long_refused : fault_of_parts (unit_parts (all (plain 1 (set i (var (codes "ABCDEFG"))) ∷ []))) ≡ Some (fault_at (here 1) NameTooLong)
 long_refused = refl
 
-real_refused : first_fault (all (plain 1 (set i (var (codes "A"))) ∷ [])) ≡ Some (OutOfProfileType, here 1)
+real_refused : fault_of_parts (unit_parts (all (plain 1 (set i (var (codes "A"))) ∷ []))) ≡ Some (fault_at (here 1) OutOfProfileType)
 real_refused = refl
 
 -- a WRITE whose format is missing, and the condition of until after the faults of its body
-format_refused : first_fault (all (plain 1 (write (i ∷ [])) ∷ [])) ≡ Some (BadLabel, here 1)
+format_refused : fault_of_parts (unit_parts (all (plain 1 (write (i ∷ [])) ∷ []))) ≡ Some (fault_at (here 1) BadLabel)
 format_refused = refl
 
-body_first : first_fault (all (Until (here 1) (block 1 (Leaves (here 2) 0 ∷ [])) (var (codes "A")) (here 3) ∷ [])) ≡ Some (BadBreak, here 2)
+body_first : fault_of_parts (unit_parts (all (Until (here 1) (block 1 (Leaves (here 2) 0 ∷ [])) (Joined Lt (var (codes "A")) (num (pos 3))) (here 3) ∷ []))) ≡ Some (fault_at (here 2) BadBreak)
 body_first = refl
 
-unbuilt_refused : first_fault (all switch) ≡ Some (Unbuilt, here 2)
+-- a return behind a fault: what is not built goes first
+unbuilt_refused : fault_of_parts (unit_parts (all (plain 1 (Goes 10) ∷ GivesBack (here 2) None ∷ []))) ≡ Some (fault_at (here 2) Unbuilt)
 unbuilt_refused = refl
+
+switch_accepted : fault_of_parts (unit_parts (all switch)) ≡ None
+switch_accepted = refl

@@ -10,6 +10,13 @@ pub mod Statements
 pub mod Switches
 pub mod Distinct
 pub mod Notes
+pub mod MadeLabels
+pub mod Sizes
+pub mod Blocks
+pub mod Members
+pub mod CappedCounts
+pub mod Units
+pub mod BuiltUnits
 pub mod Alone
 pub mod Agreement
 pub mod Whole
@@ -17,8 +24,12 @@ pub mod Exits
 pub mod Fits
 pub mod Top
 pub mod NoFault
+pub mod BuiltForms
+pub mod Reached
+pub mod NamesKept
+pub mod PartLabels
+pub mod PartNotes
 pub mod Accepted
-pub mod Once
-pub mod BuiltCode
 pub mod Checks
+pub mod MainUnits
 mod Examples

@@ -1,5 +1,7 @@
 pub mod Code
 pub mod OneUnit
 pub mod Checked
-pub mod Refusals
+pub mod Around
+pub mod Emitted
+pub mod Profile
 pub mod Lowered
