@@ -1,18 +1,17 @@
 -- A main unit without a fault: its statements are built, its loops are left from within, its jumps land, none of its names would
 -- be real, and its expressions and plain statements are among those that are built so far.
-use Rattle.std.proofs.Common.{◌≡◌, ℕ, suc, ◌≤◌, Bool, true, false, true≢false, List, [], ◌∷◌, ◌++◌, Option, Some, None, refl, sym, leb-true}
+use Rattle.std.proofs.Common.{◌≡◌, ℕ, suc, ◌≤◌, Bool, true, false, true≢false, List, [], ◌∷◌, Option, Some, None, refl, sym, leb-true}
 use Rattle.std.specs.Prelude.{nat_le, ◌&&◌, ◌||◌}
-use Rattle.ground.specs.declared.place.Place.{Place}
 use Rattle.f66_tree.specs.Forms.{Text, Formula, Formulas, Nought, Also, Act}
 use Rattle.f66_tree.specs.Units.{Note, format_of}
 use Rattle.f66_tree.specs.Built.{is_whole, is_par, is_variable, is_printer, is_one_variable, is_one_field_of, is_plain}
 use Rattle.rat_tree.specs.Commands.{Command, Empty, Together, When, Either, Whilst, Through, Repeats, Until, Counts, Switches, Leaves, Turns, GivesBack, Plainly, Marked, Commands, NoCommand, AndCommand, Clauses, NoClause, AndClause}
 use Rattle.rat_tree.specs.Uses.{NamesOfCommand, NamesOfCommands, NamesOfClauses}
-use Rattle.rat_check.specs.Parts.{Says, Asks, Labels, Part, part, with_labels, parts_of, parts_in, clause_parts}
+use Rattle.rat_check.specs.Parts.{Says, Asks, Labels, part, with_labels, parts_of, parts_in, clause_parts}
 use Rattle.rat_check.specs.Rules.{is_built_act, are_whole, is_simple, is_test, finds_labels, is_fit_format, name_of_par, name_of_acts, name_of_test, is_real}
 use Rattle.rat_lower.specs.Checked.{IsPlain, IsPlainIfAny, IsBuilt, AreBuilt, ClausesBuilt, Fits, AllFit, ClausesFit, Lands, AllLand, ClausesLand}
 use Rattle.rat_lower.specs.Profile.{IsPlainIn, IsConditionIfAny, AreWhole, IsInProfile, AreInProfile, ClausesInProfile}
-use Rattle.rat_lower.proofs.NoFault.{and_true, both_true, both_false, Fine, AllFine, split, unmarked}
+use Rattle.rat_lower.proofs.NoFault.{and_true, both_true, both_false, AllFine, split, unmarked}
 use Rattle.rat_lower.proofs.BuiltForms.{each_act, each_simple}
 use Rattle.rat_lower.proofs.Reached.{Sees, sees_list, act_lands, step_lands}
 use Rattle.rat_lower.proofs.PartNotes.{one_field}

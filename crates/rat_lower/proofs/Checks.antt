@@ -1,5 +1,5 @@
 -- A main unit without a fault agrees with the unit that it becomes, whose statements are built.
-use Rattle.std.proofs.Common.{◌≡◌, ◌≢◌, ℕ, Bool, true, false, true≢false, List, [], ◌∷◌, None, refl, sym, ap, ◌∙◌, subst}
+use Rattle.std.proofs.Common.{◌≡◌, ◌≢◌, ℕ, true, false, true≢false, List, [], ◌∷◌, None, sym, ap, ◌∙◌, subst}
 use Rattle.ground.specs.declared.place.Place.{Place}
 use Rattle.f66_tree.specs.Forms.{Text}
 use Rattle.f66_tree.specs.World.{Record}

@@ -1,5 +1,5 @@
 -- The statements of a main unit that the checks accept: they do what it means, and are built.
-use Rattle.std.proofs.Common.{◌≡◌, ℕ, Bool, true, false, List, [], Option, Some, None, refl, sym, ap, ◌∙◌, subst}
+use Rattle.std.proofs.Common.{◌≡◌, ℕ, Bool, true, false, List, [], Some, None, sym, ap, ◌∙◌, subst}
 use Rattle.std.specs.Prelude.{if◌then◌else◌}
 use Rattle.std.proofs.lemmas.Option.{none-some}
 use Rattle.ground.specs.declared.place.Place.{Place}
@@ -16,7 +16,6 @@ use Rattle.rat_check.specs.FirstFault.{fault_at, with_own, fault_of_parts, unit_
 use Rattle.rat_check.specs.Survey.{is_among, own_labels}
 use Rattle.rat_check.proofs.SurveyLemmas.{own_among}
 use Rattle.rat_lower.specs.OneUnit.{means}
-use Rattle.rat_lower.specs.Emitted.{labels_past, spare_name}
 use Rattle.rat_lower.specs.Lowered.{lowered}
 use Rattle.rat_lower.proofs.Checks.{accepted_agrees, accepted_built}
 

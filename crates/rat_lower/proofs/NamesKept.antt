@@ -1,6 +1,5 @@
 -- The names of a part that would not be real, and of which something else holds.
-use Rattle.std.proofs.Common.{◌≡◌, Bool, true, false, true≢false, Option, Some, None, refl, sym, ap, subst}
-use Rattle.std.specs.Prelude.{◌||◌}
+use Rattle.std.proofs.Common.{◌≡◌, true, false, true≢false, Option, Some, None, refl, sym, subst}
 use Rattle.f66_tree.specs.Forms.{Text, Formula, Number, Fact, Letter, Variable, Applied, Grouped, Positive, Negative, Negated, Joined, Formulas, Nought, Also, Par, Constant, Named, One, Many, Entries, NoEntry, AndEntry, Act}
 use Rattle.f66_tree.specs.Uses.{Names, NamesOfAll, NameOfPar, NamesOfEntries, NamesOfAct}
 use Rattle.f66_tree.specs.Built.{is_printer, is_one_variable}

@@ -1,5 +1,5 @@
 -- The statements of a unit that are not executed, by its parts: they are formats of one field, and each WRITE has its own.
-use Rattle.std.proofs.Common.{◌≡◌, ℕ, suc, ◌+◌, Bool, true, false, true≢false, List, [], ◌∷◌, ◌++◌, ◌⊎◌, inl, inr, Option, Some, None, refl, sym, ap, ◌∙◌}
+use Rattle.std.proofs.Common.{◌≡◌, ℕ, suc, Bool, true, false, true≢false, List, [], ◌∷◌, ◌++◌, ◌⊎◌, inl, inr, Option, Some, None, refl, sym, ap, ◌∙◌}
 use Rattle.std.specs.Prelude.{nat_eq, nat_le, ◌&&◌, ◌||◌, if◌then◌else◌}
 use Rattle.ground.specs.declared.place.Place.{Place}
 use Rattle.f66_tree.specs.declared.editing.EditKind.TheVariants as edits
@@ -12,8 +12,8 @@ use Rattle.rat_check.specs.Parts.{Form, Rests, Says, Asks, Takes, Compares, Prep
 use Rattle.rat_check.specs.Rules.{is_built_act, is_built_form, is_simple, is_test, is_whole_field, has_fit_width, is_fit_format}
 use Rattle.rat_check.specs.FirstFault.{format_label, with_formats}
 use Rattle.rat_lower.specs.OneUnit.{note_then, note_if_any, notes_in, all_notes, clause_notes, notes_of_unit}
-use Rattle.rat_lower.specs.Checked.{NamesOfNote, NamesOfNotes}
-use Rattle.rat_lower.proofs.NoFault.{and_true, Fine, AllFine, split, unmarked}
+use Rattle.rat_lower.specs.Checked.{NamesOfNotes}
+use Rattle.rat_lower.proofs.NoFault.{and_true, AllFine, split, unmarked}
 use Rattle.rat_lower.proofs.BuiltForms.{each_act, each_simple}
 use Rattle.rat_lower.proofs.Reached.{or_true, eq_turned}
 

@@ -3,7 +3,7 @@ use Rattle.std.proofs.Common.{◌≡◌, ℕ, Bool, true, false, true≢false, L
 use Rattle.std.specs.Prelude.{nat_eq, ◌||◌, if◌then◌else◌}
 use Rattle.std.specs.List.{list_all}
 use Rattle.std.proofs.lemmas.Bool.{ne_eqb, eqb-true, eq-eqb}
-use Rattle.f66_tree.specs.Forms.{Act, Goes, Selects}
+use Rattle.f66_tree.specs.Forms.{Act}
 use Rattle.f66_tree.specs.Units.{is_note}
 use Rattle.f66_tree.specs.Execution.{has_label}
 use Rattle.rat_tree.specs.Commands.{Command, Empty, Together, When, Either, Whilst, Through, Repeats, Until, Counts, Switches, Leaves, Turns, GivesBack, Plainly, Marked, Commands, NoCommand, AndCommand}
@@ -73,6 +73,7 @@ in_list m (AndCommand c ss) r e = by (in_list m ss (with_label (target_of c) r) 
     first : (marks m c ≡ true) ⊎ (r m ≡ true) → ((marks m c || stands m ss) ≡ true) ⊎ (r m ≡ true)
     first (inl h) = inl (left_true (marks m c) (stands m ss) h)
     first (inr h) = inr h
+
     by : (stands m ss ≡ true) ⊎ (with_label (target_of c) r m ≡ true) → ((marks m c || stands m ss) ≡ true) ⊎ (r m ≡ true)
     by (inl h) = inl (right_true (marks m c) (stands m ss) h)
     by (inr h) = first (targeted m r c h)

@@ -20,6 +20,7 @@ use std::alloc::Global;
 
 // How many labels are there from 23000 on, and the number of that limit.
 const LABEL_LIMIT: usize = 77_000;
+
 const LABEL_LIMIT_NUMBER: u64 = 6;
 
 /// The unit of FORTRAN that does what a main unit does whose text ends at `finish`. The faults of the checks, and 30 Limit with
