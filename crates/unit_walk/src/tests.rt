@@ -60,7 +60,10 @@ impl Reading {
     }
 
     fn ends(&mut self, alloc: Global, kind: StmtKind) -> Result<(), AllocError> {
-        let line = self.lines.len() as u32;
+        let line = match u32::try_from(self.lines.len()) {
+            Ok(line) => line,
+            Err(_) => 0,
+        };
         let place = Place {
             file: 0,
             line: line.saturating_add(1),
