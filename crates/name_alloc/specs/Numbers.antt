@@ -36,9 +36,13 @@ behind n (m ∷ ms) = behind (m + 1) ms
 abbrev pub next_number : Numbering → ℕ
 next_number s = free_number s.taken (behind s.first s.made)
 
+-- a number is put into a list of different ones
+abbrev pub with_number : ℕ → List ℕ → List ℕ
+with_number n ns = if is_in ns n then ns else (ns ++ n ∷ [])
+
 -- a number of the source is taken
 abbrev pub taking : Numbering → ℕ → Numbering
-taking s n = record { first = s.first; taken = if is_in s.taken n then s.taken else (s.taken ++ n ∷ []); made = s.made }
+taking s n = record { first = s.first; taken = with_number n s.taken; made = s.made }
 
 -- the next number is made
 abbrev pub making : Numbering → Numbering

@@ -2,9 +2,11 @@
 #![tactic(auto)]
 
 mod names;
+mod number_set;
 mod numbers;
 
 pub use names::Names;
+use number_set::NumberSet;
 use numbers::Numbers;
 
 #[cfg(test)]

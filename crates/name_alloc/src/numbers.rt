@@ -2,6 +2,7 @@
 ghost use Rattle.std.specs.Prelude.{◌≡◌, ◌+◌, ◌^◌, ◌<◌, ◌≤◌, length, min, false, OnOk, OnErr, IfOk};
 ghost use Rattle.name_alloc.specs.Numbers.{is_in, above, free_number, next_number, starting, taking, making};
 
+use crate::NumberSet;
 use std::alloc::{AllocError, Global};
 use std::marker::Model;
 
@@ -9,7 +10,7 @@ use std::marker::Model;
 #[derive(Debug, Drop)]
 pub struct Numbers {
     first: u32,
-    taken: Vec<u32>,
+    taken: NumberSet,
     made: Vec<u32>,
     next: u32,
 }
@@ -20,9 +21,9 @@ impl Model for Numbers {
 
     ghost Value = { Numbering };
 
-    ghost view = { λ s. record { first = s.first; taken = s.taken.items; made = s.made.items } };
+    ghost view = { λ s. record { first = s.first; taken = s.taken; made = s.made.items } };
 
-    ghost invariant = { λ s. (s.next ≡ behind s.first s.made.items) × (s.next + above s.next s.taken.items ≤ s.first + length s.made.items + length s.taken.items) × ((n : ℕ) → s.next ≤ n → is_in s.made.items n ≡ false) };
+    ghost invariant = { λ s. (s.next ≡ behind s.first s.made.items) × (s.next + above s.next s.taken ≤ s.first + length s.made.items + length s.taken) × ((n : ℕ) → s.next ≤ n → is_in s.made.items n ≡ false) };
 }
 
 impl Numbers {
@@ -32,7 +33,7 @@ impl Numbers {
     {
         Numbers {
             first,
-            taken: Vec::new(alloc),
+            taken: NumberSet::new(alloc),
             made: Vec::new(alloc),
             next: first,
         }
@@ -63,10 +64,7 @@ impl Numbers {
         ensures taken { OnOk result (self.new ≡ taking self.old number) }
         ensures kept { OnErr result (self.new ≡ self.old) }
     {
-        if !self.taken.contains(&number) {
-            self.taken.push(number)?;
-        }
-        Ok(())
+        self.taken.insert(number)
     }
 
     /// The next number that is not taken.
@@ -95,13 +93,13 @@ fn count(length: usize) -> u32
 }
 
 // The least number from `first` on that is not taken.
-fn next_free(taken: &[u32], first: u32) -> u32
+fn next_free(taken: &NumberSet, first: u32) -> u32
     requires { first + above first taken.now < 4294967295 }
     ensures { result ≡ free_number taken.now first }
 {
     let mut number = first;
     for _ in 0..taken.len() {
-        if !taken.contains(&number) {
+        if !taken.contains(number) {
             return number;
         }
         number += 1;

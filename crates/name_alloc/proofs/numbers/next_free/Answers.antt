@@ -1,12 +1,12 @@
-use Rattle.std.proofs.Common.{◌≡◌, sym, ◌∙◌, arith, length, ◌-◌, ◌+◌, suc}
+use Rattle.std.proofs.Common.{◌≡◌, sym, ◌∙◌, arith, ◌-◌, ◌+◌, suc}
 use Rattle.name_alloc.proofs.Free.{free_next, above-taken}
 use Rattle.name_alloc.proofs.numbers.next_free.Goals as goal
 
 pub loop-preserved : goal.loop-preserved
 loop-preserved c =
-    let e : length c.args.taken.now - c.loop.counter ≡ suc (length c.args.taken.now - (c.loop.counter + 1)) = omega arith in
-    let passed = sym c.contains.ensures.value ∙ c.if-not-contains.false in
+    let e : c.len-end.result - c.loop.counter ≡ suc (c.len-end.result - (c.loop.counter + 1)) = omega arith in
+    let passed = sym c.contains.ensures ∙ c.if-not-contains.false in
     record {
-      same = sym (free_next (length c.args.taken.now - c.loop.counter) (length c.args.taken.now - (c.loop.counter + 1)) c.args.taken.now c.loop.number e passed) ∙ c.loop.invariant.same;
+      same = sym (free_next (c.len-end.result - c.loop.counter) (c.len-end.result - (c.loop.counter + 1)) c.args.taken.now c.loop.number e passed) ∙ c.loop.invariant.same;
       low = omega (arith, above-taken c.loop.number c.args.taken.now passed);
     }
