@@ -15,3 +15,5 @@ pub mod Execution
 pub mod Uses
 pub mod Agreement
 pub mod Laws
+pub mod OneUnit
+pub mod Built
