@@ -1,0 +1,5 @@
+pub mod BuiltLemmas
+pub mod PartLemmas
+pub mod StatementLemmas
+pub mod SurveyLemmas
+pub mod LoopLemmas

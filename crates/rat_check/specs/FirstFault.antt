@@ -1,0 +1,75 @@
+-- The first fault of the checks of a Ratfor program: unit by unit; in a unit first what is not built yet, then the first
+-- part in reading order that breaks a rule, and of its rules that with the smallest number.
+use Rattle.std.specs.Prelude.{ℕ, Bool, true, false, List, [], ◌∷◌, Option, Some, None, Result, Ok, Err, ◌≡◌, ⊤, if◌then◌else◌}
+use Rattle.ground.specs.declared.place.Place.{Place}
+use Rattle.ground.specs.declared.fault.Fault.{Fault}
+use Rattle.ground.specs.declared.fault.FaultKind.{FaultKind}
+use Rattle.ground.specs.declared.fault.FaultKind.TheVariants.{Unbuilt}
+use Rattle.ground.specs.declared.fault.Refusal.{Refusal}
+use Rattle.ground.specs.declared.fault.Refusal.TheVariants.{Fault as Faulty, Memory}
+use Rattle.f66_tree.specs.Forms.{Act, Formats}
+use Rattle.f66_tree.specs.Units.{is_main}
+use Rattle.rat_tree.specs.Commands.{RatRoutine, RatProgram}
+use Rattle.rat_check.specs.Parts.{Form, Says, Labels, no_label, with_label, Part, unit_parts}
+use Rattle.rat_check.specs.Rules.{is_built_form, broken_rule}
+
+abbrev pub fault_at : Place → FaultKind → Fault
+fault_at p kind = record { kind = kind; place = p; number = 0 }
+
+abbrev pub or_else : {A : Type 0} → Option A → Option A → Option A
+or_else None o = o
+or_else (Some a) o = Some a
+
+-- the first part that isn't built
+abbrev pub first_unbuilt : List Part → Option Place
+first_unbuilt [] = None
+first_unbuilt (v ∷ vs) = if is_built_form v.form then first_unbuilt vs else Some v.place
+
+-- the label of a format
+abbrev pub format_label : Option ℕ → Form → Option ℕ
+format_label None form = None
+format_label (Some l) (Says (Formats f)) = Some l
+format_label (Some l) _ = None
+
+-- these labels, and those of the formats
+abbrev pub with_formats : List Part → Labels → Labels
+with_formats [] ls = ls
+with_formats (v ∷ vs) ls = with_formats vs (with_label (format_label v.label v.form) ls)
+
+abbrev pub fault_if : Place → Option FaultKind → Option Fault
+fault_if p None = None
+fault_if p (Some kind) = Some (fault_at p kind)
+
+-- these labels, and those of the parts
+abbrev pub with_own : List Part → Labels → Labels
+with_own [] ls = ls
+with_own (v ∷ vs) ls = with_own vs (with_label v.label ls)
+
+-- the first part that breaks a rule; `before` are the labels of the parts before
+abbrev pub first_broken : Labels → Labels → List Part → Option Fault
+first_broken formats before [] = None
+first_broken formats before (v ∷ vs) = or_else (fault_if v.place (broken_rule formats before v)) (first_broken formats (with_label v.label before) vs)
+
+abbrev pub unbuilt_at : Option Place → Option Fault
+unbuilt_at None = None
+unbuilt_at (Some p) = Some (fault_at p Unbuilt)
+
+abbrev pub fault_of_parts : List Part → Option Fault
+fault_of_parts vs = or_else (unbuilt_at (first_unbuilt vs)) (first_broken (with_formats vs no_label) no_label vs)
+
+-- a unit with a header isn't built
+abbrev pub unit_fault : RatRoutine → Option Fault
+unit_fault u = if is_main u.header then fault_of_parts (unit_parts u.body) else Some (fault_at u.place Unbuilt)
+
+abbrev pub first_fault_of : List RatRoutine → Option Fault
+first_fault_of [] = None
+first_fault_of (u ∷ us) = or_else (unit_fault u) (first_fault_of us)
+
+abbrev pub first_fault : RatProgram → Option Fault
+first_fault program = first_fault_of program.routines
+
+-- an answer tells the fault, or that there is none; want of memory tells nothing
+abbrev pub Tells : {A : Type 0} → Result A Refusal → Option Fault → Type 0
+Tells (Ok _) o = o ≡ None
+Tells (Err (Faulty f)) o = o ≡ Some f
+Tells (Err Memory) o = ⊤

@@ -1,0 +1,89 @@
+-- The parts of a Ratfor unit in reading order, each with what its rules ask of the statements around it. The words of a
+-- control statement with what stands in its parentheses are one part; the condition of `until` and each clause of a switch
+-- are parts of their own, at their own places (Kernighan, Ratfor: A Preprocessor for a Rational Fortran, 1975).
+use Rattle.std.specs.Prelude.{ℕ, suc, nat_eq, Bool, true, false, ◌&&◌, ◌||◌, List, [], ◌∷◌, ◌++◌, Option, Some, None, if◌then◌else◌}
+use Rattle.ground.specs.declared.place.Place.{Place}
+use Rattle.f66_tree.specs.Forms.{Text, Formula, Formulas, Par, Act}
+use Rattle.f66_tree.specs.Units.{is_note}
+use Rattle.rat_tree.specs.Commands.{Command, Empty, Together, When, Either, Whilst, Through, Repeats, Until, Counts, Switches, Leaves, Turns, GivesBack, Plainly, Marked, Commands, NoCommand, AndCommand, Clauses, NoClause, AndClause}
+
+-- what a part says
+pub data Form : Type 0 where
+  -- a word or sign alone: an empty statement, a brace, `repeat`
+  Rests : Form
+  Says : Act → Form
+  Asks : Formula → Form
+  -- the value of a switch; the case expressions of a clause, and whether it is a second default
+  Takes : Formula → Form
+  Compares : Formulas → Bool → Form
+  -- the three parts of a `for`; the variable and the parameters of a `do`
+  Prepares : Option Act → Option Formula → Option Act → Form
+  Counting : Text → Par → Par → Par → Form
+  -- `break` and `next`, by how many loops
+  Leaving : ℕ → Form
+  Returning : Form
+
+-- a set of labels
+abbrev pub Labels : Type 0
+Labels = ℕ → Bool
+
+abbrev pub no_label : Labels
+no_label m = false
+
+abbrev pub with_label : Option ℕ → Labels → Labels
+with_label None ls m = ls m
+with_label (Some l) ls m = nat_eq m l || ls m
+
+-- a part: its label, its place, how many loops are around it, and the labels that stand directly in the lists around it
+pub record Part : Type 0 where
+  pub label : Option ℕ
+  pub place : Place
+  pub form : Form
+  pub loops : ℕ
+  pub reach : Labels
+
+abbrev pub part : ℕ → Labels → Option ℕ → Place → Form → Part
+part k r l p form = record { label = l; place = p; form = form; loops = k; reach = r }
+
+-- the label of a statement that a jump may go to: a statement that isn't executed is no target
+abbrev pub target_of : Command → Option ℕ
+target_of (Plainly l p a) = if is_note a then None else l
+target_of (Marked l p c) = Some l
+target_of _ = None
+
+-- the labels that stand directly in a list, and those around it
+abbrev pub with_labels : Commands → Labels → Labels
+with_labels NoCommand r = r
+with_labels (AndCommand c ss) r = with_labels ss (with_label (target_of c) r)
+
+abbrev mutual
+  pub parts_of : ℕ → Labels → Option ℕ → Command → List Part
+  parts_of k r l (Empty p) = part k r l p Rests ∷ []
+  parts_of k r l (Together p ss) = part k r l p Rests ∷ parts_in k (with_labels ss r) ss
+  parts_of k r l (When p e c) = part k r l p (Asks e) ∷ parts_of k r None c
+  parts_of k r l (Either p e c d) = part k r l p (Asks e) ∷ (parts_of k r None c ++ parts_of k r None d)
+  parts_of k r l (Whilst p e c) = part k r l p (Asks e) ∷ parts_of (suc k) r None c
+  parts_of k r l (Through p a e b c) = part k r l p (Prepares a e b) ∷ parts_of (suc k) r None c
+  parts_of k r l (Repeats p c) = part k r l p Rests ∷ parts_of (suc k) r None c
+  parts_of k r l (Until p c e q) = part k r l p Rests ∷ (parts_of (suc k) r None c ++ part k r None q (Asks e) ∷ [])
+  parts_of k r l (Counts p x a b d c) = part k r l p (Counting x a b d) ∷ parts_of (suc k) r None c
+  parts_of k r l (Switches p e cs) = part k r l p (Takes e) ∷ clause_parts k r false cs
+  parts_of k r l (Leaves p n) = part k r l p (Leaving n) ∷ []
+  parts_of k r l (Turns p n) = part k r l p (Leaving n) ∷ []
+  parts_of k r l (GivesBack p e) = part k r l p Returning ∷ []
+  parts_of k r l (Plainly m p a) = part k r m p (Says a) ∷ []
+  parts_of k r l (Marked m p c) = parts_of k r (Some m) c
+
+  pub parts_in : ℕ → Labels → Commands → List Part
+  parts_in k r NoCommand = []
+  parts_in k r (AndCommand c ss) = parts_of k r None c ++ parts_in k r ss
+
+  -- the clauses of a switch, and whether a default stands before them
+  pub clause_parts : ℕ → Labels → Bool → Clauses → List Part
+  clause_parts k r seen NoClause = []
+  clause_parts k r seen (AndClause es fallback ss p cs) =
+      part k r None p (Compares es (seen && fallback)) ∷ (parts_in k (with_labels ss r) ss ++ clause_parts k r (seen || fallback) cs)
+
+-- the parts of a unit's body
+abbrev pub unit_parts : Commands → List Part
+unit_parts ss = parts_in 0 (with_labels ss no_label) ss

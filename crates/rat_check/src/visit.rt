@@ -1,0 +1,140 @@
+// The walk over a unit in reading order.
+ghost use Rattle.std.specs.Prelude.{◌≡◌, suc, OnOk, None, false};
+ghost use Rattle.rat_tree.specs.Views.{command, commands, clauses};
+ghost use Rattle.rat_check.specs.Parts.{parts_of, parts_in, clause_parts, with_labels};
+ghost use Rattle.rat_check.specs.FormViews.{depth_of, other_parts, until_parts, case_parts};
+ghost use Rattle.rat_check.specs.Survey.{is_among, noting_all};
+
+use crate::{Around, Form, Survey};
+use f66_tree::Expr;
+use ground::Place;
+use rat_tree::{RatCase, RatKind, RatStmt};
+use std::alloc::AllocError;
+
+/// A statement with all that it holds.
+#[cycle(visit)]
+#[tactic(auto, using(crate::proofs::PartLemmas::part_steps))]
+fn visit(statement: &RatStmt, around: &Around, survey: &mut Survey) -> Result<(), AllocError>
+    ensures { OnOk result (survey.new ≡ noting_all (parts_of (depth_of around.now) (is_among survey.old.reach) None (command statement.now)) survey.old) }
+{
+    let label = statement.label;
+    let place = statement.place;
+    let inside = Around::Inside(&*around);
+    match &statement.kind {
+        RatKind::Empty => survey.note(&*around, label, place, Form::Rests),
+        RatKind::Block(list) => {
+            survey.note(&*around, label, place, Form::Rests)?;
+            visit_list(list, &*around, survey)
+        }
+        RatKind::If(test, body, other) => {
+            survey.note(&*around, label, place, Form::Asks(test))?;
+            visit(body, &*around, survey)?;
+            visit_other(other, &*around, survey)
+        }
+        RatKind::While(test, body) => {
+            survey.note(&*around, label, place, Form::Asks(test))?;
+            visit(body, &inside, survey)
+        }
+        RatKind::For(first, test, step, body) => {
+            survey.note(&*around, label, place, Form::Prepares(first, test, step))?;
+            visit(body, &inside, survey)
+        }
+        RatKind::Repeat(body, until) => {
+            survey.note(&*around, label, place, Form::Rests)?;
+            visit(body, &inside, survey)?;
+            note_until(until, &*around, survey)
+        }
+        RatKind::Do(name, first, last, step, body) => {
+            survey.note(&*around, label, place, Form::Counting(name, first, last, step))?;
+            visit(body, &inside, survey)
+        }
+        RatKind::Switch(value, list) => {
+            survey.note(&*around, label, place, Form::Takes(value))?;
+            visit_clauses(list, &*around, survey)
+        }
+        RatKind::Break(count) => survey.note(&*around, label, place, Form::Leaving(*count)),
+        RatKind::Next(count) => survey.note(&*around, label, place, Form::Leaving(*count)),
+        RatKind::Return(_) => survey.note(&*around, label, place, Form::Returning),
+        RatKind::Plain(kind) => survey.note(&*around, label, place, Form::Says(kind)),
+    }
+}
+
+// The statement behind `else`.
+#[cycle(visit)]
+fn visit_other(
+    other: &Option<Box<RatStmt>>,
+    around: &Around,
+    survey: &mut Survey,
+) -> Result<(), AllocError>
+    ensures { OnOk result (survey.new ≡ noting_all (other_parts (depth_of around.now) (is_among survey.old.reach) other.now) survey.old) }
+{
+    match other {
+        None => Ok(()),
+        Some(other) => visit(other, &*around, survey),
+    }
+}
+
+// The condition of `until`.
+fn note_until(
+    until: &Option<(Expr, Place)>,
+    around: &Around,
+    survey: &mut Survey,
+) -> Result<(), AllocError>
+    ensures { OnOk result (survey.new ≡ noting_all (until_parts (depth_of around.now) (is_among survey.old.reach) until.now) survey.old) }
+{
+    match until {
+        None => Ok(()),
+        Some((test, place)) => survey.note(around, None, *place, Form::Asks(test)),
+    }
+}
+
+/// The statements of a list, whose labels they can reach.
+#[cycle(visit)]
+pub fn visit_list(list: &[RatStmt], around: &Around, survey: &mut Survey) -> Result<(), AllocError>
+    ensures { OnOk result (survey.new ≡ noting_all (parts_in (depth_of around.now) (with_labels (commands list.now) (is_among survey.old.reach)) (commands list.now)) survey.old) }
+{
+    let outside = survey.enter(list)?;
+    visit_each(list, &*around, survey)?;
+    survey.leave(outside);
+    Ok(())
+}
+
+#[cycle(visit)]
+fn visit_each(list: &[RatStmt], around: &Around, survey: &mut Survey) -> Result<(), AllocError>
+    ensures { OnOk result (survey.new ≡ noting_all (parts_in (depth_of around.now) (is_among survey.old.reach) (commands list.now)) survey.old) }
+{
+    for statement in list {
+        visit(statement, &*around, survey)?;
+    }
+    Ok(())
+}
+
+#[cycle(visit)]
+fn visit_clauses(
+    list: &[RatCase],
+    around: &Around,
+    survey: &mut Survey,
+) -> Result<(), AllocError>
+    ensures { OnOk result (survey.new ≡ noting_all (clause_parts (depth_of around.now) (is_among survey.old.reach) false (clauses list.now)) survey.old) }
+{
+    let mut seen = false;
+    for clause in list {
+        visit_clause(clause, seen & clause.fallback, &*around, survey)?;
+        seen |= clause.fallback;
+    }
+    Ok(())
+}
+
+#[cycle(visit)]
+fn visit_clause(
+    clause: &RatCase,
+    second: bool,
+    around: &Around,
+    survey: &mut Survey,
+) -> Result<(), AllocError>
+    ensures { OnOk result (survey.new ≡ noting_all (case_parts (depth_of around.now) (is_among survey.old.reach) second clause.now) survey.old) }
+{
+    let form = Form::Compares(&clause.tests, second);
+    survey.note(&*around, None, clause.place, form)?;
+    visit_list(&clause.body, &*around, survey)
+}
