@@ -1,0 +1,12 @@
+mod Spots
+mod ValueLemmas
+mod StatementLemmas
+mod LoopLemmas
+mod WriteLemmas
+mod ShapeLemmas
+mod ComesLemmas
+mod ClosingLemmas
+mod StepLemmas
+mod RunLemmas
+mod WholeLemmas
+mod PlanLemmas

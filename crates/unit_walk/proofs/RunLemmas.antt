@@ -1,0 +1,200 @@
+-- A run, statement by statement.
+use Rattle.std.proofs.Common.{◌≡◌, ℕ, zero, suc, ◌+◌, ◌<◌, Bool, true, false, List, [], ◌∷◌, drop, length, get_or, set, get_or-set_same, get_or-set_other, length-drop, eq-eqb, ◌≢◌, nat_eq, Option, Result, Ok, Err, refl, sym, ◌∙◌, ap, subst, arith, if◌then◌else◌}
+use Rattle.std.proofs.lemmas.Bool.Decides.{nat_tests}
+use Rattle.std.proofs.lemmas.List.{drop_more}
+use Rattle.std.specs.Prelude.{⊤}
+use Rattle.ground.specs.declared.place.Place.{Place}
+use Rattle.ground.specs.declared.trap.Trap.{Trap}
+use Rattle.f66_tree.specs.declared.statement.Stmt.{Stmt}
+use Rattle.f66_tree.specs.Forms.{Text, Formula, Par, Act, Chooses, Loops, Line}
+use Rattle.f66_tree.specs.World.{World, Out, Halts, GoesOn, bind, settle, lifted, choose, take_from}
+use Rattle.f66_tree.specs.Units.{Setting, Note, is_note, notes_of}
+use Rattle.f66_tree.specs.Statements.{Next, Loop}
+use Rattle.f66_tree.specs.Execution.{Progress, Onward, stand, runnable, begun, leads, perform, fetch, exec, nowhere}
+use Rattle.f66_tree.specs.OneUnit.{one_unit}
+use Rattle.f66_tree.specs.Views.{act_of, line_of, lines_of}
+use Rattle.f66_tree.specs.Built.{is_plain, is_built, are_built, is_condition}
+use Rattle.unit_walk.specs.declared.statement.RunEnd.TheVariants as ends
+use Rattle.unit_walk.specs.declared.do_loop.Pass.{Pass}
+use Rattle.unit_walk.specs.declared.do_loop.Lead.{Lead}
+use Rattle.unit_walk.specs.declared.do_loop.Lead.TheVariants.{At, Over}
+use Rattle.unit_walk.specs.declared.run.Run.{Run}
+use Rattle.unit_walk.specs.Values.{Values, value_under, truth}
+use Rattle.unit_walk.specs.Walking.{HoldsValues, AreFormats, main_at, around_main}
+use Rattle.unit_walk.specs.Loops.{loop_of, Begins}
+use Rattle.unit_walk.specs.Running.{LoopsAre, Part, led_to, Leads}
+use Rattle.unit_walk.specs.Standing.{plainly, runs, performs, Stands, led, LeadsTo}
+use Rattle.unit_walk.proofs.ValueLemmas.{both_first, both_second, condition_is}
+use Rattle.unit_walk.proofs.StepLemmas.{drop_lines}
+
+-- the fuel of a run with so many statements left, and what is around its statements
+abbrev pub main_from : List Line → ℕ → Onward
+main_from code left = exec (one_unit (notes_of code)) (λ u. code) left (main_at nowhere)
+
+abbrev pub around_from : List Line → ℕ → Setting
+around_from code left = around_main (notes_of code) code left (exec (one_unit (notes_of code)) (λ u. code) left)
+
+-- a statement has begun
+abbrev pub started : ℕ → World → World
+started m w = record { state = w.state; left = m; count = w.count + 1 }
+
+module _ (code : List Line) where
+  tested : (w : World) (line : Line) (rest : List Line) (pr : Progress) (b : Bool) → is_note line.act ≡ b
+      → runs code w (line ∷ rest) pr ≡ fetch (around_from code w.left) (main_at nowhere) code (if b then runnable rest else (line ∷ rest)) (main_from code w.left) pr w
+  tested w line rest pr b is = ap (λ (t : Bool). fetch (around_from code w.left) (main_at nowhere) code (if t then runnable rest else (line ∷ rest)) (main_from code w.left) pr w) is
+
+  -- a statement that is not executed is passed over
+  pub passed_over : (w : World) (line : Line) (rest : List Line) (pr : Progress) → is_note line.act ≡ true → runs code w (line ∷ rest) pr ≡ runs code w rest pr
+  passed_over w line rest pr is = tested w line rest pr true is
+
+  begins_from : World → Line → List Line → Progress → ℕ → Out ⊤
+  begins_from w line rest pr left = bind (take_from w.state left w.count) (λ _ w1. perform (around_from code left) (main_at line.place) code line.label line.act rest (main_from code left) pr w1)
+
+  pub begins : (w : World) (line : Line) (rest : List Line) (pr : Progress) (m : ℕ) → is_note line.act ≡ false → w.left ≡ suc m → runs code w (line ∷ rest) pr ≡ performs code (started m w) line rest pr
+  unfolding begins_from
+  begins w line rest pr m executed is = tested w line rest pr false executed ∙ ap (begins_from w line rest pr) is
+
+  pub begins_not : (w : World) (line : Line) (rest : List Line) (pr : Progress) → is_note line.act ≡ false → w.left ≡ 0 → runs code w (line ∷ rest) pr ≡ Halts GoesOn (record { state = w.state; left = 0; count = w.count })
+  unfolding begins_from
+  begins_not w line rest pr executed is = tested w line rest pr false executed ∙ ap (begins_from w line rest pr) is
+
+  pub leads_as : (limit : ℕ) (o o1 : Out ⊤) (lead : Lead) (after : Run) → o ≡ o1 → LeadsTo code limit o1 lead after → LeadsTo code limit o lead after
+  leads_as limit o o1 lead after is to = record { after = to.after; progress = to.progress; is = is ∙ to.is; stands = to.stands }
+
+  module _ (limit : ℕ) (run : Run) (w : World) (pr : Progress) (stands : Stands code limit run w pr) where
+    -- what led somewhere with the same loops in progress
+    pub lifts : (part : Part) (lead : Lead) (after : Run) → Leads code run.passes.items part (led_to code lead) (value_under run.variables) run.records.items (value_under after.variables) after.records.items
+        → after.passes.items ≡ run.passes.items → after.begun ≡ run.begun → LeadsTo code limit (part (around_from code (suc w.left)) (main_from code (suc w.left)) pr w) lead after
+    lifts part lead after leads passes begun =
+        let comes = leads.is (suc w.left) (exec (one_unit (notes_of code)) (λ u. code) (suc w.left)) (main_from code (suc w.left)) pr stands.loops w stands.holds in
+        record {
+          after = comes.after;
+          progress = pr;
+          is = comes.is ∙ by_lead lead comes.after comes.same.left;
+          stands = record {
+            holds = comes.holds;
+            count = comes.same.count ∙ stands.count ∙ sym begun;
+            left = omega (arith, comes.same.left, begun, stands.left);
+            loops = subst (λ (ps : List Pass). LoopsAre code ps pr) (sym passes) stands.loops;
+          };
+        }
+      where
+        by_lead : (l : Lead) (w1 : World) → w1.left ≡ w.left → led_to code l (around_from code (suc w.left)) (main_from code (suc w.left)) pr w1 ≡ led code l pr w1
+        by_lead (At j) w1 is = ap (λ (n : ℕ). main_from code (suc n) (stand (drop j code) pr) w1) (sym is)
+        by_lead (Over e) w1 is = refl
+
+    -- here
+    pub leads_here : (o : Out ⊤) (lead : Lead) → o ≡ led code lead pr w → LeadsTo code limit o lead run
+    leads_here o lead is = record { after = w; progress = pr; is = is; stands = stands }
+
+    pub stands_started : (m : ℕ) (after : Run) → w.left ≡ suc m → after.variables ≡ run.variables → after.records.items ≡ run.records.items → after.passes.items ≡ run.passes.items → after.begun ≡ run.begun + 1 → Stands code limit after (started m w) pr
+    stands_started m after left variables records passes begun = record {
+      holds = rw (variables, records) (record { store = record { under = stands.holds.store.under }; written = stands.holds.written });
+      count = omega (arith, stands.count, begun);
+      left = omega (arith, left, begun, stands.left);
+      loops = subst (λ (ps : List Pass). LoopsAre code ps pr) (sym passes) stands.loops;
+    }
+
+-- a plain statement goes as it does, and then where it leads
+pub performs_plain : (notes : List Note) (s : Setting) (p : Place) (code : List Line) (label : Option ℕ) (index : ℕ) (a : Act) (go : Onward) (pr : Progress) (w : World) → is_plain notes a ≡ true
+    → perform s (main_at p) code label a (drop (index + 1) code) go pr w ≡ plainly code label index p a s go pr w
+performs_plain notes s p code label index (Chooses e a) go pr w is = cc is
+performs_plain notes s p code label index (Loops l x a b c) go pr w is = cc is
+performs_plain notes s p code label index _ go pr w is = refl
+
+-- ---- logical IF ----
+
+pub conditioned : (code : List Line) → AreFormats (notes_of code) → (w : World) (values : Values) → HoldsValues values w.state.store → (label : Option ℕ) (p : Place) (e : Formula) (a : Act) (rest : List Line) (pr : Progress) (r : Result Bool Trap)
+    → is_condition e ≡ true → r ≡ truth values e
+    → performs code w (record { label = label; place = p; act = Chooses e a }) rest pr
+    ≡ bind (settle p (lifted r) w) (λ holds w1. choose holds (main_from code (suc w.left) (stand (record { label = label; place = p; act = a } ∷ rest) pr) w1) (leads (around_from code (suc w.left)) (main_at p) code label rest (main_from code (suc w.left)) pr Next w1))
+conditioned code are w values holds label p e a rest pr r built is =
+    ap (λ (o : Out Bool). bind o (λ holds w1. choose holds (main_from code (suc w.left) (stand (record { label = label; place = p; act = a } ∷ rest) pr) w1) (leads (around_from code (suc w.left)) (main_at p) code label rest (main_from code (suc w.left)) pr Next w1)))
+    (condition_is (notes_of code) are code (suc w.left) (exec (one_unit (notes_of code)) (λ u. code) (suc w.left)) values p w holds e built ∙ ap (λ (t : Result Bool Trap). settle p (lifted t) w) (sym is))
+
+-- ---- DO ----
+
+-- the progress of a DO that has begun
+pub loops_set : (code : List Line) (passes : List Pass) (pr : Progress) (index : ℕ) (k : Pass) → index < length code → length code ≡ length passes → LoopsAre code passes pr → LoopsAre code (set passes index k) (begun (length (drop (index + 1) code)) (loop_of k) pr)
+loops_set code passes pr index k within size loops i q lt here = by_test (nat_eq (length (drop (i + 1) code)) (length (drop (index + 1) code))) refl
+  where
+    by_test : (b : Bool) → nat_eq (length (drop (i + 1) code)) (length (drop (index + 1) code)) ≡ b → (if b then loop_of k else pr (length (drop (i + 1) code))) ≡ loop_of q
+    by_test true is =
+        let same : i ≡ index = grind (arith, nat_tests, length-drop) in
+        let found : get_or (set passes index k) index q ≡ k = get_or-set_same passes index k q (omega (arith, within, size)) in
+        ap loop_of (sym (here ∙ ap (λ (j : ℕ). get_or (set passes index k) j q) same ∙ found))
+    by_test false is =
+        let apart : i ≢ index = λ same. cc (ap (λ (j : ℕ). nat_eq (length (drop (j + 1) code)) (length (drop (index + 1) code))) same, is, eq-eqb (length (drop (index + 1) code)) (length (drop (index + 1) code)) refl) in
+        loops i q lt (here ∙ get_or-set_other passes index i k q apart)
+
+module _ (code : List Line) (limit : ℕ) (run : Run) (w : World) (pr : Progress) (stands : Stands code limit run w pr) (are : AreFormats (notes_of code)) (label : Option ℕ) (p : Place) (l : ℕ) (x : Text) (a b c : Par) (index : ℕ) where
+  abbrev loop_line : Line
+  loop_line = record { label = label; place = p; act = Loops l x a b c }
+
+  pub loop_on : (k : Pass) (after : Run) → index < length code → length code ≡ length run.passes.items → Begins x a b c (value_under run.variables) (Ok k) (value_under after.variables) → after.records.items ≡ run.records.items → after.passes.items ≡ set run.passes.items index k → after.begun ≡ run.begun
+      → LeadsTo code limit (performs code w loop_line (drop (index + 1) code) pr) (At (index + 1)) after
+  loop_on k after within size begins records passes count =
+      let s : Setting = around_from code (suc w.left) in
+      let comes = begins.is code are (suc w.left) (exec (one_unit (notes_of code)) (λ u. code) (suc w.left)) p run.records.items w stands.holds in
+      let next : Progress = begun (length (drop (index + 1) code)) (loop_of k) pr in
+      record {
+        after = comes.after;
+        progress = next;
+        is =
+            ap (λ (o : Out Loop). bind o (λ q w1. main_from code (suc w.left) (stand (drop (index + 1) code) (begun (length (drop (index + 1) code)) q pr)) w1)) comes.is
+            ∙ ap (λ (n : ℕ). main_from code (suc n) (stand (drop (index + 1) code) next) comes.after) (sym comes.same.left);
+        stands = record {
+          holds = rw records comes.holds;
+          count = comes.same.count ∙ stands.count ∙ sym count;
+          left = omega (arith, comes.same.left, count, stands.left);
+          loops = rw passes (loops_set code run.passes.items pr index k within size stands.loops);
+        };
+      }
+
+  pub loop_out : (t : Trap) (after : Run) → Begins x a b c (value_under run.variables) (Err t) (value_under after.variables) → after.records.items ≡ run.records.items → after.passes.items ≡ run.passes.items → after.begun ≡ run.begun
+      → LeadsTo code limit (performs code w loop_line (drop (index + 1) code) pr) (Over (ends.Trapped t p)) after
+  loop_out t after begins records passes count =
+      let comes = begins.is code are (suc w.left) (exec (one_unit (notes_of code)) (λ u. code) (suc w.left)) p run.records.items w stands.holds in
+      record {
+        after = comes.after;
+        progress = pr;
+        is = ap (λ (o : Out Loop). bind o (λ q w1. main_from code (suc w.left) (stand (drop (index + 1) code) (begun (length (drop (index + 1) code)) q pr)) w1)) comes.is;
+        stands = record {
+          holds = rw records comes.holds;
+          count = comes.same.count ∙ stands.count ∙ sym count;
+          left = omega (arith, comes.same.left, count, stands.left);
+          loops = subst (λ (ps : List Pass). LoopsAre code ps pr) (sym passes) stands.loops;
+        };
+      }
+
+-- ---- lines of the code ----
+
+pub as_many : (all : List Stmt) → length (lines_of all) ≡ length all
+as_many [] = refl
+as_many (s ∷ all) = ap suc (as_many all)
+
+pub some_line : (all : List Stmt) (i : ℕ) → i < length all → (s : Stmt) × (s ≡ get_or all i s)
+some_line [] i within = absurd (omega arith)
+some_line (s ∷ all) zero within = (s, refl)
+some_line (s ∷ all) (suc i) within = some_line all i (omega (arith, within))
+
+pub line_at : (all : List Stmt) (i : ℕ) (s : Stmt) → i < length all → s ≡ get_or all i s → drop i (lines_of all) ≡ line_of s ∷ drop (i + 1) (lines_of all)
+line_at all i s within is =
+    drop_lines all i
+    ∙ ap (λ (l : List Stmt). lines_of l) (drop_more all i s within)
+    ∙ ap (λ (x : Stmt). line_of x ∷ lines_of (drop (i + 1) all)) (sym is)
+    ∙ ap (λ (l : List Line). line_of s ∷ l) (sym (drop_lines all (i + 1)))
+
+pub built_at : (notes : List Note) (all : List Stmt) (i : ℕ) (s : Stmt) → are_built notes (lines_of all) ≡ true → i < length all → s ≡ get_or all i s → is_built notes (act_of s.kind) ≡ true
+built_at notes [] i s built within is = absurd (omega (arith, within))
+built_at notes (x ∷ all) zero s built within is = ap (λ (y : Stmt). is_built notes (act_of y.kind)) is ∙ both_first (is_built notes (act_of x.kind)) (are_built notes (lines_of all)) built
+built_at notes (x ∷ all) (suc i) s built within is = built_at notes all i s (both_second (is_built notes (act_of x.kind)) (are_built notes (lines_of all)) built) (omega (arith, within)) is
+
+-- no further statement may begin
+pub stops_at_limit : (code : List Line) (limit : ℕ) (run : Run) (w : World) (pr : Progress) → Stands code limit run w pr → (line : Line) (rest : List Line) → is_note line.act ≡ false → run.begun ≡ limit → LeadsTo code limit (runs code w (line ∷ rest) pr) (Over ends.GoesOn) run
+stops_at_limit code limit run w pr stands line rest executed full = record {
+  after = record { state = w.state; left = 0; count = w.count };
+  progress = pr;
+  is = begins_not code w line rest pr executed (omega (arith, stands.left, full));
+  stands = record { holds = record { store = record { under = stands.holds.store.under }; written = stands.holds.written }; count = stands.count; left = omega (arith, full); loops = stands.loops };
+}

@@ -1,0 +1,98 @@
+-- A whole run: how it starts, goes on, and ends.
+use Rattle.std.proofs.Common.{◌≡◌, ℕ, Bool, true, false, List, [], ◌∷◌, drop, refl, sym, ◌∙◌, ap, arith, if◌then◌else◌}
+use Rattle.std.specs.Prelude.{⊤}
+use Rattle.f66_tree.specs.Forms.{Act, Formats, Types, Dimensions, Commons, Equivalences, Presets, Line}
+use Rattle.f66_tree.specs.World.{Record, World, Out, Shown, shown}
+use Rattle.f66_tree.specs.Units.{Note, is_note, notes_of}
+use Rattle.f66_tree.specs.Execution.{Progress, runnable, fetch, nowhere, start, no_loops}
+use Rattle.f66_tree.specs.OneUnit.{one_unit, executed}
+use Rattle.f66_tree.specs.Built.{is_built, are_built}
+use Rattle.unit_walk.specs.declared.statement.RunEnd.{RunEnd}
+use Rattle.unit_walk.specs.declared.statement.RunEnd.TheVariants as ends
+use Rattle.unit_walk.specs.declared.do_loop.Lead.{Lead}
+use Rattle.unit_walk.specs.declared.do_loop.Lead.TheVariants.{At, Over}
+use Rattle.unit_walk.specs.declared.run.Run.{Run}
+use Rattle.unit_walk.specs.Walking.{content_of, IsFormat, AreFormats, main_at}
+use Rattle.unit_walk.specs.Leaving.{end_of}
+use Rattle.unit_walk.specs.Standing.{runs, Stands, LeadsTo, whole_run}
+use Rattle.unit_walk.specs.Shows.{IsFirst}
+use Rattle.unit_walk.proofs.ValueLemmas.{both_first, both_second}
+use Rattle.unit_walk.proofs.RunLemmas.{main_from, around_from}
+
+-- ---- units of built statements ----
+
+is_format : (notes : List Note) (a : Act) → is_note a ≡ true → is_built notes a ≡ true → IsFormat a
+is_format notes (Formats f) note built = record { fields = f; is = refl }
+is_format notes (Types t ds) note built = cc built
+is_format notes (Dimensions ds) note built = cc built
+is_format notes (Commons ds) note built = cc built
+is_format notes (Equivalences ds) note built = cc built
+is_format notes (Presets ds) note built = cc built
+is_format notes _ note built = cc note
+
+pub formats_alone : (notes : List Note) (lines : List Line) → are_built notes lines ≡ true → AreFormats (notes_of lines)
+formats_alone notes [] built = tt
+formats_alone notes (s ∷ rest) built = by_test (is_note s.act) refl (formats_alone notes rest (both_second (is_built notes s.act) (are_built notes rest) built))
+  where
+    by_test : (b : Bool) → is_note s.act ≡ b → AreFormats (notes_of rest) → AreFormats (if b then (record { label = s.label; act = s.act } ∷ notes_of rest) else notes_of rest)
+    by_test true is others = (is_format notes s.act is (both_first (is_built notes s.act) (are_built notes rest) built), others)
+    by_test false is others = others
+
+-- ---- the next line ----
+
+runnable_twice : (lines : List Line) → runnable (runnable lines) ≡ runnable lines
+runnable_twice [] = refl
+runnable_twice (s ∷ rest) = by_test (is_note s.act) refl (runnable_twice rest)
+  where
+    by_test : (b : Bool) → is_note s.act ≡ b → runnable (runnable rest) ≡ runnable rest → runnable (if b then runnable rest else (s ∷ rest)) ≡ (if b then runnable rest else (s ∷ rest))
+    by_test true is behind = behind
+    by_test false is behind = ap (λ (t : Bool). if t then runnable rest else (s ∷ rest)) is
+
+module _ (code : List Line) (limit : ℕ) where
+  fetched : World → Progress → List Line → Out ⊤
+  fetched w pr lines = fetch (around_from code w.left) (main_at nowhere) code lines (main_from code w.left) pr w
+
+  runs_from : (w : World) (pr : Progress) (rest next : List Line) → runnable rest ≡ next → runs code w rest pr ≡ runs code w next pr
+  unfolding fetched
+  runs_from w pr rest next is = ap (fetched w pr) (sym (runnable_twice rest) ∙ ap runnable is)
+
+  -- a run goes on from the next line that is executed
+  pub goes_on : (o : Out ⊤) (at : ℕ) (run : Run) (rest next : List Line) (lead : Lead) (after : Run) → drop at code ≡ rest → runnable rest ≡ next → LeadsTo code limit o (At at) run
+      → ((w : World) (pr : Progress) → Stands code limit run w pr → LeadsTo code limit (runs code w next pr) lead after) → LeadsTo code limit o lead after
+  goes_on o at run rest next lead after here is so_far step =
+      let to = step so_far.after so_far.progress so_far.stands in
+      record {
+        after = to.after;
+        progress = to.progress;
+        is = so_far.is ∙ ap (λ (l : List Line). runs code so_far.after l so_far.progress) here ∙ runs_from so_far.after so_far.progress rest next is ∙ to.is;
+        stands = to.stands;
+      }
+
+  -- past the last line
+  pub ends_there : (o : Out ⊤) (at : ℕ) (run : Run) (rest : List Line) → drop at code ≡ rest → runnable rest ≡ [] → LeadsTo code limit o (At at) run → LeadsTo code limit o (Over ends.Done) run
+  unfolding fetched
+  ends_there o at run rest here is so_far = record {
+    after = so_far.after;
+    progress = so_far.progress;
+    is = so_far.is ∙ ap (λ (l : List Line). runs code so_far.after l so_far.progress) here ∙ ap (fetched so_far.after so_far.progress) is;
+    stands = so_far.stands;
+  }
+
+  pub starts_there : (input : List Record) (run : Run) → IsFirst code run → LeadsTo code limit (whole_run code input limit) (At 0) run
+  starts_there input run first = record {
+    after = record { state = start (one_unit (notes_of code)) input; left = limit; count = 0 };
+    progress = no_loops;
+    is = refl;
+    stands = record {
+      holds = record { store = record { under = λ name. sym (ap content_of (first.values name)) }; written = sym first.records };
+      count = sym first.begun;
+      left = omega (arith, first.begun);
+      loops = first.loops;
+    };
+  }
+
+  pub shows : (input : List Record) (e : RunEnd) (run : Run) → LeadsTo code limit (whole_run code input limit) (Over e) run → (let s : Shown = record { records = run.records.items; end = end_of e; work = run.begun } in s) ≡ executed code input limit
+  shows input e run to =
+      let told : Shown = record { records = run.records.items; end = end_of e; work = run.begun } in
+      let there : shown (whole_run code input limit) ≡ record { records = to.after.state.tape.written; end = end_of e; work = to.after.count } = ap shown to.is in
+      sym (there ∙ ap (λ (rs : List Record). let s : Shown = record { records = rs; end = end_of e; work = to.after.count } in s) to.stands.holds.written ∙ ap (λ (n : ℕ). let s : Shown = record { records = run.records.items; end = end_of e; work = n } in s) to.stands.count)

@@ -1,0 +1,110 @@
+use Rattle.std.proofs.Common.{rules, ◌≡◌, ℕ, suc, ◌+◌, ◌<◌, ◌∷◌, List, drop, true, false, Result, Ok, Err, ◌∙◌, ap, sym, refl, subst}
+use Rattle.ground.specs.declared.trap.Trap.{Trap}
+use Rattle.f66_tree.specs.declared.statement.StmtKind.{StmtKind}
+use Rattle.f66_tree.specs.Forms.{Formula, Act, Chooses, Loops, Line}
+use Rattle.f66_tree.specs.World.{World}
+use Rattle.f66_tree.specs.Units.{notes_of}
+use Rattle.f66_tree.specs.Statements.{Next}
+use Rattle.f66_tree.specs.Execution.{Progress}
+use Rattle.f66_tree.specs.Views.{formula_of, par_of, act_of, line_of, lines_of}
+use Rattle.f66_tree.specs.Built.{is_condition, is_plain}
+use Rattle.unit_walk.specs.declared.statement.RunEnd.TheVariants.{Trapped}
+use Rattle.unit_walk.specs.declared.do_loop.Pass.{Pass}
+use Rattle.unit_walk.specs.declared.do_loop.Lead.TheVariants.{At, Over}
+use Rattle.unit_walk.specs.Values.{value_under, truth}
+use Rattle.unit_walk.specs.Loops.{Begins}
+use Rattle.unit_walk.specs.Standing.{plainly, onward, runs, performs, branch_line}
+use Rattle.unit_walk.proofs.ValueLemmas.{both_first}
+use Rattle.unit_walk.proofs.StepLemmas.{if_ok}
+use Rattle.unit_walk.proofs.RunLemmas.{lifts, leads_as, leads_here, performs_plain, conditioned, loop_on, loop_out, as_many, around_from, main_from}
+use Rattle.unit_walk.proofs.run.line.Goals as goal
+
+-- a line by what it says
+as_said : (code : List Line) (w : World) (line : Line) (a : Act) (rest : List Line) (pr : Progress) → line.act ≡ a → performs code w line rest pr ≡ performs code w (record { label = line.label; place = line.place; act = a }) rest pr
+as_said code w line a rest pr is = ap (λ (b : Act). performs code w (record { label = line.label; place = line.place; act = b }) rest pr) is
+
+pub returns-in-Ok-true-clause-leads : goal.returns-in-Ok-true-clause-leads
+returns-in-Ok-true-clause-leads c =
+    let code : List Line = lines_of c.args.plan.now.code.now in
+    let limit : ℕ = c.args.plan.now.limit in
+    let rest : List Line = drop (c.args.index + 1) code in
+    let e : Formula = formula_of c.in-When.test in
+    let a : Act = act_of c.deref.result.now in
+    let said : act_of c.args.statement.now.kind ≡ Chooses e a = ap act_of c.in-When.is ∙ ap (λ (k : StmtKind). Chooses e (act_of k)) (sym c.deref.ensures) in
+    let condition : is_condition e ≡ true = both_first (is_condition e) (is_plain (notes_of code) a) (rw said at c.requires.built) in
+    let value : Ok true ≡ truth (value_under c.args.run.now.variables) e = search rules in
+    if_ok _ _ c.branch-alloc.result (λ lead leads w pr stands.
+    leads_as code limit (performs code w (line_of c.args.statement.now) rest pr) (runs code w (branch_line c.args.statement.now a ∷ rest) pr) lead c.branch-alloc.new.run
+    (as_said code w (line_of c.args.statement.now) (Chooses e a) rest pr said
+    ∙ conditioned code c.requires.plan.formats w (value_under c.args.run.now.variables) stands.holds.store c.args.statement.now.label c.args.statement.now.place e a rest pr (Ok true) condition value)
+    (leads w pr stands)) c.branch-alloc.ensures.leads
+
+pub returns-in-Ok-false-clause-leads : goal.returns-in-Ok-false-clause-leads
+returns-in-Ok-false-clause-leads c =
+    let code : List Line = lines_of c.args.plan.now.code.now in
+    let limit : ℕ = c.args.plan.now.limit in
+    let rest : List Line = drop (c.args.index + 1) code in
+    let e : Formula = formula_of c.in-When.test in
+    let a : Act = act_of c.in-When.inner.value in
+    let said : act_of c.args.statement.now.kind ≡ Chooses e a = ap act_of c.in-When.is in
+    let condition : is_condition e ≡ true = both_first (is_condition e) (is_plain (notes_of code) a) (rw said at c.requires.built) in
+    let value : Ok false ≡ truth (value_under c.args.run.now.variables) e = search rules in
+    if_ok _ _ c.next_line.result (λ lead leads w pr stands.
+    leads_as code limit (performs code w (line_of c.args.statement.now) rest pr) (onward code c.args.statement.now.label c.args.index c.args.statement.now.place Next (around_from code (suc w.left)) (main_from code (suc w.left)) pr w) lead c.next_line.new.run
+    (as_said code w (line_of c.args.statement.now) (Chooses e a) rest pr said
+    ∙ conditioned code c.requires.plan.formats w (value_under c.args.run.now.variables) stands.holds.store c.args.statement.now.label c.args.statement.now.place e a rest pr (Ok false) condition value)
+    (lifts code limit c.args.run.now w pr stands (onward code c.args.statement.now.label c.args.index c.args.statement.now.place Next) lead c.next_line.new.run leads c.next_line.ensures.passes c.next_line.ensures.count)) c.next_line.ensures.leads
+
+pub returns-in-Err-clause-leads : goal.returns-in-Err-clause-leads
+returns-in-Err-clause-leads c w pr stands =
+    let code : List Line = lines_of c.args.plan.now.code.now in
+    let limit : ℕ = c.args.plan.now.limit in
+    let rest : List Line = drop (c.args.index + 1) code in
+    let e : Formula = formula_of c.in-When.test in
+    let a : Act = act_of c.in-When.inner.value in
+    let said : act_of c.args.statement.now.kind ≡ Chooses e a = ap act_of c.in-When.is in
+    let condition : is_condition e ≡ true = both_first (is_condition e) (is_plain (notes_of code) a) (rw said at c.requires.built) in
+    let value : Err c.in-Err.trap ≡ truth (value_under c.args.run.now.variables) e = search rules in
+    leads_here code limit c.args.run.now w pr stands (performs code w (line_of c.args.statement.now) rest pr) (Over (Trapped c.in-Err.trap c.args.statement.now.place))
+    (as_said code w (line_of c.args.statement.now) (Chooses e a) rest pr said
+    ∙ conditioned code c.requires.plan.formats w (value_under c.args.run.now.variables) stands.holds.store c.args.statement.now.label c.args.statement.now.place e a rest pr (Err c.in-Err.trap) condition value)
+
+pub returns-in-Ok-clause-leads : goal.returns-in-Ok-clause-leads
+returns-in-Ok-clause-leads c w pr stands =
+    let code : List Line = lines_of c.args.plan.now.code.now in
+    let limit : ℕ = c.args.plan.now.limit in
+    let rest : List Line = drop (c.args.index + 1) code in
+    let l : ℕ = c.in-Loop.field-0 in
+    let said : act_of c.args.statement.now.kind ≡ Loops l c.in-Loop.variable (par_of c.in-Loop.first) (par_of c.in-Loop.last) (par_of c.in-Loop.step) = ap act_of c.in-Loop.is in
+    let begins : Begins c.in-Loop.variable (par_of c.in-Loop.first) (par_of c.in-Loop.last) (par_of c.in-Loop.step) (value_under c.args.run.now.variables) (Ok c.in-Ok.pass) (value_under c.begin.new.variables) =
+    subst (λ (r : Result Pass Trap). Begins c.in-Loop.variable (par_of c.in-Loop.first) (par_of c.in-Loop.last) (par_of c.in-Loop.step) (value_under c.args.run.now.variables) r (value_under c.begin.new.variables)) c.in-Ok.is c.in_ok-pass-in-Loop.ensures.begins in
+    leads_as code limit (performs code w (line_of c.args.statement.now) rest pr) (performs code w (record { label = c.args.statement.now.label; place = c.args.statement.now.place; act = Loops l c.in-Loop.variable (par_of c.in-Loop.first) (par_of c.in-Loop.last) (par_of c.in-Loop.step) }) rest pr) (At (c.args.index + 1)) _
+    (as_said code w (line_of c.args.statement.now) (Loops l c.in-Loop.variable (par_of c.in-Loop.first) (par_of c.in-Loop.last) (par_of c.in-Loop.step)) rest pr said)
+    (loop_on code limit c.args.run.now w pr stands c.requires.plan.formats c.args.statement.now.label c.args.statement.now.place l c.in-Loop.variable (par_of c.in-Loop.first) (par_of c.in-Loop.last) (par_of c.in-Loop.step) c.args.index c.in-Ok.pass _ (subst (λ (n : ℕ). c.args.index < n) (sym (as_many c.args.plan.now.code.now)) c.requires.within) c.requires.sound.size begins refl refl refl)
+
+pub returns-in-Err-2-clause-leads : goal.returns-in-Err-2-clause-leads
+returns-in-Err-2-clause-leads c w pr stands =
+    let code : List Line = lines_of c.args.plan.now.code.now in
+    let limit : ℕ = c.args.plan.now.limit in
+    let rest : List Line = drop (c.args.index + 1) code in
+    let l : ℕ = c.in-Loop.field-0 in
+    let said : act_of c.args.statement.now.kind ≡ Loops l c.in-Loop.variable (par_of c.in-Loop.first) (par_of c.in-Loop.last) (par_of c.in-Loop.step) = ap act_of c.in-Loop.is in
+    let begins : Begins c.in-Loop.variable (par_of c.in-Loop.first) (par_of c.in-Loop.last) (par_of c.in-Loop.step) (value_under c.args.run.now.variables) (Err c.in-Err-2.trap) (value_under c.begin.new.variables) =
+    subst (λ (r : Result Pass Trap). Begins c.in-Loop.variable (par_of c.in-Loop.first) (par_of c.in-Loop.last) (par_of c.in-Loop.step) (value_under c.args.run.now.variables) r (value_under c.begin.new.variables)) c.in-Err-2.is c.in_ok-pass-in-Loop.ensures.begins in
+    leads_as code limit (performs code w (line_of c.args.statement.now) rest pr) (performs code w (record { label = c.args.statement.now.label; place = c.args.statement.now.place; act = Loops l c.in-Loop.variable (par_of c.in-Loop.first) (par_of c.in-Loop.last) (par_of c.in-Loop.step) }) rest pr) (Over (Trapped c.in-Err-2.trap c.args.statement.now.place)) _
+    (as_said code w (line_of c.args.statement.now) (Loops l c.in-Loop.variable (par_of c.in-Loop.first) (par_of c.in-Loop.last) (par_of c.in-Loop.step)) rest pr said)
+    (loop_out code limit c.args.run.now w pr stands c.requires.plan.formats c.args.statement.now.label c.args.statement.now.place l c.in-Loop.variable (par_of c.in-Loop.first) (par_of c.in-Loop.last) (par_of c.in-Loop.step) c.args.index c.in-Err-2.trap _ begins refl refl refl)
+
+pub returns-in_default-clause-leads : goal.returns-in_default-clause-leads
+returns-in_default-clause-leads c =
+    let code : List Line = lines_of c.args.plan.now.code.now in
+    let limit : ℕ = c.args.plan.now.limit in
+    let rest : List Line = drop (c.args.index + 1) code in
+    let a : Act = act_of c.args.statement.now.kind in
+    let p = c.args.statement.now.place in
+    let label = c.args.statement.now.label in
+    let built : is_plain (notes_of code) a ≡ true = search rules in
+    if_ok _ _ c.plain.result (λ lead leads w pr stands.
+    leads_as code limit (performs code w (line_of c.args.statement.now) rest pr) (plainly code label c.args.index p a (around_from code (suc w.left)) (main_from code (suc w.left)) pr w) lead c.plain.new.run
+    (performs_plain (notes_of code) (around_from code (suc w.left)) p code label c.args.index a (main_from code (suc w.left)) pr w built)
+    (lifts code limit c.args.run.now w pr stands (plainly code label c.args.index p a) lead c.plain.new.run leads c.plain.ensures.passes c.plain.ensures.count)) c.plain.ensures.leads

@@ -1,0 +1,9 @@
+pub mod Values
+pub mod Walking
+pub mod Leaving
+pub mod Loops
+pub mod Running
+pub mod Closing
+pub mod Standing
+pub mod Shows
+pub mod Prepared
