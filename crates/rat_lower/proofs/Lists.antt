@@ -1,0 +1,167 @@
+-- A list of statements follows, from its start and from each label that stands directly in it, with the jumps within it.
+use Rattle.std.proofs.Common.{◌≡◌, true, false, Bool, ℕ, zero, suc, ◌+◌, ◌*◌, ◌≤◌, ◌<◌, List, [], ◌∷◌, length, Option, Some, None, refl, sym, ap, ◌∙◌, subst, arith, true≢false, ⊎_elim, ◌||◌, eqb-true}
+use Rattle.std.specs.Prelude.{if◌then◌else◌, nat_eq, ⊤}
+use Rattle.std.proofs.lemmas.Bool.{or_cases}
+use Rattle.ground.specs.declared.place.Place.{Place}
+use Rattle.ground.specs.Content.{Content}
+use Rattle.f66_tree.specs.Forms.{Text, Variable, Act, Assigns, Goes, Chooses, Loops, Returns, Formula, Formulas, Nought, Also, Par, Line, bare}
+use Rattle.f66_tree.specs.World.{State, World, counted, End, Ended, GoesOn, Lost, Out, Gives, Halts, bind, choose}
+use Rattle.f66_tree.specs.Units.{is_note, Spot, Setting, Frame, moved_to}
+use Rattle.f66_tree.specs.Uses.{Names, NamesOfAll, NameOfPar, NamesOfAct}
+use Rattle.f66_tree.specs.Evaluation.{value_of}
+use Rattle.f66_tree.specs.Statements.{Loop, loop_start}
+use Rattle.f66_tree.specs.Execution.{has_label, runnable, Progress, begun, from_label, closers}
+use Rattle.rat_tree.specs.Commands.{Command, Empty, Together, When, Either, Whilst, Through, Repeats, Until, Counts, Switches, Leaves, Turns, GivesBack, Plainly, Marked, Commands, NoCommand, AndCommand, Clauses, NoClause, AndClause}
+use Rattle.rat_tree.specs.Meaning.{Went, Jumps, Backs, Leave, Again, Flow, Then, went, then_do, plainly, tested, turns, always, stepped, until, counts, marks, stands, landed, pred_of, fits, meaning, run_from, picked, defaulted}
+use Rattle.rat_tree.specs.Uses.{NamesIfAny, ActIfAny, NamesOfCommand, NamesOfCommands, NamesOfClauses}
+use Rattle.rat_lower.specs.Code.{Rings, label_behind, label_again, jump, unless, here, with_test, with_act, labels, all_labels, case_test, each_test, tests, default_label, has_switch, have_switch, code_of, all_code, bodies}
+use Rattle.rat_lower.specs.Checked.{bit, IsPlain, IsPlainIfAny, IsNothing, IsBuilt, AreBuilt, ClausesBuilt}
+use Rattle.rat_lower.proofs.Spared.{Lowering, at, near, spared, F}
+use Rattle.rat_lower.proofs.Tracks.{track_start}
+use Rattle.rat_lower.proofs.Follows.{Extra, Keeps, keeps_self, Part, Comes, comes_here, comes_on, one, Raw, Run, Under, Follows, first, weaker, bind_follows, then_follows, past_jump, past_here}
+use Rattle.rat_lower.proofs.Counts.{same_number, ends, heads, all_heads, clause_heads}
+use Rattle.rat_lower.proofs.Labels.{AreUnique, no_closers, one_closer, Within, within_self, within_cons, within_in, within_tail, within_test, within_act, within_code, within_all, within_tests, within_bodies, found, found_line, longer_in, Starts, starts_code}
+use Rattle.rat_lower.proofs.Parts.{Src, HoldsValue, unless_follows, plain_follows, labelled_follows, performed_follows, case_follows, kept_follows}
+use Rattle.rat_lower.proofs.Loops.{waits, Closes, always_closes, stepped_closes, until_closes, turns_follow, counts_follow}
+
+module _ (g : Lowering) (b : ℕ) (call : ℕ → List Spot → World → Out ⊤) (made : ℕ → ℕ) (spare : Text) (unique : AreUnique g.code) where
+  abbrev So : Setting
+  So = Src g b call
+
+  abbrev R : List Line → Extra → Part
+  R rest pr = Run g rest pr
+
+  abbrev pub Fo : (m top : ℕ) (ls : Rings) (pr : Extra) (t : Part) (s : State) (x : ℕ) (next : List Line) (o : Flow) → Type 0
+  Fo m top ls pr t s x next o = Follows g 1 m top ls pr t s x next o
+
+  abbrev f0 : Frame
+  f0 = F g
+
+  abbrev co : List Line
+  co = g.code
+
+  abbrev cd : Command → ℕ → Rings → List Line → List Line
+  cd s n ls next = code_of made spare s n ls next
+
+  abbrev acd : Commands → ℕ → Rings → List Line → List Line
+  acd ss n ls next = all_code made spare ss n ls next
+
+  -- what is proved of one statement
+  abbrev pub Right : Command → Type 0
+  Right s = (n : ℕ) (ls : Rings) (next : List Line) → Within (cd s n ls next) co → ((q : ℕ) → ends q co + heads made q s n ≤ 1) → (top : ℕ) → length (cd s n ls next) ≤ top →
+      (pr : Extra) (w : World) (x : ℕ) → x ≤ 32 * w.count → Fo b top ls pr (R (cd s n ls next) pr) w.state x next (meaning So f0 b s w)
+
+  abbrev pub AllRight : Commands → Type 0
+  AllRight ss = (n : ℕ) (ls : Rings) (next : List Line) → Within (acd ss n ls next) co → ((q : ℕ) → ends q co + all_heads made q ss n ≤ 1) → (top : ℕ) → length (acd ss n ls next) ≤ top →
+      (pr : Extra) (w : World) (x : ℕ) → x ≤ 32 * w.count → Fo b top ls pr (R (acd ss n ls next) pr) w.state x next (run_from So f0 b ss None w)
+
+  -- the same from a label that stands directly in the list
+  abbrev pub FromRight : Commands → Type 0
+  FromRight ss = (q0 : ℕ) → stands q0 ss ≡ true → (n : ℕ) (ls : Rings) (next : List Line) → Within (acd ss n ls next) co → ((q : ℕ) → ends q co + all_heads made q ss n ≤ 1) → (top : ℕ) → length (acd ss n ls next) ≤ top →
+      (pr : Extra) (w : World) (x : ℕ) → x ≤ 32 * w.count → Fo b top ls pr (R (from_label q0 co) pr) w.state x next (run_from So f0 b ss (Some q0) w)
+
+  -- a label's place
+  marked_at : (q : ℕ) (s : Command) (n : ℕ) (ls : Rings) (next : List Line) → marks q s ≡ true → Within (cd s n ls next) co → (from_label q co ≡ cd s n ls next) × Starts (cd s n ls next)
+  marked_at q (Marked m p s) n ls next is has = (found_line q (here m p) is unique has, (_, _, refl))
+  marked_at q (Plainly m p a) n ls next is has = go (is_note a) refl
+    where
+      go : (v : Bool) → is_note a ≡ v → (from_label q co ≡ cd (Plainly m p a) n ls next) × Starts (cd (Plainly m p a) n ls next)
+      go true e = absurd (true≢false (sym is ∙ ap (λ v. if v then false else has_label q m) e))
+      go false e = (found_line q (record { label = m; place = p; act = a }) (sym (ap (λ v. if v then false else has_label q m) e) ∙ is) unique has, (_, _, ap (λ v. if v then runnable next else (record { label = m; place = p; act = a } ∷ next)) e))
+  marked_at q (Empty p) n ls next is has = absurd (true≢false (sym is))
+  marked_at q (Together p ss) n ls next is has = absurd (true≢false (sym is))
+  marked_at q (When p e s) n ls next is has = absurd (true≢false (sym is))
+  marked_at q (Either p e s t) n ls next is has = absurd (true≢false (sym is))
+  marked_at q (Whilst p e s) n ls next is has = absurd (true≢false (sym is))
+  marked_at q (Through p i e j s) n ls next is has = absurd (true≢false (sym is))
+  marked_at q (Repeats p s) n ls next is has = absurd (true≢false (sym is))
+  marked_at q (Until p s e r) n ls next is has = absurd (true≢false (sym is))
+  marked_at q (Counts p y a z d s) n ls next is has = absurd (true≢false (sym is))
+  marked_at q (Switches p e cs) n ls next is has = absurd (true≢false (sym is))
+  marked_at q (Leaves p k) n ls next is has = absurd (true≢false (sym is))
+  marked_at q (Turns p k) n ls next is has = absurd (true≢false (sym is))
+  marked_at q (GivesBack p e) n ls next is has = absurd (true≢false (sym is))
+
+  within_rest : (s : Command) (ss : Commands) (n : ℕ) (ls : Rings) (next : List Line) → Within (acd (AndCommand s ss) n ls next) co → Within (acd ss (n + labels s) ls next) co
+  within_rest s ss n ls next has = within_in (within_code made spare s n ls (acd ss (n + labels s) ls next)) has
+
+  stands_at : (q : ℕ) (ss : Commands) (n : ℕ) (ls : Rings) (next : List Line) → stands q ss ≡ true → Within (acd ss n ls next) co → Starts (from_label q co)
+  stands_at q NoCommand n ls next is has = absurd (true≢false (sym is))
+  stands_at q (AndCommand s ss) n ls next is has =
+      ⊎_elim
+      (λ (m : marks q s ≡ true). let a = marked_at q s n ls (acd ss (n + labels s) ls next) m has in subst Starts (sym a.0) a.1)
+      (λ (m : stands q ss ≡ true). stands_at q ss (n + labels s) ls next m (within_rest s ss n ls next has))
+      (or_cases _ _ is)
+
+  smaller : {m top x : ℕ} {ls : Rings} {pr : Extra} {t : Part} {s : State} {next : List Line} (o : Flow) → m ≤ b → Fo b top ls pr t s x next o → Fo m top ls pr t s x next o
+  smaller {m} o le h = weaker g {b1 = b} o (omega arith) le (omega arith) h
+
+  -- at most k jumps within a list
+  landed_follows : (ss : Commands) (n : ℕ) (ls : Rings) (next : List Line) → Within (acd ss n ls next) co → ((q : ℕ) → ends q co + all_heads made q ss n ≤ 1) → (top : ℕ) → length (acd ss n ls next) ≤ top → FromRight ss →
+      (k : ℕ) → k ≤ b → (o : Flow) {x : ℕ} {pr : Extra} {t : Part} {s : State} → Fo b top ls pr t s x next o → Fo k top ls pr t s x next (landed k ss (λ q. run_from So f0 b ss (Some q)) o)
+  landed_follows ss n ls next has clear top fits from zero le (Gives Went w) h = smaller (Gives Went w) le h
+  landed_follows ss n ls next has clear top fits from (suc k) le (Gives Went w) h = smaller (Gives Went w) le h
+  landed_follows ss n ls next has clear top fits from zero le (Gives Backs w) h = smaller (Gives Backs w) le h
+  landed_follows ss n ls next has clear top fits from (suc k) le (Gives Backs w) h = smaller (Gives Backs w) le h
+  landed_follows ss n ls next has clear top fits from zero le (Gives (Leave i) w) h = smaller (Gives (Leave i) w) le h
+  landed_follows ss n ls next has clear top fits from (suc k) le (Gives (Leave i) w) h = smaller (Gives (Leave i) w) le h
+  landed_follows ss n ls next has clear top fits from zero le (Gives (Again i) w) h = smaller (Gives (Again i) w) le h
+  landed_follows ss n ls next has clear top fits from (suc k) le (Gives (Again i) w) h = smaller (Gives (Again i) w) le h
+  landed_follows ss n ls next has clear top fits from k le (Halts e w) h = smaller (Halts e w) le h
+  landed_follows ss n ls next has clear top fits from zero le (Gives (Jumps q) w) {x} {pr} {t} {s} h = go (stands q ss) refl
+    where
+      go : (v : Bool) → stands q ss ≡ v → Fo 0 top ls pr t s x next (if v then Halts GoesOn w else Gives (Jumps q) w)
+      go true e =
+          let a = h.by in
+          first g {j1 = 1} {b1 = 0} {x1 = a.0 + x} (Halts GoesOn w) a.4 a.5 (omega arith) (omega arith) (omega arith)
+          (record { by = (0, omega (arith, a.1), omega arith, a.3.spare, λ i c lt. waits g b call (from_label q co) a.3 w.state (stands_at q ss n ls next e has) i c lt) })
+      go false e = smaller (Gives (Jumps q) w) (omega arith) h
+  landed_follows ss n ls next has clear top fits from (suc k) le (Gives (Jumps q) w) {x} {pr} {t} {s} h =
+      go (stands q ss) refl (λ e. let a = h.by in landed_follows ss n ls next has clear top fits from k (omega arith) (run_from So f0 b ss (Some q) (counted w)) (from q e n ls next has clear top fits a.3 (counted w) (a.0 + x) (omega (arith, a.1))))
+    where
+      go : (v : Bool) → stands q ss ≡ v → (stands q ss ≡ true → Fo k top ls h.by.3 (R (from_label q co) h.by.3) w.state (h.by.0 + x) next (landed k ss (λ i. run_from So f0 b ss (Some i)) (run_from So f0 b ss (Some q) (counted w)))) → Fo (suc k) top ls pr t s x next (if v then landed k ss (λ i. run_from So f0 b ss (Some i)) (run_from So f0 b ss (Some q) (counted w)) else Gives (Jumps q) w)
+      go true e ih = let a = h.by in first g {j1 = 1} {b1 = k} (landed k ss (λ i. run_from So f0 b ss (Some i)) (run_from So f0 b ss (Some q) (counted w))) a.4 a.5 (omega arith) (omega (arith, a.2)) (omega arith) (ih e)
+      go false e ih = smaller (Gives (Jumps q) w) le h
+
+  -- a list, with the jumps within it
+  pub list_right : (ss : Commands) → AllRight ss → FromRight ss → (n : ℕ) (ls : Rings) (next : List Line) → Within (acd ss n ls next) co → ((q : ℕ) → ends q co + all_heads made q ss n ≤ 1) → (top : ℕ) → length (acd ss n ls next) ≤ top →
+      (pr : Extra) (w : World) (x : ℕ) → x ≤ 32 * w.count → Fo b top ls pr (R (acd ss n ls next) pr) w.state x next (landed b ss (λ q. run_from So f0 b ss (Some q)) (run_from So f0 b ss None w))
+  list_right ss r from n ls next has clear top fits pr w x le = landed_follows ss n ls next has clear top fits from b (omega arith) (run_from So f0 b ss None w) (r n ls next has clear top fits pr w x le)
+
+  -- what stands behind a label
+  pub behind : {top m : ℕ} {rest : List Line} (q : ℕ) (p : Place) → Within (here q p ∷ rest) co → closers q co ≡ [] → (ls : Rings) (pr : Extra) (w : World) (x : ℕ) → 1 + x ≤ 32 * w.count → Fo m top ls pr (R (from_label q co) pr) w.state x rest (went w)
+  behind {top} {m} {rest} q p has none_ends ls pr w x le = record { by = (1, le, pr, keeps_self top pr, subst (λ r. Comes (R r pr) w.state (R rest pr) w.state 1) (sym (found q p unique has)) (past_here g p q rest pr w.state none_ends)) }
+
+  -- at most two more statements at the end
+  pub passing : {top x d : ℕ} {ls : Rings} {pr : Extra} {t : Part} {s : State} {mid next : List Line} (o : Flow) → d ≤ 2 → Fo b top ls pr t s (2 + x) mid o → ((pr1 : Extra) (s1 : State) → Comes (R mid pr1) s1 (R next pr1) s1 d) → Fo b top ls pr t s x next o
+  passing (Gives Went w) few h k = let a = h.by in record { by = (_, omega (arith, a.1), a.2, a.3, comes_on a.4 (k a.2 w.state)) }
+  passing (Gives (Leave i) w) few h k = record { by = let a = h.by in (a.0, omega (arith, a.1), a.2, a.3, a.4) }
+  passing (Gives (Again i) w) few h k = record { by = let a = h.by in (a.0, omega (arith, a.1), a.2, a.3, a.4) }
+  passing (Gives (Jumps i) w) few h k = record { by = let a = h.by in (a.0, omega (arith, a.1), a.2, a.3, a.4, a.5) }
+  passing (Gives Backs w) few h k = record { by = let a = h.by in (a.0, omega (arith, a.1), a.2, a.3) }
+  passing (Halts (Ended e) w) few h k = record { by = let a = h.by in (a.0, omega (arith, a.1), a.2, a.3) }
+  passing (Halts GoesOn w) few h k = record { by = let a = h.by in (a.0, omega (arith, a.1), a.2, a.3, a.4) }
+  passing (Halts Lost w) few h k = record { by = tt }
+
+  pub more_right : (s : Command) (ss : Commands) → Right s → AllRight ss → AllRight (AndCommand s ss)
+  more_right s ss r rs n ls next has clear top fits pr w x le =
+      let rest = acd ss (n + labels s) ls next in
+      then_follows g {b = b} 0 (meaning So f0 b s w) (run_from So f0 b ss None) (omega arith) (r n ls rest has (λ q. omega (arith, clear q)) top fits pr w (0 + x) (omega arith))
+      (λ pr1 w1 x1 kp le1. rs (n + labels s) ls next (within_rest s ss n ls next has) (λ q. omega (arith, clear q)) top (omega (arith, fits, longer_in (within_code made spare s n ls rest))) pr1 w1 x1 (omega arith))
+
+  pub from_more : (s : Command) (ss : Commands) → Right s → AllRight ss → FromRight ss → FromRight (AndCommand s ss)
+  from_more s ss r rs from q is n ls next has clear top fits pr w x le = go (marks q s) refl
+    where
+      rest : List Line
+      rest = acd ss (n + labels s) ls next
+
+      go : (v : Bool) → marks q s ≡ v → Fo b top ls pr (R (from_label q co) pr) w.state x next (if v then (then_do (meaning So f0 b s w) (run_from So f0 b ss None)) else (run_from So f0 b ss (Some q) w))
+      go true e =
+          let a = marked_at q s n ls rest e has in
+          subst (λ z. Fo b top ls pr (R z pr) w.state x next (then_do (meaning So f0 b s w) (run_from So f0 b ss None))) (sym a.0) (more_right s ss r rs n ls next has clear top fits pr w x le)
+      go false e =
+          let is1 : stands q ss ≡ true = sym (ap (λ v. v || stands q ss) e) ∙ is in
+          from q is1 (n + labels s) ls next (within_rest s ss n ls next has) (λ q1. omega (arith, clear q1)) top (omega (arith, fits, longer_in (within_code made spare s n ls rest))) pr w x le
+
+  pub together_right : (p : Place) (ss : Commands) → AllRight ss → FromRight ss → Right (Together p ss)
+  together_right p ss r from n ls next has clear top fits pr w x le = list_right ss r from n ls next has clear top fits pr (counted w) x (omega arith)

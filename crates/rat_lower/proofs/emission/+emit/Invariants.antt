@@ -1,0 +1,40 @@
+use Rattle.std.proofs.Common.{◌≡◌, drop, ◌+◌, ◌*◌}
+use Rattle.f66_tree.specs.Views.{lines_of}
+use Rattle.rat_tree.specs.Views.{command, commands, clauses}
+use Rattle.rat_lower.specs.Around.{rings_of}
+use Rattle.std.proofs.Common.{List}
+use Rattle.rat_lower.proofs.Blocks.{SoFar}
+use Rattle.rat_lower.proofs.Members.{ClausesSoFar}
+use Rattle.rat_lower.proofs.Sizes.{size_of, size_of_all, size_of_clauses}
+use Rattle.rat_lower.proofs.emission.+emit.Given as goal
+
+abbrev pub decreases-emit : goal.decreases-emit
+decreases-emit l = 2 * size_of (command l.statement.now)
+
+abbrev pub decreases-emit_all : goal.decreases-emit_all
+decreases-emit_all l = 2 * size_of_all (commands l.list.now) + 1
+
+abbrev pub decreases-emit_if : goal.decreases-emit_if
+decreases-emit_if l = 2 * size_of (command l.body.now) + 1
+
+abbrev pub decreases-emit_either : goal.decreases-emit_either
+decreases-emit_either l = 2 * (size_of (command l.body.now) + size_of (command l.other.now)) + 1
+
+abbrev pub decreases-emit_loop : goal.decreases-emit_loop
+decreases-emit_loop l = 2 * size_of (command l.body.now) + 1
+
+abbrev pub decreases-emit_until : goal.decreases-emit_until
+decreases-emit_until l = 2 * size_of (command l.body.now) + 1
+
+abbrev pub decreases-emit_switch : goal.decreases-emit_switch
+decreases-emit_switch l = 2 * size_of_clauses (clauses l.list.now) + 2
+
+abbrev pub decreases-emit_clauses : goal.decreases-emit_clauses
+decreases-emit_clauses l = 2 * size_of_clauses (clauses l.list.now) + 1
+
+abbrev pub invariant-emit_all-loop-statement : goal.invariant-emit_all-loop-statement
+invariant-emit_all-loop-statement l = SoFar (commands l.list) (commands (drop l.statement-index l.list)) (rings_of l.around) l.initial.maker l.maker (lines_of l.initial.code.items) (lines_of l.code.items)
+
+abbrev pub invariant-emit_clauses-loop-clause : goal.invariant-emit_clauses-loop-clause
+invariant-emit_clauses-loop-clause l =
+    ClausesSoFar (clauses l.list) (clauses (drop l.clause-index l.list)) l.behind (rings_of l.around) l.default l.initial.maker l.maker (lines_of l.initial.code.items) (lines_of l.code.items) (lines_of l.initial.bodies.items) (lines_of l.bodies.items)

@@ -1,0 +1,178 @@
+-- The statements of FORTRAN that a command of Ratfor becomes, before those that come next.
+use Rattle.std.specs.Prelude.{ℕ, zero, suc, ◌+◌, Bool, true, false, ◌||◌, if◌then◌else◌, List, [], ◌∷◌, Option, Some, None}
+use Rattle.ground.specs.declared.place.Place.{Place}
+use Rattle.f66_tree.specs.declared.declaration.TypeWord.TheVariants.{Integer}
+use Rattle.f66_tree.specs.declared.expression.Operator.TheVariants.{Eq}
+use Rattle.f66_tree.specs.Forms.{Text, Formula, Variable, Grouped, Negated, Joined, Formulas, Nought, Also, MainUnit, Act, Assigns, Goes, Selects, Signs, Chooses, Loops, Passes, Stops, Returns, Types, Line, bare, marked}
+use Rattle.f66_tree.specs.Units.{is_note, name_of}
+use Rattle.rat_tree.specs.Commands.{Command, Empty, Together, When, Either, Whilst, Through, Repeats, Until, Counts, Switches, Leaves, Turns, GivesBack, Plainly, Marked, Commands, NoCommand, AndCommand, Clauses, NoClause, AndClause}
+use Rattle.rat_tree.specs.Meaning.{pred_of}
+
+-- the loops around a statement, from the inside out: the label behind each, and the label of its next turn
+abbrev pub Rings : Type 0
+Rings = List (ℕ × ℕ)
+
+abbrev pub label_behind : Rings → ℕ → ℕ
+label_behind [] k = 0
+label_behind (l ∷ ls) zero = l.0
+label_behind (l ∷ ls) (suc k) = label_behind ls k
+
+abbrev pub label_again : Rings → ℕ → ℕ
+label_again [] k = 0
+label_again (l ∷ ls) zero = l.1
+label_again (l ∷ ls) (suc k) = label_again ls k
+
+abbrev pub jump : Place → ℕ → Line
+jump p l = bare p (Goes l)
+
+-- IF(.NOT.(e))GO TO l
+abbrev pub unless : Place → Formula → ℕ → Line
+unless p e l = bare p (Chooses (Negated (Grouped e)) (Goes l))
+
+abbrev pub here : ℕ → Place → Line
+here l p = marked l p Passes
+
+-- a missing condition is true, and a missing statement does nothing
+abbrev pub with_test : Place → Option Formula → ℕ → List Line → List Line
+with_test p None l next = next
+with_test p (Some e) l next = unless p e l ∷ next
+
+abbrev pub with_act : Place → Option Act → List Line → List Line
+with_act p None next = next
+with_act p (Some a) next = bare p a ∷ next
+
+-- a return, with or without the value of a function
+abbrev pub with_return : Place → Option Formula → List Line → List Line
+with_return p None next = bare p Returns ∷ next
+with_return p (Some e) next = bare p (Assigns (Variable (name_of MainUnit)) e) ∷ bare p Returns ∷ next
+
+-- how many labels are made for a command
+abbrev mutual
+  pub labels : Command → ℕ
+  labels (Empty p) = 0
+  labels (Together p ss) = all_labels ss
+  labels (When p e s) = labels s + 1
+  labels (Either p e s t) = labels s + labels t + 2
+  labels (Whilst p e s) = labels s + 3
+  labels (Through p first e step s) = labels s + 3
+  labels (Repeats p s) = labels s + 3
+  labels (Until p s e q) = labels s + 3
+  labels (Counts p x a b c s) = labels s + 2
+  labels (Switches p e cs) = clause_labels cs + 1
+  labels (Leaves p n) = 0
+  labels (Turns p n) = 0
+  labels (GivesBack p e) = 0
+  labels (Plainly l p a) = 0
+  labels (Marked l p s) = labels s
+
+  pub all_labels : Commands → ℕ
+  all_labels NoCommand = 0
+  all_labels (AndCommand s ss) = labels s + all_labels ss
+
+  pub clause_labels : Clauses → ℕ
+  clause_labels NoClause = 0
+  clause_labels (AndClause es fallback ss p cs) = all_labels ss + 1 + clause_labels cs
+
+-- whether the spare name holds the value of a case expression
+abbrev pub case_test : Text → Formula → Formula
+case_test spare e = Joined Eq (Variable spare) (Grouped e)
+
+-- the case expressions of a clause, in their order, each of which leads to the clause's label
+abbrev pub each_test : Text → Place → Formulas → ℕ → List Line → List Line
+each_test spare p Nought l next = next
+each_test spare p (Also e es) l next = bare p (Chooses (case_test spare e) (Goes l)) ∷ each_test spare p es l next
+
+-- where made n is the n-th of the labels that are made, and the spare name holds the values of switches
+module _ (made : ℕ → ℕ) (spare : Text) where
+  -- the case expressions of all clauses
+  abbrev pub tests : Clauses → ℕ → List Line → List Line
+  tests NoClause m next = next
+  tests (AndClause es fallback ss p cs) m next = each_test spare p es (made m) (tests cs (m + 1 + all_labels ss) next)
+
+  -- where a switch goes on with none of its cases
+  abbrev pub default_label : Clauses → ℕ → ℕ → ℕ
+  default_label NoClause m out = out
+  default_label (AndClause es fallback ss p cs) m out = if fallback then made m else default_label cs (m + 1 + all_labels ss) out
+
+  abbrev mutual
+    pub code_of : Command → ℕ → Rings → List Line → List Line
+    code_of (Empty p) n ls next = next
+    code_of (Together p ss) n ls next = all_code ss n ls next
+    code_of (When p e s) n ls next = unless p e (made n) ∷ code_of s (n + 1) ls (here (made n) p ∷ next)
+    code_of (Either p e s t) n ls next =
+        unless p e (made n) ∷ code_of s (n + 2) ls (jump p (made (n + 1)) ∷ here (made n) p ∷ code_of t (n + 2 + labels s) ls (here (made (n + 1)) p ∷ next))
+    code_of (Whilst p e s) n ls next =
+        here (made n) p ∷ with_test p (Some e) (made (n + 2)) (code_of s (n + 3) ((made (n + 2), made (n + 1)) ∷ ls) (here (made (n + 1)) p ∷ jump p (made n) ∷ here (made (n + 2)) p ∷ next))
+    code_of (Through p first e step s) n ls next =
+        with_act p first (here (made n) p ∷ with_test p e (made (n + 2)) (code_of s (n + 3) ((made (n + 2), made (n + 1)) ∷ ls) (here (made (n + 1)) p ∷ with_act p step (jump p (made n) ∷ here (made (n + 2)) p ∷ next))))
+    code_of (Repeats p s) n ls next =
+        here (made n) p ∷ code_of s (n + 3) ((made (n + 2), made (n + 1)) ∷ ls) (here (made (n + 1)) p ∷ jump p (made n) ∷ here (made (n + 2)) p ∷ next)
+    code_of (Until p s e q) n ls next =
+        here (made n) p ∷ code_of s (n + 3) ((made (n + 2), made (n + 1)) ∷ ls) (here (made (n + 1)) p ∷ unless q e (made n) ∷ here (made (n + 2)) p ∷ next)
+    code_of (Counts p x a b c s) n ls next =
+        bare p (Loops (made n) x a b c) ∷ code_of s (n + 2) ((made (n + 1), made n) ∷ ls) (here (made n) p ∷ here (made (n + 1)) p ∷ next)
+    code_of (Switches p e cs) n ls next =
+        bare p (Assigns (Variable spare) e) ∷ tests cs (n + 1) (jump p (default_label cs (n + 1) (made n)) ∷ bodies cs (n + 1) (made n) ls (here (made n) p ∷ next))
+    code_of (Leaves p k) n ls next = jump p (label_behind ls (pred_of k)) ∷ next
+    code_of (Turns p k) n ls next = jump p (label_again ls (pred_of k)) ∷ next
+    code_of (GivesBack p e) n ls next = with_return p e next
+    code_of (Plainly l p a) n ls next = record { label = l; place = p; act = a } ∷ next
+    code_of (Marked l p s) n ls next = here l p ∷ code_of s n ls next
+
+    pub all_code : Commands → ℕ → Rings → List Line → List Line
+    all_code NoCommand n ls next = next
+    all_code (AndCommand s ss) n ls next = code_of s n ls (all_code ss (n + labels s) ls next)
+
+    -- the statements of the clauses, each behind its label
+    pub bodies : Clauses → ℕ → ℕ → Rings → List Line → List Line
+    bodies NoClause m out ls next = next
+    bodies (AndClause es fallback ss p cs) m out ls next =
+        here (made m) p ∷ all_code ss (m + 1) ls (jump p out ∷ bodies cs (m + 1 + all_labels ss) out ls next)
+
+-- whether a switch stands in it
+abbrev mutual
+  pub has_switch : Command → Bool
+  has_switch (Together p ss) = have_switch ss
+  has_switch (When p e s) = has_switch s
+  has_switch (Either p e s t) = has_switch s || has_switch t
+  has_switch (Whilst p e s) = has_switch s
+  has_switch (Through p first e step s) = has_switch s
+  has_switch (Repeats p s) = has_switch s
+  has_switch (Until p s e q) = has_switch s
+  has_switch (Counts p x a b c s) = has_switch s
+  has_switch (Switches p e cs) = true
+  has_switch (Marked l p s) = has_switch s
+  has_switch _ = false
+
+  pub have_switch : Commands → Bool
+  have_switch NoCommand = false
+  have_switch (AndCommand s ss) = has_switch s || have_switch ss
+
+-- a statement after which the next one is not begun
+abbrev pub is_transfer : Act → Bool
+is_transfer (Goes l) = true
+is_transfer (Selects ls x) = true
+is_transfer (Signs e n m k) = true
+is_transfer (Stops n) = true
+is_transfer Returns = true
+is_transfer _ = false
+
+-- whether the last statement that is executed is one, where other says so of those before
+abbrev pub ends_so : Bool → List Line → Bool
+ends_so other [] = other
+ends_so other (s ∷ rest) = if is_note s.act then ends_so other rest else ends_so (is_transfer s.act) rest
+
+abbrev pub stop_unless : Bool → Place → List Line
+stop_unless true p = []
+stop_unless false p = bare p (Stops None) ∷ []
+
+-- INTEGER spare
+abbrev pub declared_if : Bool → Place → Text → List Line → List Line
+declared_if true p spare code = bare p (Types Integer (record { name = spare; sizes = [] } ∷ [])) ∷ code
+declared_if false p spare code = code
+
+-- A main unit: the spare name is declared where a switch uses it, at the unit's place, and a STOP stands at the end of the
+-- text unless the last statement is a transfer.
+abbrev pub unit_code : (ℕ → ℕ) → Text → Place → Place → Commands → List Line
+unit_code made spare first last ss =
+    declared_if (have_switch ss) first spare (all_code made spare ss 0 [] (stop_unless (ends_so false (all_code made spare ss 0 [] [])) last))

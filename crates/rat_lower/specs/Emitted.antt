@@ -1,0 +1,50 @@
+-- What is added to the statements of a unit.
+use Rattle.std.specs.Prelude.{◌≡◌, ℕ, ◌+◌, Bool, List, ◌++◌, Option, Some, None, codes, if◌then◌else◌}
+use Rattle.name_alloc.specs.Numbers.{made_number}
+use Rattle.f66_tree.specs.Forms.{Text, Line}
+use Rattle.rat_tree.specs.Commands.{Command, Commands, Clauses}
+use Rattle.rat_lower.specs.Code.{Rings, labels, all_labels, clause_labels, code_of, all_code, tests, bodies}
+
+-- the labels of the source, how many labels were made, and the name that holds the values of switches
+pub record Making : Type 0 where
+  pub taken : List ℕ
+  pub made : ℕ
+  pub spare : Text
+
+-- the labels that are made, where these are taken
+abbrev pub labels_past : List ℕ → ℕ → ℕ
+labels_past taken i = made_number 23000 taken i
+
+-- the spare name of a unit
+abbrev pub spare_name : Text
+spare_name = codes "Z00001"
+
+-- new is old with some statements more: f puts these before others
+pub record Adds (old new : List Line) (f : List Line → List Line) : Type 0 where
+  pub by : (rest : List Line) → new ++ rest ≡ old ++ f rest
+
+-- the statements of a command were added, and its labels made
+pub record Emitted (s : Command) (ls : Rings) (before after : Making) (old new : List Line) : Type 0 where
+  pub taken : after.taken ≡ before.taken
+  pub spare : after.spare ≡ before.spare
+  pub made : after.made ≡ before.made + labels s
+  pub added : Adds old new (code_of (labels_past before.taken) before.spare s before.made ls)
+
+pub record AllEmitted (ss : Commands) (ls : Rings) (before after : Making) (old new : List Line) : Type 0 where
+  pub taken : after.taken ≡ before.taken
+  pub spare : after.spare ≡ before.spare
+  pub made : after.made ≡ before.made + all_labels ss
+  pub added : Adds old new (all_code (labels_past before.taken) before.spare ss before.made ls)
+
+-- the case expressions of clauses were added to some statements, and their bodies to others
+pub record ClausesEmitted (cs : Clauses) (out : ℕ) (ls : Rings) (before after : Making) (old new inner outer : List Line) : Type 0 where
+  pub taken : after.taken ≡ before.taken
+  pub spare : after.spare ≡ before.spare
+  pub made : after.made ≡ before.made + clause_labels cs
+  pub tested : Adds old new (tests (labels_past before.taken) before.spare cs before.made)
+  pub added : Adds inner outer (bodies (labels_past before.taken) before.spare cs before.made out ls)
+
+-- the label of the first default, among one more clause
+abbrev pub first_default : Option ℕ → Bool → ℕ → Option ℕ
+first_default (Some l) fallback m = Some l
+first_default None fallback m = if fallback then Some m else None

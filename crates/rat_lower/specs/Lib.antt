@@ -1,0 +1,5 @@
+pub mod Code
+pub mod OneUnit
+pub mod Checked
+pub mod Around
+pub mod Emitted

@@ -1,0 +1,73 @@
+// The labels and the spare name of a unit.
+ghost use Rattle.std.specs.Prelude.{◌≡◌, ℕ, ◌+◌, ◌<◌, ◌≤◌, length, IfOk, OnOk};
+ghost use Rattle.rat_lower.specs.Emitted.{labels_past, spare_name};
+
+use f66_tree::Name;
+use ground::Memory;
+use name_alloc::Names;
+use std::alloc::{AllocError, Global};
+use std::marker::Model;
+
+/// What the statements of a unit are made with: labels that its source lacks, and the name that holds the values of its
+/// switches.
+#[derive(Drop)]
+pub struct Maker {
+    alloc: Global,
+    names: Names,
+    spare: Name,
+}
+
+impl Model for Maker {
+    ghost use Rattle.std.specs.Prelude.{◌≡◌, length};
+    ghost use Rattle.name_alloc.specs.Numbers.{made_first};
+    ghost use Rattle.rat_lower.specs.Emitted.{Making};
+
+    ghost Value = { Making };
+
+    ghost view = { λ s. record { taken = s.names.labels.taken; made = length s.names.labels.made; spare = s.spare } };
+
+    ghost invariant = { λ s. (s.names.labels.first ≡ 23000) × (s.names.labels.made ≡ made_first 23000 s.names.labels.taken (length s.names.labels.made)) };
+}
+
+impl Maker {
+    /// No label is made yet, and these are taken.
+    pub fn new(alloc: Global, taken: &[u32]) -> Result<Maker, Memory>
+        ensures made { IfOk result (λ maker. maker.made ≡ 0) }
+        ensures spare { IfOk result (λ maker. maker.spare ≡ spare_name) }
+        ensures few { IfOk result (λ maker. length maker.taken ≤ length taken.now) }
+        ensures labels { IfOk result (λ maker. (i : ℕ) → labels_past maker.taken i ≡ labels_past taken.now i) }
+    {
+        let mut names = Names::new(alloc);
+        for label in taken {
+            names.keep_label(*label)?;
+        }
+        let spare = names.fresh_name()?;
+        Ok(Maker {
+            alloc,
+            names,
+            spare,
+        })
+    }
+
+    pub fn alloc(&self) -> Global {
+        self.alloc
+    }
+
+    /// The name that holds the values of switches, once more.
+    pub fn spare(&self) -> Result<Name, AllocError>
+        ensures { IfOk result (λ name. name ≡ self.now.spare) }
+    {
+        self.spare.copy()
+    }
+
+    /// The next label that the source lacks.
+    pub fn fresh_label(&mut self) -> Result<u32, Memory>
+        requires { self.old.made + length self.old.taken < 77000 }
+        ensures label { IfOk result (λ label. label ≡ labels_past self.old.taken self.old.made) }
+        ensures made { OnOk result (self.new.made ≡ self.old.made + 1) }
+        ensures taken { OnOk result (self.new.taken ≡ self.old.taken) }
+        ensures spare { OnOk result (self.new.spare ≡ self.old.spare) }
+    {
+        self.names.fresh_label()
+    }
+}
