@@ -6,10 +6,11 @@ usage: grammar_tables.py GRAMMAR CRATE FOLDER NAME
 GRAMMAR is a text: a line `terminals: A B C`, a line `end: TextEnd`, and a line for each production,
 `Nonterminal.Production = Symbol Symbol ..`; the first production is the start. A production that may stand before some
 terminals alone has `only A B` behind its symbols, and one that may not stand before some `except A B`. `#` begins a comment.
-It writes FOLDER/src/table.rt and FOLDER/specs/Table.antt, LookaheadTables.antt and NAMESound.antt, over a file NAME.antt that
-defines `grammar` and `certificate` of these tables, and says where the productions need more than one token of lookahead.
-`rt tidy` lays the files out.
+It writes below FOLDER src/table.rt, symbols.rt and parse_table.rt, specs/Table.antt, ParseTable.antt, LookaheadTables.antt and
+NAMESound.antt, and proofs/TableLemmas.antt and parse_table/, over a file specs/NAME.antt that defines `grammar` and `certificate` of these
+tables, and says where the productions need more than one token of lookahead. `rt fmt` and `rt tidy` lay the files out.
 """
+import os
 import sys
 
 ALL = 'all'
@@ -207,20 +208,22 @@ class Grammar:
         self.settle(outer)
 
 
-def snake(name):
-    return ''.join('_' + c.lower() if c.isupper() else c for c in name).strip('_')
-
-
 def symbol(grammar, word):
     return f'Nonterminal nonterminals.{word}' if grammar.is_nonterminal(word) else f'Terminal terminals.{word}'
 
 
 def items(grammar, terminals):
-    return ' ∷ '.join([f'terminals.{k}' for k in grammar.terminals if k in terminals] + ['[]'])
+    return listed([k for k in grammar.terminals if k in terminals])
 
 
-def listed(terminals):
-    return ' ∷ '.join([f'terminals.{k}' for k in terminals] + ['[]'])
+def listed(names, kind='terminals'):
+    return ' ∷ '.join([f'{kind}.{name}' for name in names] + ['[]'])
+
+
+def entries(grammar, nonterminal):
+    """The terminals at which a nonterminal goes on, with the production, but for those of the production that goes on at any other."""
+    row = grammar.table[nonterminal]
+    return [(k, row[k]) for k in grammar.terminals if k in row and row[k] != grammar.rest.get(nonterminal)]
 
 
 def clauses(name, rows, rest=None):
@@ -231,55 +234,148 @@ def clauses(name, rows, rest=None):
     return out + ([f'{name} _ = {common}'] if len(out) < len(rows) or rest is not None else [])
 
 
-def enum(name, words):
-    return [f'/// {name[1]}', '#[derive(Clone, Copy, Debug, PartialEq, Eq)]', f'pub enum {name[0]} {{'] + [f'    {w},' for w in words] + ['}', '']
+TYPES = ('Terminal', 'Nonterminal', 'Production')
 
 
-def write_rust(grammar, crate):
-    out = [
-        '// The grammar as a table: the symbols of each production, and the production of a nonterminal at each terminal.',
+def uses(crate, *names, alias=False):
+    """Imports of the types of the table, with their variants."""
+    lines = []
+    for name in names:
+        lines += [f'use Rattle.{crate}.specs.declared.table.{name}.{{{name}{f" as A{name}" if alias else ""}}}',
+                  f'use Rattle.{crate}.specs.declared.table.{name}.TheVariants as {name.lower()}s']
+    return lines
+
+
+def use_type(crate, name):
+    return f'use Rattle.{crate}.specs.contracts.table.{name}.{{the_type as {name.lower()}_type}}'
+
+
+def enum(comment, name, words):
+    return ['', f'/// {comment}', '#[derive(Clone, Copy, PartialEq, Eq)]', f'pub enum {name} {{'] + [f'    {w},' for w in words] + ['}']
+
+
+def write_types(grammar):
+    return (['// The names of the grammar: what it sees of tokens, the parts of a text, and its productions.']
+            + enum('What the grammar sees of a token.', 'Terminal', grammar.terminals)
+            + enum('The parts of a text that the grammar names.', 'Nonterminal', grammar.nonterminals)
+            + enum('The productions, each of one nonterminal.', 'Production', grammar.productions))
+
+
+def table(name, kind, items):
+    return [f'static {name}: [{kind}; {len(items)}] = ['] + [f'    {item},' for item in items] + ['];', '']
+
+
+def starts(rows):
+    """Where each row begins, and where the last ends. The rows stand in one list, since lists in a list are dear to check."""
+    ends = [0]
+    for row in rows:
+        ends.append(ends[-1] + len(row))
+    return [str(end) for end in ends]
+
+
+def getter(name, kind, static, seen):
+    return ['', f"fn {name}() -> &'static [{kind}]", f'    ensures {{ result.now ≡ {seen} }}', '{', f'    &{static}', '}']
+
+
+def write_symbols(grammar, crate):
+    def symbol_of(word):
+        kind = 'Nonterminal' if grammar.is_nonterminal(word) else 'Terminal'
+        return f'Symbol::{kind}({kind}::{word})'
+
+    rows = [[symbol_of(word) for word in grammar.rows[p][1]] for p in grammar.productions]
+    static = [f'static SYMBOLS: [Symbol<Terminal, Nonterminal>; {sum(map(len, rows))}] = [']
+    for production, row in zip(grammar.productions, rows):
+        static += [f'    // {production}'] * bool(row) + [f'    {item},' for item in row]
+    return [
+        '// The symbols of each production.',
         '',
         'ghost use Rattle.std.specs.Prelude.{◌≡◌, slice_get};',
-        f'ghost use Rattle.{crate}.specs.Table.{{symbols, predict_at}};',
-        f'ghost use Rattle.{crate}.specs.declared.table.Nonterminal.TheVariants as nonterminals;',
+        f'ghost use Rattle.{crate}.specs.Table.{{symbols, all_symbols, symbol_starts}};',
         '',
-        'use grammar::Symbol;',
+        'use crate::table::{Nonterminal, Production, Terminal};',
+        'use grammar::{Symbol, row};',
         '',
-    ]
-    out += enum(('Terminal', 'What the grammar sees of a token.'), grammar.terminals)
-    out += enum(('Nonterminal', 'The parts of a text that the grammar names.'), grammar.nonterminals)
-    out += enum(('Production', 'The productions, each of one nonterminal.'), grammar.productions)
-    out += ['/// The production by which a nonterminal goes on at a terminal.', 'pub fn predict(nonterminal: Nonterminal, terminal: Terminal) -> Option<Production>',
-            '    ensures { result ≡ predict_at nonterminal terminal }', '{', '    match nonterminal {']
-    out += [f'        Nonterminal::{n} => predict_{snake(n)}(terminal),' for n in grammar.nonterminals] + ['    }', '}', '']
-    for n in grammar.nonterminals:
-        out += [f'fn predict_{snake(n)}(terminal: Terminal) -> Option<Production>', f'    ensures {{ result ≡ predict_at nonterminals.{n} terminal }}', '{', '    match terminal {']
-        for p in grammar.of(n):
-            keys = [f'Terminal::{k}' for k in grammar.terminals if grammar.table[n].get(k) == p and grammar.rest.get(n) != p]
-            for at in range(0, len(keys), 8):
-                out.append('        ' + ' | '.join(keys[at:at + 8]) + f' => Some(Production::{p}),')
-        default = f'Some(Production::{grammar.rest[n]})' if n in grammar.rest else 'None'
-        out += [f'        _ => {default},', '    }', '}', '']
-    out += ['/// The symbol at a place of a production.', 'pub fn symbol_at(production: Production, place: usize) -> Option<Symbol<Terminal, Nonterminal>>',
-            '    ensures { result ≡ slice_get (symbols production) place }', '{', '    match production {']
-    for p in grammar.productions:
-        words = [f'{kind}(' + ('Nonterminal' if grammar.is_nonterminal(w) else 'Terminal') + f'::{w})' for w in grammar.rows[p][1]
-                 for kind in ['Symbol::Nonterminal' if grammar.is_nonterminal(w) else 'Symbol::Terminal']]
-        out.append(f'        Production::{p} => ' + (f'at(&[{", ".join(words)}], place),' if words else 'None,'))
-    return out + ['    }', '}', '', 'fn at(symbols: &[Symbol<Terminal, Nonterminal>], place: usize) -> Option<Symbol<Terminal, Nonterminal>>',
-                  '    ensures { result ≡ slice_get symbols.now place }', '{', '    symbols.get(place).copied()', '}']
+        '/// The symbol at a place of a production.',
+        'pub fn symbol_at(production: Production, place: usize) -> Option<Symbol<Terminal, Nonterminal>>',
+        '    ensures { result ≡ slice_get (symbols production) place }',
+        '{',
+        '    symbols_of(production).get(place).copied()',
+        '}',
+        '',
+        '#[tactic(auto, using(crate::proofs::TableLemmas::symbols_stand, crate::proofs::TableLemmas::symbols_found))]',
+        "fn symbols_of(production: Production) -> &'static [Symbol<Terminal, Nonterminal>]",
+        '    ensures { result.now ≡ symbols production }',
+        '{',
+        '    row(all(), starts(), production as usize)',
+        '}',
+    ] + getter('all', 'Symbol<Terminal, Nonterminal>', 'SYMBOLS', 'all_symbols') + getter('starts', 'usize', 'STARTS', 'symbol_starts') + [
+        '',
+        '// Where the symbols of each production begin, and where the last end.',
+    ] + table('STARTS', 'usize', starts(rows)) + static + ['];']
+
+
+def write_parse_table(grammar, crate):
+    rows = [[f'(Terminal::{k}, Production::{p})' for k, p in entries(grammar, n)] for n in grammar.nonterminals]
+    rests = [f'Some(Production::{grammar.rest[n]})' if n in grammar.rest else 'None' for n in grammar.nonterminals]
+    return [
+        '// The parse table: the production by which each nonterminal goes on at a terminal.',
+        '',
+        'ghost use Rattle.std.specs.Prelude.{◌≡◌};',
+        'ghost use denote.Enum.Bare.{sameb};',
+        'ghost use Rattle.grammar.specs.Rows.{found};',
+        f'ghost {use_type(crate, "Terminal")};',
+        f'ghost use Rattle.{crate}.specs.ParseTable.{{predict_at, entries, rest, all_entries, entry_starts, all_rests}};',
+        '',
+        'use crate::table::{Nonterminal, Production, Terminal};',
+        'use grammar::row;',
+        '',
+        '/// The production by which a nonterminal goes on at a terminal.',
+        'pub fn predict(nonterminal: Nonterminal, terminal: Terminal) -> Option<Production>',
+        '    ensures { result ≡ predict_at nonterminal terminal }',
+        '{',
+        '    chosen(entries_of(nonterminal), terminal, rest_of(nonterminal))',
+        '}',
+        '',
+        'fn chosen(choices: &[(Terminal, Production)], seen: Terminal, other: Option<Production>) -> Option<Production>',
+        '    ensures { result ≡ found (sameb terminal_type) seen choices.now other }',
+        '{',
+        '    for (terminal, production) in choices {',
+        '        if *terminal == seen {',
+        '            return Some(*production);',
+        '        }',
+        '    }',
+        '    other',
+        '}',
+        '',
+        '#[tactic(auto, using(crate::proofs::TableLemmas::entries_stand, crate::proofs::TableLemmas::entries_found))]',
+        "fn entries_of(nonterminal: Nonterminal) -> &'static [(Terminal, Production)]",
+        '    ensures { result.now ≡ entries nonterminal }',
+        '{',
+        '    row(all(), starts(), nonterminal as usize)',
+        '}',
+        '',
+        '/// The production at any terminal that has no entry.',
+        '#[tactic(auto, using(crate::proofs::TableLemmas::rest_stands, crate::proofs::TableLemmas::rest_found))]',
+        'fn rest_of(nonterminal: Nonterminal) -> Option<Production>',
+        '    ensures { result ≡ rest nonterminal }',
+        '{',
+        '    rests()[nonterminal as usize]',
+        '}',
+    ] + getter('all', '(Terminal, Production)', 'ENTRIES', 'all_entries') + getter('starts', 'usize', 'STARTS', 'entry_starts') \
+        + getter('rests', 'Option<Production>', 'RESTS', 'all_rests') + [
+        '',
+        '// Where the entries of each nonterminal begin, and where the last end.',
+    ] + table('STARTS', 'usize', starts(rows)) + table('RESTS', 'Option<Production>', rests) + table('ENTRIES', '(Terminal, Production)', sum(rows, []))[:-1]
 
 
 def write_table(grammar, crate):
     out = [
-        '-- The grammar as a table: the symbols of each production, where it may stand, and the parse table.',
-        'use Rattle.std.specs.Prelude.{Bool, true, false, Option, Some, None, List, [], ◌∷◌}',
+        '-- The grammar as a table: the symbols of each production, and where it may stand.',
+        'use Rattle.std.specs.Prelude.{ℕ, Bool, true, false, List, [], ◌∷◌, map}',
         'use Rattle.grammar.specs.declared.language.Symbol.{Symbol}',
         'use Rattle.grammar.specs.declared.language.Symbol.TheVariants.{Terminal, Nonterminal}',
-    ]
-    for name in ('Terminal', 'Nonterminal', 'Production'):
-        out += [f'use Rattle.{crate}.specs.declared.table.{name}.{{{name} as A{name}}}',
-                f'use Rattle.{crate}.specs.declared.table.{name}.TheVariants as {name.lower()}s']
+        'use Rattle.grammar.specs.Rows.{flat, starts_of}',
+    ] + uses(crate, *TYPES, alias=True)
     out += ['', 'abbrev pub symbols : AProduction → List (Symbol ATerminal ANonterminal)']
     for p in grammar.productions:
         out.append(f'symbols productions.{p} = ' + ' ∷ '.join([symbol(grammar, w) for w in grammar.rows[p][1]] + ['[]']))
@@ -291,14 +387,95 @@ def write_table(grammar, crate):
         if only:
             out += [f'allows productions.{p} terminals.{k} = {"true" if only[0] == "only" else "false"}' for k in only[1]]
             out.append(f'allows productions.{p} _ = {"false" if only[0] == "only" else "true"}')
-    out += ['allows _ _ = true', '', '-- the parse table', 'abbrev pub predict_at : ANonterminal → ATerminal → Option AProduction']
+    return out + [
+        'allows _ _ = true',
+        '',
+        'abbrev pub all_productions : List AProduction',
+        f'all_productions = {listed(grammar.productions, "productions")}',
+        '',
+        '-- the symbols of all productions behind one another, and where each begins',
+        'abbrev pub all_symbols : List (Symbol ATerminal ANonterminal)',
+        'all_symbols = flat (map symbols all_productions)',
+        '',
+        'abbrev pub symbol_starts : List ℕ',
+        'symbol_starts = starts_of 0 (map symbols all_productions)',
+    ]
+
+
+def write_entries(grammar, crate):
+    out = [
+        '-- The parse table: the production of each nonterminal at each terminal.',
+        'use Rattle.std.specs.Prelude.{ℕ, Option, Some, None, List, [], ◌∷◌, map}',
+        'use denote.Enum.Bare.{sameb}',
+        'use Rattle.grammar.specs.Rows.{found, flat, starts_of}',
+        use_type(crate, 'Terminal'),
+    ] + uses(crate, *TYPES) + ['', 'abbrev pub entries : Nonterminal → List (Terminal × Production)']
     for n in grammar.nonterminals:
-        for k in grammar.terminals:
-            p = grammar.table[n].get(k)
-            if p and grammar.rest.get(n) != p:
-                out.append(f'predict_at nonterminals.{n} terminals.{k} = Some productions.{p}')
-        out.append(f'predict_at nonterminals.{n} _ = ' + (f'Some productions.{grammar.rest[n]}' if n in grammar.rest else 'None'))
+        out.append(f'entries nonterminals.{n} = ' + ' ∷ '.join([f'(terminals.{k}, productions.{p})' for k, p in entries(grammar, n)] + ['[]']))
+    out += ['', '-- at any terminal that has no entry', 'abbrev pub rest : Nonterminal → Option Production']
+    out += clauses('rest', [(f'nonterminals.{n}', f'Some productions.{p}') for n, p in grammar.rest.items()], 'None')
+    return out + [
+        '',
+        'abbrev pub predict_at : Nonterminal → Terminal → Option Production',
+        'predict_at n k = found (sameb terminal_type) k (entries n) (rest n)',
+        '',
+        'abbrev pub all_nonterminals : List Nonterminal',
+        f'all_nonterminals = {listed(grammar.nonterminals, "nonterminals")}',
+        '',
+        '-- the entries of all nonterminals behind one another, and where each begins',
+        'abbrev pub all_entries : List (Terminal × Production)',
+        'all_entries = flat (map entries all_nonterminals)',
+        '',
+        'abbrev pub entry_starts : List ℕ',
+        'entry_starts = starts_of 0 (map entries all_nonterminals)',
+        '',
+        'abbrev pub all_rests : List (Option Production)',
+        'all_rests = map rest all_nonterminals',
+    ]
+
+
+def by_cases(name, kind, letter, statement, first, visible=''):
+    """A statement that computes to an equation of like sides for each variant of a type."""
+    return ['', f'{visible}{name} : ({letter} : {kind}) → {statement}', f'{name} {kind.lower()}s.{first} = refl', f'{name} _ = refl']
+
+
+def write_lemmas(grammar, crate):
+    out = [
+        '-- The rows of the tables in code are those of the grammar.',
+        'use Rattle.std.proofs.Common.{◌≡◌, refl, true}',
+        'use Rattle.std.specs.Prelude.{nat_lt, length, slice_get, Some}',
+        'use denote.Enum.Declared.{tag_of}',
+        'use Rattle.grammar.specs.Rows.{has_row, row_of}',
+    ] + uses(crate, 'Nonterminal', 'Production') + [use_type(crate, name) for name in ('Nonterminal', 'Production')] + [
+        f'use Rattle.{crate}.specs.Table.{{symbols, all_symbols, symbol_starts}}',
+        f'use Rattle.{crate}.specs.ParseTable.{{entries, rest, all_entries, entry_starts, all_rests}}',
+    ]
+    p, n = ('Production', 'p', 'tag_of production_type p', grammar.productions[0]), ('Nonterminal', 'n', 'tag_of nonterminal_type n', grammar.nonterminals[0])
+    for name, (kind, letter, number, first), statement in (
+        ('symbols_stand', p, 'has_row all_symbols symbol_starts ({}) ≡ true'),
+        ('symbols_found', p, 'row_of all_symbols symbol_starts ({}) ≡ symbols p'),
+        ('entries_stand', n, 'has_row all_entries entry_starts ({}) ≡ true'),
+        ('entries_found', n, 'row_of all_entries entry_starts ({}) ≡ entries n'),
+        ('rest_stands', n, 'nat_lt ({}) (length all_rests) ≡ true'),
+        ('rest_found', n, 'slice_get all_rests ({}) ≡ Some (rest n)'),
+    ):
+        out += by_cases(name, kind, letter, statement.format(number), first, 'pub ')
     return out
+
+
+def write_invariant(grammar, crate):
+    return [
+        '-- The search of an entry: what the entries still to come have is what all have.',
+        'use Rattle.std.proofs.Common.{◌≡◌, drop}',
+        'use denote.Enum.Bare.{sameb}',
+        'use Rattle.grammar.specs.Rows.{found}',
+        use_type(crate, 'Terminal'),
+        f'use Rattle.{crate}.proofs.parse_table.chosen.Given as goal',
+        '',
+        'abbrev pub invariant-loop-terminal : goal.invariant-loop-terminal',
+        'invariant-loop-terminal l =',
+        '    found (sameb terminal_type) l.seen l.choices l.other ≡ found (sameb terminal_type) l.seen (drop l.terminal-index l.choices) l.other',
+    ]
 
 
 def write_certificate(grammar, crate):
@@ -306,84 +483,90 @@ def write_certificate(grammar, crate):
         '-- FIRST and FOLLOW of each nonterminal, and the other tables that show the grammar sound.',
         'use Rattle.std.specs.Prelude.{ℕ, Bool, true, false, List, [], ◌∷◌}',
         'use Rattle.grammar.specs.Certificate.{Nullable, Never, Before, Always}',
-    ]
-    for name in ('Terminal', 'Nonterminal', 'Production'):
-        out += [f'use Rattle.{crate}.specs.declared.table.{name}.{{{name}}}', f'use Rattle.{crate}.specs.declared.table.{name}.TheVariants as {name.lower()}s']
-
-    def table(comment, name, kind, value):
-        rows = [(f'nonterminals.{n}', value(n)) for n in grammar.nonterminals]
-        return ['', f'-- {comment}', f'abbrev pub {name} : Nonterminal → {kind}'] + clauses(name, rows)
+    ] + uses(crate, *TYPES) + ['', 'abbrev pub all_terminals : List Terminal', f'all_terminals = {listed(grammar.terminals)}']
 
     def nullable(n):
         vacant = grammar.nullable[n]
         return 'Never' if vacant is None else 'Always' if vacant is ALL else f'Before ({items(grammar, vacant)})'
 
-    out += ['', 'abbrev pub all_terminals : List Terminal', 'all_terminals = ' + listed(grammar.terminals)]
-    out += table('what may begin it', 'first', 'List Terminal', lambda n: items(grammar, grammar.first[n]))
-    out += table('what may follow it', 'follow', 'List Terminal', lambda n: items(grammar, grammar.follow[n]))
-    out += table('before which it may be empty', 'nullable', 'Nullable Terminal', nullable)
-    out += table('more than all that it may begin with', 'cost', 'ℕ', lambda n: str(grammar.cost[n]))
-    out += table('a short text of it', 'closing', 'List Terminal', lambda n: listed(grammar.closing[n]))
-    out += table('the production of that text', 'shortest', 'Production', lambda n: f'productions.{grammar.shortest[n]}')
-    out += table('how deep that text is', 'height', 'ℕ', lambda n: str(grammar.height[n]))
-    out += table('before which terminals that text stands', 'before', 'List Terminal', lambda n: items(grammar, grammar.before[n]))
-    out += table('whether its texts have no end of the text', 'inner', 'Bool', lambda n: 'true' if grammar.inner[n] else 'false')
+    for comment, name, kind, value in (
+        ('what may begin it', 'first', 'List Terminal', lambda n: items(grammar, grammar.first[n])),
+        ('what may follow it', 'follow', 'List Terminal', lambda n: items(grammar, grammar.follow[n])),
+        ('before which it may be empty', 'nullable', 'Nullable Terminal', nullable),
+        ('more than all that it may begin with', 'cost', 'ℕ', lambda n: str(grammar.cost[n])),
+        ('a short text of it', 'closing', 'List Terminal', lambda n: listed(grammar.closing[n])),
+        ('the production of that text', 'shortest', 'Production', lambda n: f'productions.{grammar.shortest[n]}'),
+        ('how deep that text is', 'height', 'ℕ', lambda n: str(grammar.height[n])),
+        ('before which terminals that text stands', 'before', 'List Terminal', lambda n: items(grammar, grammar.before[n])),
+        ('whether its texts have no end of the text', 'inner', 'Bool', lambda n: 'true' if grammar.inner[n] else 'false'),
+    ):
+        rows = [(f'nonterminals.{n}', value(n)) for n in grammar.nonterminals]
+        out += ['', f'-- {comment}', f'abbrev pub {name} : Nonterminal → {kind}'] + clauses(name, rows)
     return out
 
 
+# Each test of the certificate that holds of all terminals, nonterminals or productions: its name, of which it holds, and what computes to true.
+LAWS = (
+    ('terminals', 'Terminal', 'member certificate k all_terminals'),
+    ('first', 'Production', 'subset certificate (first_symbols certificate (symbols p)) (first (nonterminal_of p))'),
+    ('nullable', 'Production', 'covers grammar certificate p (nullable_symbols certificate (symbols p)) (nullable (nonterminal_of p))'),
+    ('predicts_first', 'Production', 'predicts certificate (nonterminal_of p) p (first_symbols certificate (symbols p))'),
+    ('predicts_empty', 'Production', 'predicts_allowed grammar certificate (nonterminal_of p) p '
+        '(through certificate (nullable_symbols certificate (symbols p)) (follow (nonterminal_of p)))'),
+    ('follow', 'Production', 'follows certificate (nonterminal_of p) (symbols p)'),
+    ('offers', 'Nonterminal', 'all_offered grammar certificate n all_terminals'),
+    ('cost', 'Production', 'nat_lt (suc (opening_cost certificate (symbols p))) (cost (nonterminal_of p))'),
+    ('closing', 'Nonterminal', 'same_list certificate (closing n) (closings certificate (symbols (shortest n)))'),
+    ('height', 'Nonterminal', 'is_below certificate (height n) (symbols (shortest n))'),
+    ('begins', 'Nonterminal', 'begins_by certificate n (shortest n) (closing n)'),
+    ('fits', 'Production', 'can_close certificate (λ m. subset certificate (before (nonterminal_of p)) (before m)) (symbols p)'),
+    ('inner', 'Production', 'implies (inner (nonterminal_of p)) (all_inner certificate (symbols p))'),
+)
+
+
 def write_laws(grammar, crate, language):
+    firsts = {'Terminal': ('k', grammar.terminals[0]), 'Nonterminal': ('n', grammar.nonterminals[0]), 'Production': ('p', grammar.productions[0])}
     out = [
         '-- The tables are sound: each test computes to true, for each terminal, nonterminal and production.',
         'use Rattle.std.specs.Prelude.{◌≡◌, Bool, true, false, suc, nat_lt, List, refl}',
-    ]
-    for name in ('Terminal', 'Nonterminal', 'Production'):
-        out += [f'use Rattle.{crate}.specs.declared.table.{name}.{{{name}}}', f'use Rattle.{crate}.specs.declared.table.{name}.TheVariants as {name.lower()}s']
-    out += [
+    ] + uses(crate, *TYPES) + [
         'use Rattle.grammar.specs.Lookahead.{implies}',
-        'use Rattle.grammar.specs.Certificate.{IsSound, member, subset, nullable_symbols, through, first_symbols, predicts, predicts_allowed, follows, opening_cost, same_list, closings, is_below, begins_by, can_close, all_inner, covers, all_offered}',
+        'use Rattle.grammar.specs.Certificate.{IsSound, member, subset, nullable_symbols, through, first_symbols, predicts, predicts_allowed, follows, '
+        'opening_cost, same_list, closings, is_below, begins_by, can_close, all_inner, covers, all_offered}',
         'use denote.Enum.Bare.{same_true, true_same}',
-    ]
-    out += [f'use Rattle.{crate}.specs.contracts.table.{name}.{{the_type as {name.lower()}_type}}' for name in ('Terminal', 'Nonterminal', 'Production')]
-    out += [
+    ] + [use_type(crate, name) for name in TYPES] + [
         f'use Rattle.{crate}.specs.{language}.{{grammar, certificate}}',
         f'use Rattle.{crate}.specs.Table.{{symbols, nonterminal_of}}',
         f'use Rattle.{crate}.specs.LookaheadTables.{{all_terminals, first, follow, nullable, cost, closing, shortest, height, before, inner}}',
     ]
-
-    def law(name, kind, letter, statement, keys):
-        return ['', f'{name} : ({letter} : {kind}) → {statement} ≡ true', f'{name} {kind.lower()}s.{keys[0]} = refl', f'{name} _ = refl']
-
-    t, n, p = grammar.terminals, grammar.nonterminals, grammar.productions
-    out += law('terminals_law', 'Terminal', 'k', 'member certificate k all_terminals', t)
-    out += law('first_law', 'Production', 'p', 'subset certificate (first_symbols certificate (symbols p)) (first (nonterminal_of p))', p)
-    out += law('nullable_law', 'Production', 'p', 'covers grammar certificate p (nullable_symbols certificate (symbols p)) (nullable (nonterminal_of p))', p)
-    out += law('predicts_first_law', 'Production', 'p', 'predicts certificate (nonterminal_of p) p (first_symbols certificate (symbols p))', p)
-    out += law('predicts_empty_law', 'Production', 'p', 'predicts_allowed grammar certificate (nonterminal_of p) p (through certificate (nullable_symbols certificate (symbols p)) (follow (nonterminal_of p)))', p)
-    out += law('follow_law', 'Production', 'p', 'follows certificate (nonterminal_of p) (symbols p)', p)
-    out += law('offers_law', 'Nonterminal', 'n', 'all_offered grammar certificate n all_terminals', n)
-    out += law('cost_law', 'Production', 'p', 'nat_lt (suc (opening_cost certificate (symbols p))) (cost (nonterminal_of p))', p)
-    out += law('closing_law', 'Nonterminal', 'n', 'same_list certificate (closing n) (closings certificate (symbols (shortest n)))', n)
-    out += law('height_law', 'Nonterminal', 'n', 'is_below certificate (height n) (symbols (shortest n))', n)
-    out += law('begins_law', 'Nonterminal', 'n', 'begins_by certificate n (shortest n) (closing n)', n)
-    out += law('fits_law', 'Production', 'p', 'can_close certificate (λ m. subset certificate (before (nonterminal_of p)) (before m)) (symbols p)', p)
-    out += law('inner_law', 'Production', 'p', 'implies (inner (nonterminal_of p)) (all_inner certificate (symbols p))', p)
-    out += ['', 'example_law : (k : Terminal) → grammar.terminal_of (certificate.example k) ≡ k', f'example_law terminals.{t[0]} = refl', 'example_law _ = refl']
-    same = [f"    same_{x} = record {{ is = same_true {x}_type tt; own = λ a. true_same {x}_type a a refl }};" for x in ('terminal', 'nonterminal', 'production')]
-    fields = ['terminals', 'first', 'nullable', 'predicts_first', 'predicts_empty', 'follow', 'offers', 'cost', 'example', 'closing', 'height', 'begins', 'fits', 'inner']
-    out += ['', 'pub sound : IsSound grammar certificate', 'sound = record {'] + same
-    out += [f'    {x} = {x}_law;' for x in fields] + ['    start_fits = refl;', '    ends = refl;', '}']
-    return out
+    for name, kind, test in LAWS:
+        letter, first = firsts[kind]
+        out += by_cases(f'{name}_law', kind, letter, f'{test} ≡ true', first)
+    out += by_cases('example_law', 'Terminal', 'k', 'grammar.terminal_of (certificate.example k) ≡ k', grammar.terminals[0])
+    out += ['', 'pub sound : IsSound grammar certificate', 'sound = record {']
+    out += [f'    same_{x} = record {{ is = same_true {x}_type tt; own = λ a. true_same {x}_type a a refl }};' for x in map(str.lower, TYPES)]
+    out += [f'    {name} = {name}_law;' for name in [law[0] for law in LAWS] + ['example']]
+    return out + ['    start_fits = refl;', '    ends = refl;', '}']
 
 
 def main():
     source, crate, folder, language = sys.argv[1:]
     grammar = Grammar(open(source).read())
-    for path, lines in (('src/table.rt', write_rust(grammar, crate)), ('specs/Table.antt', write_table(grammar, crate)),
-                        ('specs/LookaheadTables.antt', write_certificate(grammar, crate)),
-                        (f'specs/{language}Sound.antt', write_laws(grammar, crate, language))):
+    for path, lines in (
+        ('src/table.rt', write_types(grammar)),
+        ('src/symbols.rt', write_symbols(grammar, crate)),
+        ('src/parse_table.rt', write_parse_table(grammar, crate)),
+        ('specs/Table.antt', write_table(grammar, crate)),
+        ('specs/ParseTable.antt', write_entries(grammar, crate)),
+        ('specs/LookaheadTables.antt', write_certificate(grammar, crate)),
+        (f'specs/{language}Sound.antt', write_laws(grammar, crate, language)),
+        ('proofs/TableLemmas.antt', write_lemmas(grammar, crate)),
+        ('proofs/parse_table/chosen/Invariants.antt', write_invariant(grammar, crate)),
+    ):
+        os.makedirs(os.path.dirname(f'{folder}/{path}'), exist_ok=True)
         open(f'{folder}/{path}', 'w').write('\n'.join(lines) + '\n')
-    entries = sum(len(row) for row in grammar.table.values())
-    print(f'{len(grammar.terminals)} terminals, {len(grammar.nonterminals)} nonterminals, {len(grammar.productions)} productions, {entries} entries')
+    count = sum(len(row) for row in grammar.table.values())
+    print(f'{len(grammar.terminals)} terminals, {len(grammar.nonterminals)} nonterminals, {len(grammar.productions)} productions, {count} entries')
 
 
 if __name__ == '__main__':

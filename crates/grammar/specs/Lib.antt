@@ -5,3 +5,4 @@ pub mod Descent
 pub mod Certificate
 pub mod Stack
 pub mod Answers
+pub mod Rows

@@ -4,7 +4,9 @@
 mod language;
 mod machine;
 mod parser;
+mod rows;
 mod stack;
 
 pub use language::{Event, Language, Symbol};
 pub use parser::parse;
+pub use rows::row;

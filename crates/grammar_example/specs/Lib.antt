@@ -1,4 +1,5 @@
 pub mod Table
+pub mod ParseTable
 pub mod LookaheadTables
 pub mod Outline
 pub mod OutlineSound

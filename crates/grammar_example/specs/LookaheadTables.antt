@@ -43,16 +43,16 @@ abbrev pub closing : Nonterminal → List Terminal
 closing nonterminals.Outline = terminals.TextEnd ∷ []
 closing nonterminals.Items = []
 closing nonterminals.Item = terminals.OpenBrace ∷ terminals.CloseBrace ∷ []
-closing nonterminals.ElsePart = terminals.Else ∷ terminals.OpenBrace ∷ terminals.CloseBrace ∷ []
-closing _ = terminals.LineEnd ∷ []
+closing nonterminals.Stop = terminals.LineEnd ∷ []
+closing _ = terminals.Else ∷ terminals.OpenBrace ∷ terminals.CloseBrace ∷ []
 
 -- the production of that text
 abbrev pub shortest : Nonterminal → Production
 shortest nonterminals.Outline = productions.Whole
 shortest nonterminals.Items = productions.Done
 shortest nonterminals.Item = productions.Braces
-shortest nonterminals.ElsePart = productions.Otherwise
-shortest _ = productions.StopLine
+shortest nonterminals.Stop = productions.StopLine
+shortest _ = productions.Otherwise
 
 -- how deep that text is
 abbrev pub height : Nonterminal → ℕ

@@ -19,7 +19,8 @@ use Rattle.grammar_example.specs.contracts.table.Terminal.{the_type as terminal_
 use Rattle.grammar_example.specs.contracts.table.Nonterminal.{the_type as nonterminal_type}
 use Rattle.grammar_example.specs.contracts.table.Production.{the_type as production_type}
 use Rattle.grammar_example.specs.declared.outline.Counts.{Counts}
-use Rattle.grammar_example.specs.Table.{symbols, nonterminal_of, allows, predict_at}
+use Rattle.grammar_example.specs.Table.{symbols, nonterminal_of, allows}
+use Rattle.grammar_example.specs.ParseTable.{predict_at}
 use Rattle.grammar_example.specs.LookaheadTables.{all_terminals, first, follow, nullable, cost, closing, shortest, height, before, inner}
 
 abbrev pub seen_kind : TokenKind → Terminal

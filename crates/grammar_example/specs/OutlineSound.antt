@@ -1,5 +1,5 @@
 -- The tables are sound: each test computes to true, for each terminal, nonterminal and production.
-use Rattle.std.specs.Prelude.{◌≡◌, true, suc, nat_lt, refl}
+use Rattle.std.specs.Prelude.{◌≡◌, Bool, true, false, suc, nat_lt, List, refl}
 use Rattle.grammar_example.specs.declared.table.Terminal.{Terminal}
 use Rattle.grammar_example.specs.declared.table.Terminal.TheVariants as terminals
 use Rattle.grammar_example.specs.declared.table.Nonterminal.{Nonterminal}
@@ -85,12 +85,12 @@ sound = record {
   follow = follow_law;
   offers = offers_law;
   cost = cost_law;
-  example = example_law;
   closing = closing_law;
   height = height_law;
   begins = begins_law;
   fits = fits_law;
   inner = inner_law;
+  example = example_law;
   start_fits = refl;
   ends = refl;
 }

@@ -1,7 +1,8 @@
--- The grammar as a table: the symbols of each production, where it may stand, and the parse table.
-use Rattle.std.specs.Prelude.{Bool, true, false, Option, Some, None, List, [], ◌∷◌}
+-- The grammar as a table: the symbols of each production, and where it may stand.
+use Rattle.std.specs.Prelude.{ℕ, Bool, true, false, List, [], ◌∷◌, map}
 use Rattle.grammar.specs.declared.language.Symbol.{Symbol}
 use Rattle.grammar.specs.declared.language.Symbol.TheVariants.{Terminal, Nonterminal}
+use Rattle.grammar.specs.Rows.{flat, starts_of}
 use Rattle.grammar_example.specs.declared.table.Terminal.{Terminal as ATerminal}
 use Rattle.grammar_example.specs.declared.table.Terminal.TheVariants as terminals
 use Rattle.grammar_example.specs.declared.table.Nonterminal.{Nonterminal as ANonterminal}
@@ -46,33 +47,12 @@ allows productions.StopNone terminals.TextEnd = true
 allows productions.StopNone _ = false
 allows _ _ = true
 
--- the parse table
-abbrev pub predict_at : ANonterminal → ATerminal → Option AProduction
-predict_at nonterminals.Outline terminals.Name = Some productions.Whole
-predict_at nonterminals.Outline terminals.Then = Some productions.Whole
-predict_at nonterminals.Outline terminals.OpenBrace = Some productions.Whole
-predict_at nonterminals.Outline terminals.LineEnd = Some productions.Whole
-predict_at nonterminals.Outline terminals.TextEnd = Some productions.Whole
-predict_at nonterminals.Outline _ = None
-predict_at nonterminals.Items terminals.Name = Some productions.More
-predict_at nonterminals.Items terminals.Then = Some productions.More
-predict_at nonterminals.Items terminals.OpenBrace = Some productions.More
-predict_at nonterminals.Items terminals.LineEnd = Some productions.Line
-predict_at nonterminals.Items _ = Some productions.Done
-predict_at nonterminals.Item terminals.Name = Some productions.Single
-predict_at nonterminals.Item terminals.Then = Some productions.Choice
-predict_at nonterminals.Item terminals.OpenBrace = Some productions.Braces
-predict_at nonterminals.Item _ = None
-predict_at nonterminals.ElsePart terminals.Name = Some productions.Nothing
-predict_at nonterminals.ElsePart terminals.Then = Some productions.Nothing
-predict_at nonterminals.ElsePart terminals.Else = Some productions.Otherwise
-predict_at nonterminals.ElsePart terminals.OpenBrace = Some productions.Nothing
-predict_at nonterminals.ElsePart terminals.CloseBrace = Some productions.Nothing
-predict_at nonterminals.ElsePart terminals.LineEnd = Some productions.Nothing
-predict_at nonterminals.ElsePart terminals.TextEnd = Some productions.Nothing
-predict_at nonterminals.ElsePart _ = None
-predict_at nonterminals.Stop terminals.CloseBrace = Some productions.StopNone
-predict_at nonterminals.Stop terminals.Semicolon = Some productions.StopSign
-predict_at nonterminals.Stop terminals.LineEnd = Some productions.StopLine
-predict_at nonterminals.Stop terminals.TextEnd = Some productions.StopNone
-predict_at nonterminals.Stop _ = None
+abbrev pub all_productions : List AProduction
+all_productions = productions.Whole ∷ productions.Line ∷ productions.More ∷ productions.Done ∷ productions.Braces ∷ productions.Choice ∷ productions.Single ∷ productions.Otherwise ∷ productions.Nothing ∷ productions.StopLine ∷ productions.StopSign ∷ productions.StopNone ∷ []
+
+-- the symbols of all productions behind one another, and where each begins
+abbrev pub all_symbols : List (Symbol ATerminal ANonterminal)
+all_symbols = flat (map symbols all_productions)
+
+abbrev pub symbol_starts : List ℕ
+symbol_starts = starts_of 0 (map symbols all_productions)

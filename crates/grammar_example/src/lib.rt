@@ -2,6 +2,8 @@
 #![tactic(auto)]
 
 mod outline;
+mod parse_table;
+mod symbols;
 mod table;
 
 pub use outline::{Outline, read};

@@ -6,7 +6,9 @@ ghost use Rattle.grammar.specs.Answers.{Answers};
 ghost use Rattle.grammar_example.specs.Outline.{grammar as outlines, text_of, meter, certificate, seen, joined, written};
 ghost use Rattle.grammar.specs.Stack.{piled};
 
-use crate::table::{self, Nonterminal, Production, Terminal};
+use crate::parse_table::predict;
+use crate::symbols::symbol_at;
+use crate::table::{Nonterminal, Production, Terminal};
 use grammar::{Event, Language, Symbol};
 use ground::{Refusal, Sign, Text, Token, TokenKind};
 use std::alloc::{AllocError, Global};
@@ -103,11 +105,11 @@ impl Language for Outline {
     }
 
     fn predict(nonterminal: Nonterminal, terminal: Terminal) -> Option<Production> {
-        table::predict(nonterminal, terminal)
+        predict(nonterminal, terminal)
     }
 
     fn symbol_at(production: Production, place: usize) -> Option<Symbol<Terminal, Nonterminal>> {
-        table::symbol_at(production, place)
+        symbol_at(production, place)
     }
 
     fn token_value(alloc: Global, token: &Token) -> Result<Text, AllocError> {

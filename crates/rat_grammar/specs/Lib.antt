@@ -1,4 +1,5 @@
 pub mod Table
+pub mod ParseTable
 pub mod LookaheadTables
 pub mod Words
 pub mod Values

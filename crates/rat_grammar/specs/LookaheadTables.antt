@@ -368,7 +368,6 @@ shortest nonterminals.Outcome = productions.NoOutcome
 shortest nonterminals.Lines = productions.NoLine
 shortest nonterminals.Clauses = productions.NoClause
 shortest nonterminals.Clause = productions.DefaultClause
-shortest nonterminals.Plain = productions.ContinuePlain
 shortest nonterminals.Simple = productions.Invocation
 shortest nonterminals.GoWords = productions.GotoWord
 shortest nonterminals.Target = productions.OneTarget
@@ -412,6 +411,7 @@ shortest nonterminals.NextField = productions.NextSlash
 shortest nonterminals.AfterSlash = productions.SlashDone
 shortest nonterminals.Edit = productions.WordEdit
 shortest nonterminals.Counted = productions.CountedWord
+shortest nonterminals.Expr = productions.Expr
 shortest nonterminals.OrTail = productions.OrDone
 shortest nonterminals.Conjunction = productions.Conjunction
 shortest nonterminals.AndTail = productions.AndDone
@@ -432,7 +432,7 @@ shortest nonterminals.Subscripts = productions.Subscripts
 shortest nonterminals.ExprMore = productions.NoMoreExpr
 shortest nonterminals.AnyName = productions.PlainName
 shortest nonterminals.AnyNumber = productions.OctalNumber
-shortest _ = productions.Expr
+shortest _ = productions.ContinuePlain
 
 -- how deep that text is
 abbrev pub height : Nonterminal → ℕ

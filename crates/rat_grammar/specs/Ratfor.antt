@@ -20,7 +20,8 @@ use Rattle.rat_tree.specs.Views.{program_of}
 use Rattle.rat_grammar.specs.Words.{seen}
 use Rattle.rat_grammar.specs.Values.{Val, tok, program}
 use Rattle.rat_grammar.specs.Build.{build}
-use Rattle.rat_grammar.specs.Table.{symbols, nonterminal_of, allows, predict_at}
+use Rattle.rat_grammar.specs.Table.{symbols, nonterminal_of, allows}
+use Rattle.rat_grammar.specs.ParseTable.{predict_at}
 use Rattle.rat_grammar.specs.LookaheadTables.{all_terminals, first, follow, nullable, cost, closing, shortest, height, before, inner}
 
 abbrev pub grammar : Grammar Token Terminal Nonterminal Production Val

@@ -85,12 +85,12 @@ sound = record {
   follow = follow_law;
   offers = offers_law;
   cost = cost_law;
-  example = example_law;
   closing = closing_law;
   height = height_law;
   begins = begins_law;
   fits = fits_law;
   inner = inner_law;
+  example = example_law;
   start_fits = refl;
   ends = refl;
 }

@@ -7,7 +7,7 @@ use grammar::Event;
 use std::alloc::AllocError;
 
 /// The counts at a token.
-#[derive(Clone, Copy, Debug, PartialEq, Eq)]
+#[derive(Clone, Copy)]
 pub struct Counts {
     /// Blocks, control statements, parentheses and unary operators around the token.
     pub nesting: u64,

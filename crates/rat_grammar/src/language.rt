@@ -14,7 +14,9 @@ ghost use Rattle.rat_grammar.specs.Ratfor.{grammar as ratfor, certificate, whole
 use crate::build;
 use crate::counts::{self, Counts};
 use crate::lists::NOWHERE;
-use crate::table::{self, Nonterminal, Production, Terminal};
+use crate::parse_table::predict;
+use crate::symbols::symbol_at;
+use crate::table::{Nonterminal, Production, Terminal};
 use crate::terminals::terminal_at;
 use crate::value::Value;
 use grammar::{Event, Language, Symbol};
@@ -64,11 +66,11 @@ impl Language for Ratfor {
     }
 
     fn predict(nonterminal: Nonterminal, terminal: Terminal) -> Option<Production> {
-        table::predict(nonterminal, terminal)
+        predict(nonterminal, terminal)
     }
 
     fn symbol_at(production: Production, place: usize) -> Option<Symbol<Terminal, Nonterminal>> {
-        table::symbol_at(production, place)
+        symbol_at(production, place)
     }
 
     fn token_value(alloc: Global, token: &Token) -> Result<Value, AllocError> {

@@ -9,7 +9,9 @@ mod expressions;
 mod formats;
 mod language;
 mod lists;
+mod parse_table;
 mod plain;
+mod symbols;
 mod table;
 mod terminals;
 #[cfg(test)]

@@ -7,7 +7,7 @@ use ground::{List, Place, Token};
 use rat_tree::{RatCase, RatProgram, RatStmt, RatUnit};
 
 /// What a symbol gave. Lists stand in it with their last item first.
-#[derive(Debug, Drop)]
+#[derive(Drop)]
 pub enum Value {
     Nothing,
     Token(Token),
@@ -51,7 +51,7 @@ pub enum Value {
 }
 
 /// The parameters of a DO.
-#[derive(Debug, Drop)]
+#[derive(Drop)]
 pub struct Range {
     pub first: Par,
     pub last: Par,
@@ -59,7 +59,7 @@ pub struct Range {
 }
 
 /// The later entries of an implied DO, the last first, with its variable and parameters.
-#[derive(Debug, Drop)]
+#[derive(Drop)]
 pub struct LoopRest {
     pub list: Vec<Entry>,
     pub variable: Name,
