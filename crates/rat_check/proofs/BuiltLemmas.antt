@@ -1,11 +1,10 @@
 -- Lists of one entry and of one field.
-use Rattle.std.proofs.Common.{◌≡◌, ℕ, nat_eq, Bool, true, false, List, [], ◌∷◌, length, refl, sym, ◌∙◌}
+use Rattle.std.proofs.Common.{◌≡◌, nat_eq, false, List, [], ◌∷◌, length, refl, sym, ◌∙◌}
 use Rattle.std.proofs.lemmas.Bool.{ne_eqb}
 use Rattle.f66_tree.specs.declared.statement.Entry.{Entry}
 use Rattle.f66_tree.specs.declared.format.Field.{Field}
 use Rattle.f66_tree.specs.declared.format.Field as f
-use Rattle.f66_tree.specs.declared.editing.EditKind.TheVariants as edits
-use Rattle.f66_tree.specs.Fields.{Fields, NoField, Single, Group, Takes, Blanks, Chars, Slash}
+use Rattle.f66_tree.specs.Fields.{Fields}
 use Rattle.f66_tree.specs.Forms as forms
 use Rattle.f66_tree.specs.Forms.{Number, Fact, Letter, Variable, Applied, Grouped, Positive, Negative, Negated, Joined, One, Many, Entries, NoEntry, AndEntry}
 use Rattle.f66_tree.specs.Views.{entry_of, entries_of, field_then, fields_of}

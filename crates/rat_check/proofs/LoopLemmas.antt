@@ -1,10 +1,10 @@
 -- The walk over a list of statements and over a list of clauses.
-use Rattle.std.proofs.Common.{◌≡◌, ℕ, zero, suc, ◌+◌, ◌<◌, List, [], ◌∷◌, ◌++◌, length, drop, get_or, None, Bool, ◌&&◌, ◌||◌, refl, ap, ◌∙◌, sym, arith}
+use Rattle.std.proofs.Common.{◌≡◌, ℕ, suc, ◌+◌, ◌<◌, List, ◌++◌, length, drop, get_or, None, Bool, ◌&&◌, ◌||◌, ap, ◌∙◌, sym, arith}
 use Rattle.std.proofs.Math.Seq.{drop-cons}
 use Rattle.f66_tree.specs.Views.{formulas_of}
 use Rattle.rat_tree.specs.declared.program.RatStmt.{RatStmt}
 use Rattle.rat_tree.specs.declared.program.RatCase.{RatCase, out-RatCase, roll-out-RatCase}
-use Rattle.rat_tree.specs.Commands.{Commands, AndCommand, Clauses, AndClause}
+use Rattle.rat_tree.specs.Commands.{AndCommand, Clauses, AndClause}
 use Rattle.rat_tree.specs.Views.{command, commands, clause_then, clauses}
 use Rattle.rat_tree.proofs.Rows.{case_clause}
 use Rattle.rat_check.specs.Parts.{Part, parts_of, parts_in, clause_parts}
@@ -27,8 +27,8 @@ pub statement_passed : (list : List RatStmt) (i : ℕ) (x : RatStmt) (k : ℕ) (
     (s2.reach ≡ s0.reach) × (noting_all (parts_in k (is_among s0.reach) (commands (drop (i + 1) list))) s2 ≡ all)
 statement_passed list i x k s0 s1 s2 all lt is reach noted next =
     passed s0 s1 s2 all (parts_of k (is_among s0.reach) None (command x)) (parts_in k (is_among s0.reach) (commands (drop (i + 1) list))) reach
-      (ap (λ ss. noting_all (parts_in k (is_among s0.reach) ss) s1) (sym (next_command list i x lt is)) ∙ noted)
-      (next ∙ ap (λ r. noting_all (parts_of k (is_among r) None (command x)) s1) reach)
+    (ap (λ ss. noting_all (parts_in k (is_among s0.reach) ss) s1) (sym (next_command list i x lt is)) ∙ noted)
+    (next ∙ ap (λ r. noting_all (parts_of k (is_among r) None (command x)) s1) reach)
 
 clause_is : (c : RatCase) (rest : Clauses) → clause_then c rest ≡ AndClause (formulas_of (out-RatCase c).tests.items) (out-RatCase c).fallback (commands (out-RatCase c).body.items) (out-RatCase c).place rest
 clause_is c rest =
@@ -47,5 +47,5 @@ pub clause_passed : (list : List RatCase) (i : ℕ) (c : RatCase) (k : ℕ) (see
 clause_passed list i c k seen s0 s1 s2 all lt is reach noted next =
     let second = seen && (out-RatCase c).fallback in
     passed s0 s1 s2 all (case_parts k (is_among s0.reach) second c) (clause_parts k (is_among s0.reach) (seen || (out-RatCase c).fallback) (clauses (drop (i + 1) list))) reach
-      (ap (λ cs. noting_all (clause_parts k (is_among s0.reach) seen cs) s1) (sym (next_clause list i c lt is)) ∙ noted)
-      (next ∙ ap (λ r. noting_all (case_parts k (is_among r) second c) s1) reach)
+    (ap (λ cs. noting_all (clause_parts k (is_among s0.reach) seen cs) s1) (sym (next_clause list i c lt is)) ∙ noted)
+    (next ∙ ap (λ r. noting_all (case_parts k (is_among r) second c) s1) reach)

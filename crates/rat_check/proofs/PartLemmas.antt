@@ -1,6 +1,5 @@
 -- Parts and surveys, which the walk's arms are made of.
-use Rattle.std.proofs.Common.{◌≡◌, ℕ, suc, ◌⊎◌, inl, inr, ◌≢◌, subst, Option, None, Some, List, [], ◌∷◌, ◌++◌, take, length, map, Vec, Global, refl, ap, ◌∙◌, sym, true, false, Bool, nat_eq, ◌||◌, if◌then◌else◌}
-use Rattle.std.specs.List.{list_any}
+use Rattle.std.proofs.Common.{◌≡◌, ℕ, ◌⊎◌, inl, inr, ◌≢◌, subst, Option, None, Some, List, [], ◌∷◌, ◌++◌, take, length, refl, ap, ◌∙◌, sym, true, false, Bool, nat_eq, ◌||◌, if◌then◌else◌}
 use Rattle.std.proofs.lemmas.Grind.{common_steps}
 use Rattle.std.proofs.lemmas.Bool.Decides.{eqb_tells}
 use Rattle.std.proofs.lemmas.List.{append-nil, append_assoc}
@@ -10,8 +9,8 @@ use Rattle.std.proofs.Math.Seq.{take-append_seam}
 use Rattle.ground.specs.declared.place.Place.{Place}
 use Rattle.rat_tree.specs.Commands.{Command, Commands, NoCommand, AndCommand}
 use Rattle.rat_tree.specs.Views.{labelled}
-use Rattle.rat_check.specs.Parts.{Labels, with_label, target_of, with_labels, Part, parts_of, parts_in, clause_parts}
-use Rattle.rat_check.specs.Survey.{is_among, adding, adding_if, adding_all, Survey, noting, noting_all, reaching}
+use Rattle.rat_check.specs.Parts.{Labels, with_label, target_of, with_labels, Part, parts_of, parts_in}
+use Rattle.rat_check.specs.Survey.{is_among, adding_if, adding_all, Survey, noting, noting_all, reaching}
 
 pub parts-labelled : (k : ℕ) (r : Labels) (l : Option ℕ) (p : Place) (c : Command) → parts_of k r None (labelled l p c) ≡ parts_of k r l c
 parts-labelled k r None p c = refl
@@ -96,7 +95,7 @@ list_noted s s1 s2 s3 k ss n count first second third =
     let inside = adding_all ss s.reach in
     let vs = parts_in k (with_labels ss (is_among s.reach)) ss in
     let noted : s2 ≡ noting_all vs (reaching inside s) =
-        second ∙ ap (λ x. noting_all (parts_in k (is_among x.reach) ss) x) first ∙ ap (λ r. noting_all (parts_in k r ss) (reaching inside s)) (among_adding_all ss s.reach) in
+    second ∙ ap (λ x. noting_all (parts_in k (is_among x.reach) ss) x) first ∙ ap (λ r. noting_all (parts_in k r ss) (reaching inside s)) (among_adding_all ss s.reach) in
     let reach : s2.reach ≡ inside = ap (λ x. x.reach) noted ∙ noting-reach vs (reaching inside s) in
     third ∙ ap (λ m. reaching (take m s2.reach) s2) count ∙ ap (λ q. reaching (take (length s.reach) q) s2) reach
     ∙ ap (λ q. reaching q s2) (left_again ss s.reach) ∙ ap (reaching s.reach) noted ∙ noting-reaching vs s.reach inside s

@@ -1,5 +1,5 @@
 -- The parts of the statements in memory that hold others.
-use Rattle.std.proofs.Common.{◌≡◌, ℕ, suc, Option, None, Some, List, [], ◌∷◌, ◌++◌, Vec, Box, Global, Result, OnOk, false, refl, ap, ◌∙◌, sym}
+use Rattle.std.proofs.Common.{◌≡◌, ℕ, suc, Option, None, Some, List, ◌∷◌, ◌++◌, Vec, Box, Global, Result, OnOk, false, ap, ◌∙◌, sym}
 use Rattle.std.proofs.lemmas.List.{append-nil}
 use Rattle.std.proofs.lemmas.Result.{on_ok_weaker}
 use Rattle.ground.specs.declared.place.Place.{Place}
@@ -21,14 +21,14 @@ pub block_parts : (k : ℕ) (r : Labels) (s : RatStmt) (list : Vec RatStmt Globa
 block_parts k r s list items is at =
     ap (λ xs. part k r s.label s.place Rests ∷ parts_in k (with_labels (commands xs) r) (commands xs)) at
     ∙ sym (ap (λ kind. parts_of k r None (command_of s.label s.place kind)) is ∙ ap (parts_of k r None) (block_commands s.label s.place list)
-      ∙ parts-labelled k r s.label s.place (Together s.place (commands list.items)))
+    ∙ parts-labelled k r s.label s.place (Together s.place (commands list.items)))
 
 pub switch_parts : (k : ℕ) (r : Labels) (s : RatStmt) (e : Expr) (list : Vec RatCase Global) (items : List RatCase) → s.kind ≡ Switch e list → items ≡ list.items →
     part k r s.label s.place (Takes (formula_of e)) ∷ clause_parts k r false (clauses items) ≡ parts_of k r None (command s)
 switch_parts k r s e list items is at =
     ap (λ xs. part k r s.label s.place (Takes (formula_of e)) ∷ clause_parts k r false (clauses xs)) at
     ∙ sym (ap (λ kind. parts_of k r None (command_of s.label s.place kind)) is ∙ ap (parts_of k r None) (switch_clauses s.label s.place e list)
-      ∙ parts-labelled k r s.label s.place (Switches s.place (formula_of e) (clauses list.items)))
+    ∙ parts-labelled k r s.label s.place (Switches s.place (formula_of e) (clauses list.items)))
 
 pub if_parts : (k : ℕ) (r : Labels) (s : RatStmt) (e : Expr) (body : Box RatStmt Global) (other : Option (Box RatStmt Global)) → s.kind ≡ If e body other →
     part k r s.label s.place (Asks (formula_of e)) ∷ (parts_of k r None (command body.value) ++ other_parts k r other) ≡ parts_of k r None (command s)

@@ -1,13 +1,13 @@
 -- The first fault of the checks of a Ratfor program: unit by unit; in a unit first what is not built yet, then the first
 -- part in reading order that breaks a rule, and of its rules that with the smallest number.
-use Rattle.std.specs.Prelude.{ℕ, Bool, true, false, List, [], ◌∷◌, Option, Some, None, Result, Ok, Err, ◌≡◌, ⊤, if◌then◌else◌}
+use Rattle.std.specs.Prelude.{ℕ, List, [], ◌∷◌, Option, Some, None, Result, Ok, Err, ◌≡◌, ⊤, if◌then◌else◌}
 use Rattle.ground.specs.declared.place.Place.{Place}
 use Rattle.ground.specs.declared.fault.Fault.{Fault}
 use Rattle.ground.specs.declared.fault.FaultKind.{FaultKind}
 use Rattle.ground.specs.declared.fault.FaultKind.TheVariants.{Unbuilt}
 use Rattle.ground.specs.declared.fault.Refusal.{Refusal}
 use Rattle.ground.specs.declared.fault.Refusal.TheVariants.{Fault as Faulty, Memory}
-use Rattle.f66_tree.specs.Forms.{Act, Formats}
+use Rattle.f66_tree.specs.Forms.{Formats}
 use Rattle.f66_tree.specs.Units.{is_main}
 use Rattle.rat_tree.specs.Commands.{RatRoutine, RatProgram}
 use Rattle.rat_check.specs.Parts.{Form, Says, Labels, no_label, with_label, Part, unit_parts}

@@ -1,7 +1,7 @@
 -- The parts of a Ratfor unit in reading order, each with what its rules ask of the statements around it. The words of a
 -- control statement with what stands in its parentheses are one part; the condition of `until` and each clause of a switch
 -- are parts of their own, at their own places (Kernighan, Ratfor: A Preprocessor for a Rational Fortran, 1975).
-use Rattle.std.specs.Prelude.{ℕ, suc, nat_eq, Bool, true, false, ◌&&◌, ◌||◌, List, [], ◌∷◌, ◌++◌, Option, Some, None, if◌then◌else◌}
+use Rattle.std.specs.Prelude.{ℕ, suc, nat_eq, Bool, false, ◌&&◌, ◌||◌, List, [], ◌∷◌, ◌++◌, Option, Some, None, if◌then◌else◌}
 use Rattle.ground.specs.declared.place.Place.{Place}
 use Rattle.f66_tree.specs.Forms.{Text, Formula, Formulas, Par, Act}
 use Rattle.f66_tree.specs.Units.{is_note}
@@ -56,6 +56,11 @@ abbrev pub with_labels : Commands → Labels → Labels
 with_labels NoCommand r = r
 with_labels (AndCommand c ss) r = with_labels ss (with_label (target_of c) r)
 
+-- a statement behind two labels has both: the first is a part by itself
+abbrev pub with_mark : ℕ → Labels → Option ℕ → Place → List Part → List Part
+with_mark k r None p vs = vs
+with_mark k r (Some l) p vs = part k r (Some l) p Rests ∷ vs
+
 abbrev mutual
   pub parts_of : ℕ → Labels → Option ℕ → Command → List Part
   parts_of k r l (Empty p) = part k r l p Rests ∷ []
@@ -71,8 +76,8 @@ abbrev mutual
   parts_of k r l (Leaves p n) = part k r l p (Leaving n) ∷ []
   parts_of k r l (Turns p n) = part k r l p (Leaving n) ∷ []
   parts_of k r l (GivesBack p e) = part k r l p Returning ∷ []
-  parts_of k r l (Plainly m p a) = part k r m p (Says a) ∷ []
-  parts_of k r l (Marked m p c) = parts_of k r (Some m) c
+  parts_of k r l (Plainly m p a) = with_mark k r l p (part k r m p (Says a) ∷ [])
+  parts_of k r l (Marked m p c) = with_mark k r l p (parts_of k r (Some m) c)
 
   pub parts_in : ℕ → Labels → Commands → List Part
   parts_in k r NoCommand = []

@@ -1,14 +1,14 @@
 -- The rules that each part keeps (X3.9-1966, sections 3.4, 3.5, 5.3, 7.1.2 and 7.2.3; Kernighan's Ratfor). What is not built
 -- yet is told before all of them, so that they speak of built parts alone.
-use Rattle.std.specs.Prelude.{ℕ, ℤ, zero, suc, nat_eq, nat_le, nat_lt, Bool, true, false, not, ◌&&◌, ◌||◌, List, [], ◌∷◌, length, Option, Some, None, if◌then◌else◌}
+use Rattle.std.specs.Prelude.{ℕ, nat_eq, nat_le, nat_lt, Bool, true, false, not, ◌&&◌, ◌||◌, length, Option, Some, None}
 use Rattle.std.specs.List.{list_all}
 use Rattle.ground.specs.declared.fault.FaultKind.{FaultKind}
 use Rattle.ground.specs.declared.fault.FaultKind.TheVariants.{NameTooLong, OutOfProfileType, BadLabel, BadBreak, DuplicateCase, BadFormat}
 use Rattle.f66_tree.specs.declared.declaration.TypeWord.{TypeWord}
-use Rattle.f66_tree.specs.declared.declaration.TypeWord.TheVariants.{Integer, Logical, Other}
+use Rattle.f66_tree.specs.declared.declaration.TypeWord.TheVariants.{Other}
 use Rattle.f66_tree.specs.declared.editing.EditKind.TheVariants as edits
 use Rattle.f66_tree.specs.Fields.{Takes as TakesItem, Fields, NoField, Single}
-use Rattle.f66_tree.specs.Forms.{Text, Formula, Variable, Applied, Grouped, Positive, Negative, Negated, Joined, Formulas, Nought, Also, Par, Constant, Named, Entry, One, Many, Entries, NoEntry, AndEntry, Act, Assigns, Goes, Selects, Passes, Stops, Writes, Formats}
+use Rattle.f66_tree.specs.Forms.{Text, Formula, Variable, Applied, Grouped, Positive, Negative, Negated, Joined, Formulas, Nought, Also, Par, Constant, Named, One, Entries, AndEntry, Act, Assigns, Goes, Selects, Passes, Stops, Writes, Formats}
 use Rattle.f66_tree.specs.Units.{by_letter}
 use Rattle.f66_tree.specs.Built.{is_whole, is_condition, is_par, is_printer, is_one_variable, is_variable}
 use Rattle.rat_check.specs.Parts.{Form, Rests, Says, Asks, Takes, Compares, Prepares, Counting, Leaving, Returning, Labels, Part}

@@ -1,5 +1,5 @@
 -- What a walk over a unit's parts has found so far.
-use Rattle.std.specs.Prelude.{ℕ, nat_eq, Bool, List, [], ◌∷◌, ◌++◌, Option, Some, None, fold, if◌then◌else◌}
+use Rattle.std.specs.Prelude.{ℕ, nat_eq, List, [], ◌∷◌, ◌++◌, Option, Some, None, fold, if◌then◌else◌}
 use Rattle.std.specs.List.{list_any}
 use Rattle.ground.specs.declared.place.Place.{Place}
 use Rattle.ground.specs.declared.fault.Fault.{Fault}
@@ -18,6 +18,11 @@ adding l ls = if is_among ls l then ls else (ls ++ l ∷ [])
 abbrev pub adding_if : Option ℕ → List ℕ → List ℕ
 adding_if None ls = ls
 adding_if (Some l) ls = adding l ls
+
+-- the labels of the parts are added, each once
+abbrev pub own_labels : List Part → List ℕ → List ℕ
+own_labels [] ls = ls
+own_labels (v ∷ vs) ls = own_labels vs (adding_if v.label ls)
 
 -- the labels that stand directly in a list are added
 abbrev pub adding_all : Commands → List ℕ → List ℕ

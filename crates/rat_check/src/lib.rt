@@ -10,8 +10,6 @@ mod targets;
 mod unit_check;
 mod visit;
 
-pub use unit_check::check;
-
 use built::{are_whole, is_built_act, is_condition, is_par, is_simple, is_test, is_whole};
 use forms::{Around, Form};
 use labels::LabelSet;
@@ -20,4 +18,5 @@ use names::{
 };
 use survey::Survey;
 use targets::add_targets;
+pub use unit_check::check;
 use visit::visit_list;

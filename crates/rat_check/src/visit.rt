@@ -45,7 +45,12 @@ fn visit(statement: &RatStmt, around: &Around, survey: &mut Survey) -> Result<()
             note_until(until, &*around, survey)
         }
         RatKind::Do(name, first, last, step, body) => {
-            survey.note(&*around, label, place, Form::Counting(name, first, last, step))?;
+            survey.note(
+                &*around,
+                label,
+                place,
+                Form::Counting(name, first, last, step),
+            )?;
             visit(body, &inside, survey)
         }
         RatKind::Switch(value, list) => {
@@ -110,11 +115,7 @@ fn visit_each(list: &[RatStmt], around: &Around, survey: &mut Survey) -> Result<
 }
 
 #[cycle(visit)]
-fn visit_clauses(
-    list: &[RatCase],
-    around: &Around,
-    survey: &mut Survey,
-) -> Result<(), AllocError>
+fn visit_clauses(list: &[RatCase], around: &Around, survey: &mut Survey) -> Result<(), AllocError>
     ensures { OnOk result (survey.new ≡ noting_all (clause_parts (depth_of around.now) (is_among survey.old.reach) false (clauses list.now)) survey.old) }
 {
     let mut seen = false;

@@ -1,5 +1,5 @@
 -- The lists in a tree, one member after another: what is added so far, and what the members left would add.
-use Rattle.std.proofs.Common.{◌≡◌, ℕ, zero, suc, ◌+◌, ◌<◌, ◌≤◌, List, [], ◌∷◌, ◌++◌, length, drop, get_or, refl, sym, ap, ◌∙◌, subst, arith, Bool, true, false, Option, Some, None, if◌then◌else◌}
+use Rattle.std.proofs.Common.{◌≡◌, ℕ, zero, suc, ◌+◌, ◌<◌, ◌≤◌, List, [], ◌∷◌, ◌++◌, length, drop, get_or, refl, sym, ap, ◌∙◌, arith, Option, Some, None}
 use Rattle.std.proofs.Math.Seq.{drop-cons}
 use Rattle.std.proofs.Math.ListN.{drop_of_length-le}
 use Rattle.ground.specs.declared.place.Place.{Place}
@@ -7,12 +7,11 @@ use Rattle.f66_tree.specs.declared.expression.Expr.{Expr}
 use Rattle.f66_tree.specs.Forms.{Text, Formula, Formulas, Also, Chooses, Goes, Line, bare}
 use Rattle.f66_tree.specs.Views.{formula_of, formulas_of}
 use Rattle.rat_tree.specs.declared.program.RatStmt.{RatStmt}
-use Rattle.rat_tree.specs.declared.program.RatCase.{RatCase, RatCase'}
-use Rattle.rat_tree.specs.Commands.{Command, Commands, NoCommand, AndCommand, Clauses, NoClause, AndClause}
-use Rattle.rat_tree.specs.Views.{command, commands, clauses, clause_then}
-use Rattle.rat_lower.specs.Code.{Rings, case_test, labels, all_labels, clause_labels, code_of, all_code, each_test, tests, bodies, default_label}
-use Rattle.rat_lower.specs.Emitted.{Making, labels_past, Adds, Emitted, AllEmitted, ClausesEmitted}
-use Rattle.rat_lower.proofs.Sizes.{size_of, size_of_all, size_of_clauses}
+use Rattle.rat_tree.specs.Commands.{Command, Commands, NoCommand, AndCommand}
+use Rattle.rat_tree.specs.Views.{command, commands}
+use Rattle.rat_lower.specs.Code.{Rings, case_test, all_labels, code_of, all_code, each_test}
+use Rattle.rat_lower.specs.Emitted.{Making, labels_past, Adds, Emitted, AllEmitted}
+use Rattle.rat_lower.proofs.Sizes.{size_of, size_of_all}
 
 pub next_formulas : (list : List Expr) (i : ℕ) (e : Expr) → i < length list → e ≡ get_or list i e → formulas_of (drop i list) ≡ Also (formula_of e) (formulas_of (drop (i + 1) list))
 next_formulas list i e lt is =

@@ -3,15 +3,15 @@
 -- statements from there; if it leaves or turns a loop, to the label that the rings give. On the way it has begun d
 -- statements, d + x at most 32 times the work: x is what was begun before, and slack. A jump has begun at least j, and a
 -- source that stops at its bound at least b. DO loops from the key top on keep what they have.
-use Rattle.std.proofs.Common.{◌≡◌, true, false, Bool, ℕ, zero, suc, ◌+◌, ◌*◌, ◌≤◌, ◌<◌, List, [], ◌∷◌, refl, sym, ap, ◌∙◌, subst, arith}
+use Rattle.std.proofs.Common.{◌≡◌, ℕ, zero, suc, ◌+◌, ◌*◌, ◌≤◌, ◌<◌, List, [], ◌∷◌, refl, ap, ◌∙◌, subst, arith}
 use Rattle.std.specs.Prelude.{⊤}
 use Rattle.ground.specs.declared.place.Place.{Place}
 use Rattle.ground.specs.Content.{Content}
 use Rattle.f66_tree.specs.Forms.{Line}
-use Rattle.f66_tree.specs.World.{State, World, End, Ended, GoesOn, Lost, Out, Gives, Halts, bind}
+use Rattle.f66_tree.specs.World.{State, World, Ended, GoesOn, Lost, Out, Gives, Halts, bind}
 use Rattle.f66_tree.specs.Units.{Setting, moved_to}
 use Rattle.f66_tree.specs.Execution.{stand, Progress, from_label, closers, close, target, exec}
-use Rattle.rat_tree.specs.Meaning.{Course, Went, Jumps, Backs, Leave, Again, Flow, Then, then_do, turned}
+use Rattle.rat_tree.specs.Meaning.{Went, Jumps, Backs, Leave, Again, Flow, Then, then_do, turned}
 use Rattle.rat_lower.specs.Code.{Rings, label_behind, label_again, jump, here}
 use Rattle.rat_lower.proofs.Spared.{Lowering, at, still, spared, near, F}
 use Rattle.rat_lower.proofs.Tracks.{Tracks, same_fuel}

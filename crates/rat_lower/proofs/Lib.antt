@@ -16,3 +16,20 @@ pub mod Blocks
 pub mod Members
 pub mod CappedCounts
 pub mod Units
+pub mod BuiltUnits
+pub mod Alone
+pub mod Agreement
+pub mod Whole
+pub mod Exits
+pub mod Fits
+pub mod Top
+pub mod NoFault
+pub mod BuiltForms
+pub mod Reached
+pub mod NamesKept
+pub mod PartLabels
+pub mod PartNotes
+pub mod Accepted
+pub mod Checks
+pub mod MainUnits
+mod Examples

@@ -1,28 +1,21 @@
 -- A list of statements follows, from its start and from each label that stands directly in it, with the jumps within it.
-use Rattle.std.proofs.Common.{◌≡◌, true, false, Bool, ℕ, zero, suc, ◌+◌, ◌*◌, ◌≤◌, ◌<◌, List, [], ◌∷◌, length, Option, Some, None, refl, sym, ap, ◌∙◌, subst, arith, true≢false, ⊎_elim, ◌||◌, eqb-true}
-use Rattle.std.specs.Prelude.{if◌then◌else◌, nat_eq, ⊤}
+use Rattle.std.proofs.Common.{◌≡◌, true, false, Bool, ℕ, zero, suc, ◌+◌, ◌*◌, ◌≤◌, List, [], ◌∷◌, length, Some, None, refl, sym, ap, ◌∙◌, subst, arith, true≢false, ⊎_elim, ◌||◌}
+use Rattle.std.specs.Prelude.{if◌then◌else◌, ⊤}
 use Rattle.std.proofs.lemmas.Bool.{or_cases}
 use Rattle.ground.specs.declared.place.Place.{Place}
-use Rattle.ground.specs.Content.{Content}
-use Rattle.f66_tree.specs.Forms.{Text, Variable, Act, Assigns, Goes, Chooses, Loops, Returns, Formula, Formulas, Nought, Also, Par, Line, bare}
-use Rattle.f66_tree.specs.World.{State, World, counted, End, Ended, GoesOn, Lost, Out, Gives, Halts, bind, choose}
-use Rattle.f66_tree.specs.Units.{is_note, Spot, Setting, Frame, moved_to}
-use Rattle.f66_tree.specs.Uses.{Names, NamesOfAll, NameOfPar, NamesOfAct}
-use Rattle.f66_tree.specs.Evaluation.{value_of}
-use Rattle.f66_tree.specs.Statements.{Loop, loop_start}
-use Rattle.f66_tree.specs.Execution.{has_label, runnable, Progress, begun, from_label, closers}
-use Rattle.rat_tree.specs.Commands.{Command, Empty, Together, When, Either, Whilst, Through, Repeats, Until, Counts, Switches, Leaves, Turns, GivesBack, Plainly, Marked, Commands, NoCommand, AndCommand, Clauses, NoClause, AndClause}
-use Rattle.rat_tree.specs.Meaning.{Went, Jumps, Backs, Leave, Again, Flow, Then, went, then_do, plainly, tested, turns, always, stepped, until, counts, marks, stands, landed, pred_of, fits, meaning, run_from, picked, defaulted}
-use Rattle.rat_tree.specs.Uses.{NamesIfAny, ActIfAny, NamesOfCommand, NamesOfCommands, NamesOfClauses}
-use Rattle.rat_lower.specs.Code.{Rings, label_behind, label_again, jump, unless, here, with_test, with_act, labels, all_labels, case_test, each_test, tests, default_label, has_switch, have_switch, code_of, all_code, bodies}
-use Rattle.rat_lower.specs.Checked.{bit, IsPlain, IsPlainIfAny, IsNothing, IsBuilt, AreBuilt, ClausesBuilt}
-use Rattle.rat_lower.proofs.Spared.{Lowering, at, near, spared, F}
-use Rattle.rat_lower.proofs.Tracks.{track_start}
-use Rattle.rat_lower.proofs.Follows.{Extra, Keeps, keeps_self, Part, Comes, comes_here, comes_on, one, Raw, Run, Under, Follows, first, weaker, bind_follows, then_follows, past_jump, past_here}
-use Rattle.rat_lower.proofs.Counts.{same_number, ends, heads, all_heads, clause_heads}
-use Rattle.rat_lower.proofs.Labels.{AreUnique, no_closers, one_closer, Within, within_self, within_cons, within_in, within_tail, within_test, within_act, within_code, within_all, within_tests, within_bodies, found, found_line, longer_in, Starts, starts_code}
-use Rattle.rat_lower.proofs.Parts.{Src, HoldsValue, unless_follows, plain_follows, labelled_follows, performed_follows, case_follows, kept_follows}
-use Rattle.rat_lower.proofs.Loops.{waits, Closes, always_closes, stepped_closes, until_closes, turns_follow, counts_follow}
+use Rattle.f66_tree.specs.Forms.{Text, Line}
+use Rattle.f66_tree.specs.World.{State, World, counted, Ended, GoesOn, Lost, Out, Gives, Halts}
+use Rattle.f66_tree.specs.Units.{is_note, Spot, Setting, Frame}
+use Rattle.f66_tree.specs.Execution.{has_label, runnable, from_label, closers}
+use Rattle.rat_tree.specs.Commands.{Command, Empty, Together, When, Either, Whilst, Through, Repeats, Until, Counts, Switches, Leaves, Turns, GivesBack, Plainly, Marked, Commands, NoCommand, AndCommand}
+use Rattle.rat_tree.specs.Meaning.{Went, Jumps, Backs, Leave, Again, Flow, went, then_do, marks, stands, landed, fits, meaning, run_from}
+use Rattle.rat_lower.specs.Code.{Rings, here, labels, code_of, all_code}
+use Rattle.rat_lower.proofs.Spared.{Lowering, F}
+use Rattle.rat_lower.proofs.Follows.{Extra, keeps_self, Part, Comes, comes_on, Run, Follows, first, weaker, then_follows, past_here}
+use Rattle.rat_lower.proofs.Counts.{ends, heads, all_heads}
+use Rattle.rat_lower.proofs.Labels.{AreUnique, Within, within_in, within_code, found, found_line, longer_in, Starts}
+use Rattle.rat_lower.proofs.Parts.{Src}
+use Rattle.rat_lower.proofs.Loops.{waits}
 
 module _ (g : Lowering) (b : ℕ) (call : ℕ → List Spot → World → Out ⊤) (made : ℕ → ℕ) (spare : Text) (unique : AreUnique g.code) where
   abbrev So : Setting

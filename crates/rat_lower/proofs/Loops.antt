@@ -1,13 +1,13 @@
 -- Loops follow: with at most m turns the source's loop stops at its bound only where the target has begun m statements.
-use Rattle.std.proofs.Common.{◌≡◌, true, false, Bool, ℕ, zero, suc, ◌+◌, ◌*◌, ◌≤◌, ◌<◌, List, [], ◌∷◌, length, Option, Some, None, refl, sym, ap, ◌∙◌, subst, arith}
+use Rattle.std.proofs.Common.{◌≡◌, true, false, Bool, ℕ, zero, suc, ◌+◌, ◌*◌, ◌≤◌, ◌<◌, List, [], ◌∷◌, length, Option, sym, ap, ◌∙◌, subst, arith}
 use Rattle.std.specs.Prelude.{⊤}
 use Rattle.ground.specs.declared.place.Place.{Place}
 use Rattle.f66_tree.specs.Forms.{Text, Act, Formula, Line}
-use Rattle.f66_tree.specs.World.{State, World, counted, End, GoesOn, Out, Gives, Halts, bind, choose}
+use Rattle.f66_tree.specs.World.{State, World, counted, GoesOn, Out, Gives, Halts, bind, choose}
 use Rattle.f66_tree.specs.Units.{Spot, Setting, Frame, moved_to}
 use Rattle.f66_tree.specs.Uses.{Names}
 use Rattle.f66_tree.specs.Statements.{Loop, loop_turn}
-use Rattle.f66_tree.specs.Execution.{from_label, Closer, closers, close, fetch, exec}
+use Rattle.f66_tree.specs.Execution.{from_label, closers, close, fetch, exec}
 use Rattle.rat_tree.specs.Meaning.{Went, Flow, Then, went, turned, tested, turns, always, stepped, until, counts}
 use Rattle.rat_tree.specs.Uses.{NamesIfAny, ActIfAny}
 use Rattle.rat_lower.specs.Code.{Rings, jump, unless, here, with_test, with_act}

@@ -81,6 +81,7 @@ in_taking s l n b = by_old (is_in s.taken l) refl
     swapped true true z = refl
     swapped true false z = refl
     swapped false y z = refl
+
     behind_all : (xs : List ℕ) → (is_in (xs ++ l ∷ []) n || b) ≡ (is_in xs n || (nat_eq l n || b))
     behind_all [] = by_case (nat_eq l n)
       where
@@ -92,12 +93,14 @@ in_taking s l n b = by_old (is_in s.taken l) refl
         by_case : (y : Bool) → (is_in (xs ++ l ∷ []) n || b) ≡ (is_in xs n || (nat_eq l n || b)) → ((y || is_in (xs ++ l ∷ []) n) || b) ≡ ((y || is_in xs n) || (nat_eq l n || b))
         by_case true h = refl
         by_case false h = h
+
     there : (c : Bool) → nat_eq l n ≡ c → is_in s.taken l ≡ true → (is_in s.taken n || b) ≡ (is_in s.taken n || (c || b))
     there true e h = ap (λ v. v || b) (sym (ap (is_in s.taken) (equal e)) ∙ h) ∙ sym (ap (λ v. v || (true || b)) (sym (ap (is_in s.taken) (equal e)) ∙ h))
       where
         equal : nat_eq l n ≡ true → l ≡ n
         equal q = grind (arith, q)
     there false e h = refl
+
     by_old : (c : Bool) → is_in s.taken l ≡ c → (is_in (if c then s.taken else (s.taken ++ l ∷ [])) n || b) ≡ (is_in s.taken n || (nat_eq l n || b))
     by_old true h = there (nat_eq l n) refl h
     by_old false h = behind_all s.taken

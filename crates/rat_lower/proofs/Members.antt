@@ -4,7 +4,7 @@ use Rattle.std.proofs.Common.{Vec, Global, Result, Ok, Err, OnOk}
 use Rattle.ground.specs.declared.place.Place.{Place}
 use Rattle.ground.specs.declared.fault.Memory.{Memory}
 use Rattle.f66_tree.specs.declared.expression.Expr.{Expr}
-use Rattle.f66_tree.specs.Forms.{Text, Formulas, Line}
+use Rattle.f66_tree.specs.Forms.{Formulas, Line}
 use Rattle.f66_tree.specs.Views.{formula_of, formulas_of}
 use Rattle.rat_tree.specs.declared.program.RatStmt.{RatStmt}
 use Rattle.std.proofs.Math.Seq.{drop-cons}

@@ -1,11 +1,11 @@
 -- The statements of a unit that are not executed are those of its source, in their order.
-use Rattle.std.proofs.Common.{◌≡◌, ℕ, ◌+◌, List, [], ◌∷◌, Option, Some, None, refl, ap, ◌∙◌}
+use Rattle.std.proofs.Common.{◌≡◌, ℕ, [], Bool, true, false, ◌+◌, List, ◌∷◌, Option, Some, None, refl, ap, ◌∙◌}
 use Rattle.ground.specs.declared.place.Place.{Place}
 use Rattle.f66_tree.specs.Forms.{Text, Formula, Formulas, Nought, Also, Act, Line}
 use Rattle.f66_tree.specs.Units.{notes_of}
 use Rattle.rat_tree.specs.Commands.{Command, Empty, Together, When, Either, Whilst, Through, Repeats, Until, Counts, Switches, Leaves, Turns, GivesBack, Plainly, Marked, Commands, NoCommand, AndCommand, Clauses, NoClause, AndClause}
-use Rattle.rat_lower.specs.Code.{each_test, tests, default_label, bodies, Rings, jump, unless, here, with_test, with_act, labels, all_labels, code_of, all_code}
-use Rattle.rat_lower.specs.OneUnit.{note_if_any, notes_in, all_notes, clause_notes}
+use Rattle.rat_lower.specs.Code.{each_test, tests, default_label, bodies, Rings, jump, unless, here, with_test, with_act, labels, all_labels, code_of, all_code, stop_unless}
+use Rattle.rat_lower.specs.OneUnit.{note_if_any, notes_in, all_notes, clause_notes, notes_of_unit}
 
 notes_test : (p : Place) (o : Option Formula) (m : ℕ) (next : List Line) → notes_of (with_test p o m next) ≡ notes_of next
 notes_test p None m next = refl
@@ -61,3 +61,11 @@ module _ (made : ℕ → ℕ) (spare : Text) where
     notes_bodies NoClause m out ls next = refl
     notes_bodies (AndClause es d ss p cs) m out ls next =
         notes_all ss (m + 1) ls (jump p out ∷ bodies made spare cs (m + 1 + all_labels ss) out ls next) ∙ ap (all_notes ss) (notes_bodies cs (m + 1 + all_labels ss) out ls next)
+
+  -- those of a whole unit, with the last statement
+  pub notes_whole : (ss : Commands) (v : Bool) (last : Place) → notes_of (all_code made spare ss 0 [] (stop_unless v last)) ≡ notes_of_unit ss
+  notes_whole ss v last = notes_all ss 0 [] (stop_unless v last) ∙ by_end v
+    where
+      by_end : (u : Bool) → all_notes ss (notes_of (stop_unless u last)) ≡ notes_of_unit ss
+      by_end true = refl
+      by_end false = refl

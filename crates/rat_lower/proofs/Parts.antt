@@ -1,5 +1,5 @@
 -- Conditions, plain statements, the parts of loops, and the value and the cases of a switch follow.
-use Rattle.std.proofs.Common.{◌≡◌, true, false, Bool, ℕ, zero, suc, ◌+◌, ◌*◌, ◌≤◌, ◌<◌, List, [], ◌∷◌, Option, Some, None, refl, sym, ap, ◌∙◌, subst, arith}
+use Rattle.std.proofs.Common.{◌≡◌, true, false, Bool, ℕ, zero, suc, ◌+◌, ◌*◌, ◌≤◌, List, [], ◌∷◌, Option, Some, None, refl, ap, ◌∙◌, arith}
 use Rattle.std.specs.Prelude.{not, if◌then◌else◌, ⊤}
 use Rattle.ground.specs.declared.place.Place.{Place}
 use Rattle.ground.specs.declared.value.Kind.TheVariants.{Integer}
@@ -11,14 +11,14 @@ use Rattle.f66_tree.specs.Units.{is_note, position, dummies_of, kind_of, Spot, H
 use Rattle.f66_tree.specs.Uses.{Names, NamesOfAct}
 use Rattle.f66_tree.specs.Evaluation.{base_by, load, asked, operate, denied, truth_in, variable_in, store_at, value_of, asks}
 use Rattle.f66_tree.specs.Statements.{Exit, Next, To, Back, does}
-use Rattle.f66_tree.specs.Execution.{stand, runnable, from_label, closers_at, close, leads, fetch, exec}
+use Rattle.f66_tree.specs.Execution.{runnable, from_label, closers_at, close, leads, fetch, exec}
 use Rattle.f66_tree.proofs.Stores.{read_same}
 use Rattle.rat_tree.specs.Meaning.{Went, course_of, Flow, Then, decides, plainly, labelled, tested, performed, is_case}
 use Rattle.rat_tree.specs.Uses.{NamesIfAny, ActIfAny}
-use Rattle.rat_lower.specs.Code.{Rings, jump, unless, with_test, with_act, case_test}
+use Rattle.rat_lower.specs.Code.{Rings, unless, with_test, with_act, case_test}
 use Rattle.rat_lower.specs.Checked.{IsPlain, IsPlainIfAny}
 use Rattle.rat_lower.proofs.Spared.{Lowering, at, near, still_near, spared, put_twice, F, Source}
-use Rattle.rat_lower.proofs.Tracks.{Tracks, fewer, same_fuel, track_value, track_asks, track_does, track_case}
+use Rattle.rat_lower.proofs.Tracks.{fewer, same_fuel, track_value, track_asks, track_does, track_case}
 use Rattle.rat_lower.proofs.Follows.{Extra, Keeps, keeps_self, Part, comes_here, one, none_begun, Raw, Run, Under, Follows, first, bind_follows, then_follows, past_jump}
 
 bind_assoc : {A B C : Type 0} (o : Out A) (h : A → World → Out B) (k : B → World → Out C) → bind (bind o h) k ≡ bind o (λ a w. bind (h a w) k)

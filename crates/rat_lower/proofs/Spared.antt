@@ -1,8 +1,7 @@
 -- The two sides of lowering. The source has no value under the spare name; the target's store is the source's, with the
 -- value of a switch in the spare name's storage unit. So a world of the target is one of the source and that content.
-use Rattle.std.proofs.Common.{◌≡◌, ◌≢◌, ℕ, suc, ◌+◌, Bool, true, false, List, [], Option, None, refl, sym, ap, ◌∙◌, arith, eqb-true}
+use Rattle.std.proofs.Common.{◌≡◌, ◌≢◌, ℕ, ◌+◌, Bool, true, false, List, [], None, refl, sym, ap, ◌∙◌, arith, eqb-true}
 use Rattle.std.specs.Prelude.{nat_eq, if◌then◌else◌, ⊤}
-use Rattle.ground.specs.declared.place.Place.{Place}
 use Rattle.ground.specs.Content.{Content}
 use Rattle.f66_tree.specs.Forms.{Text, Line}
 use Rattle.f66_tree.specs.World.{Store, put_in, State, World, Out, counted, holding, Gives}
@@ -11,7 +10,7 @@ use Rattle.f66_tree.specs.Evaluation.{held}
 use Rattle.f66_tree.specs.Execution.{nowhere}
 use Rattle.f66_tree.proofs.Posts.{IsScope}
 use Rattle.f66_tree.proofs.Related.{SameNames}
-use Rattle.f66_tree.proofs.Stores.{read_same, read_other}
+use Rattle.f66_tree.proofs.Stores.{read_other}
 
 -- A main unit in both linkages: which names the source uses, which spots may come of them, and that none of these is the
 -- spare unit. It calls nothing.

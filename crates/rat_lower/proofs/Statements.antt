@@ -1,28 +1,25 @@
 -- Each statement but a list and a switch follows.
-use Rattle.std.proofs.Common.{◌≡◌, true, false, Bool, ℕ, zero, suc, ◌+◌, ◌*◌, ◌≤◌, ◌<◌, List, [], ◌∷◌, length, Option, Some, None, refl, sym, ap, ◌∙◌, subst, arith, true≢false, ⊎_elim, ◌||◌, eqb-true}
+use Rattle.std.proofs.Common.{◌≡◌, true, false, Bool, ℕ, ◌+◌, ◌*◌, ◌≤◌, ◌<◌, List, [], ◌∷◌, length, Option, Some, None, refl, sym, ap, subst, arith, eqb-true}
 use Rattle.std.specs.Prelude.{if◌then◌else◌, nat_eq, ⊤}
-use Rattle.std.proofs.lemmas.Bool.{or_cases}
 use Rattle.ground.specs.declared.place.Place.{Place}
-use Rattle.ground.specs.Content.{Content}
-use Rattle.f66_tree.specs.Forms.{Text, Variable, Act, Assigns, Goes, Chooses, Loops, Returns, Formula, Formulas, Nought, Also, Par, Line, bare}
-use Rattle.f66_tree.specs.World.{State, World, counted, End, Ended, GoesOn, Lost, Out, Gives, Halts, bind, choose}
-use Rattle.f66_tree.specs.Units.{is_note, Spot, Setting, Frame, moved_to}
-use Rattle.f66_tree.specs.Uses.{Names, NamesOfAll, NameOfPar, NamesOfAct}
-use Rattle.f66_tree.specs.Evaluation.{value_of}
+use Rattle.f66_tree.specs.Forms.{Text, Act, Loops, Returns, Formula, Par, Line, bare}
+use Rattle.f66_tree.specs.World.{State, World, counted, Out, bind}
+use Rattle.f66_tree.specs.Units.{Spot, Setting, Frame, moved_to}
+use Rattle.f66_tree.specs.Uses.{Names, NameOfPar, NamesOfAct}
 use Rattle.f66_tree.specs.Statements.{Loop, loop_start}
-use Rattle.f66_tree.specs.Execution.{has_label, runnable, Progress, begun, from_label, closers}
-use Rattle.rat_tree.specs.Commands.{Command, Empty, Together, When, Either, Whilst, Through, Repeats, Until, Counts, Switches, Leaves, Turns, GivesBack, Plainly, Marked, Commands, NoCommand, AndCommand, Clauses, NoClause, AndClause}
-use Rattle.rat_tree.specs.Meaning.{Went, Jumps, Backs, Leave, Again, Flow, Then, went, then_do, plainly, tested, turns, always, stepped, until, counts, marks, stands, landed, pred_of, fits, meaning, run_from, picked, defaulted}
-use Rattle.rat_tree.specs.Uses.{NamesIfAny, ActIfAny, NamesOfCommand, NamesOfCommands, NamesOfClauses}
-use Rattle.rat_lower.specs.Code.{Rings, label_behind, label_again, jump, unless, here, with_test, with_act, labels, all_labels, case_test, each_test, tests, default_label, has_switch, have_switch, code_of, all_code, bodies}
-use Rattle.rat_lower.specs.Checked.{bit, IsPlain, IsPlainIfAny, IsNothing, IsBuilt, AreBuilt, ClausesBuilt}
-use Rattle.rat_lower.proofs.Spared.{Lowering, at, near, spared, F}
+use Rattle.f66_tree.specs.Execution.{Progress, begun, closers}
+use Rattle.rat_tree.specs.Commands.{Command, When, Either, Whilst, Through, Repeats, Until, Counts, Leaves, Turns, GivesBack, Plainly, Marked, Commands}
+use Rattle.rat_tree.specs.Meaning.{Flow, Then, went, tested, turns, always, stepped, until, counts, pred_of, fits, meaning}
+use Rattle.rat_tree.specs.Uses.{NamesIfAny, ActIfAny}
+use Rattle.rat_lower.specs.Code.{Rings, label_behind, label_again, jump, unless, here, with_test, with_act, labels, code_of, all_code}
+use Rattle.rat_lower.specs.Checked.{bit, IsPlain, IsPlainIfAny, IsNothing}
+use Rattle.rat_lower.proofs.Spared.{Lowering, spared, F}
 use Rattle.rat_lower.proofs.Tracks.{track_start}
-use Rattle.rat_lower.proofs.Follows.{Extra, Keeps, keeps_self, Part, Comes, comes_here, comes_on, one, Raw, Run, Under, Follows, first, weaker, bind_follows, then_follows, past_jump, past_here}
-use Rattle.rat_lower.proofs.Counts.{same_number, ends, heads, all_heads, clause_heads}
-use Rattle.rat_lower.proofs.Labels.{AreUnique, no_closers, one_closer, Within, within_self, within_cons, within_in, within_tail, within_test, within_act, within_code, within_all, within_tests, within_bodies, found, found_line, longer_in, Starts, starts_code}
-use Rattle.rat_lower.proofs.Parts.{Src, HoldsValue, unless_follows, plain_follows, labelled_follows, performed_follows, case_follows, kept_follows}
-use Rattle.rat_lower.proofs.Loops.{waits, Closes, always_closes, stepped_closes, until_closes, turns_follow, counts_follow}
+use Rattle.rat_lower.proofs.Follows.{Extra, keeps_self, Part, Comes, comes_here, comes_on, one, Raw, Run, Under, Follows, first, bind_follows, past_jump, past_here}
+use Rattle.rat_lower.proofs.Counts.{same_number, ends, heads}
+use Rattle.rat_lower.proofs.Labels.{AreUnique, no_closers, one_closer, Within, within_self, within_cons, within_in, within_tail, within_test, within_act, within_code, found, longer_in, starts_code}
+use Rattle.rat_lower.proofs.Parts.{Src, unless_follows, plain_follows, labelled_follows, performed_follows}
+use Rattle.rat_lower.proofs.Loops.{Closes, always_closes, stepped_closes, until_closes, turns_follow, counts_follow}
 use Rattle.rat_lower.proofs.Lists as lists
 use Rattle.rat_lower.proofs.Lists.{behind, passing}
 

@@ -1,28 +1,22 @@
 -- A switch follows, and so every statement: its value stays in the spare unit while its case expressions are compared.
-use Rattle.std.proofs.Common.{◌≡◌, true, false, Bool, ℕ, zero, suc, ◌+◌, ◌*◌, ◌≤◌, ◌<◌, List, [], ◌∷◌, length, Option, Some, None, refl, sym, ap, ◌∙◌, subst, arith, true≢false, ⊎_elim, ◌||◌, eqb-true}
-use Rattle.std.specs.Prelude.{if◌then◌else◌, nat_eq, ⊤}
-use Rattle.std.proofs.lemmas.Bool.{or_cases}
+use Rattle.std.proofs.Common.{◌≡◌, true, false, Bool, ℕ, ◌+◌, ◌*◌, ◌≤◌, List, [], ◌∷◌, length, Some, None, refl, sym, ap, subst, arith, true≢false, ◌||◌}
+use Rattle.std.specs.Prelude.{⊤}
 use Rattle.ground.specs.declared.place.Place.{Place}
-use Rattle.ground.specs.Content.{Content}
-use Rattle.f66_tree.specs.Forms.{Text, Variable, Act, Assigns, Goes, Chooses, Loops, Returns, Formula, Formulas, Nought, Also, Par, Line, bare}
-use Rattle.f66_tree.specs.World.{State, World, counted, End, Ended, GoesOn, Lost, Out, Gives, Halts, bind, choose}
-use Rattle.f66_tree.specs.Units.{is_note, Spot, Setting, Frame, moved_to}
-use Rattle.f66_tree.specs.Uses.{Names, NamesOfAll, NameOfPar, NamesOfAct}
-use Rattle.f66_tree.specs.Evaluation.{value_of}
-use Rattle.f66_tree.specs.Statements.{Loop, loop_start}
-use Rattle.f66_tree.specs.Execution.{has_label, runnable, Progress, begun, from_label, closers}
+use Rattle.f66_tree.specs.Forms.{Text, Formula, Formulas, Nought, Also, Line}
+use Rattle.f66_tree.specs.World.{State, World, counted, Out}
+use Rattle.f66_tree.specs.Units.{Spot, Setting, Frame}
+use Rattle.f66_tree.specs.Uses.{Names, NamesOfAll}
+use Rattle.f66_tree.specs.Execution.{from_label, closers}
 use Rattle.rat_tree.specs.Commands.{Command, Empty, Together, When, Either, Whilst, Through, Repeats, Until, Counts, Switches, Leaves, Turns, GivesBack, Plainly, Marked, Commands, NoCommand, AndCommand, Clauses, NoClause, AndClause}
-use Rattle.rat_tree.specs.Meaning.{Went, Jumps, Backs, Leave, Again, Flow, Then, went, then_do, plainly, tested, turns, always, stepped, until, counts, marks, stands, landed, pred_of, fits, meaning, run_from, picked, defaulted}
-use Rattle.rat_tree.specs.Uses.{NamesIfAny, ActIfAny, NamesOfCommand, NamesOfCommands, NamesOfClauses}
-use Rattle.rat_lower.specs.Code.{Rings, label_behind, label_again, jump, unless, here, with_test, with_act, labels, all_labels, case_test, each_test, tests, default_label, has_switch, have_switch, code_of, all_code, bodies}
-use Rattle.rat_lower.specs.Checked.{bit, IsPlain, IsPlainIfAny, IsNothing, IsBuilt, AreBuilt, ClausesBuilt}
-use Rattle.rat_lower.proofs.Spared.{Lowering, at, near, spared, F}
-use Rattle.rat_lower.proofs.Tracks.{track_start}
-use Rattle.rat_lower.proofs.Follows.{Extra, Keeps, keeps_self, Part, Comes, comes_here, comes_on, one, Raw, Run, Under, Follows, first, weaker, bind_follows, then_follows, past_jump, past_here}
-use Rattle.rat_lower.proofs.Counts.{same_number, ends, heads, all_heads, clause_heads}
-use Rattle.rat_lower.proofs.Labels.{AreUnique, no_closers, one_closer, Within, within_self, within_cons, within_in, within_tail, within_test, within_act, within_code, within_all, within_tests, within_bodies, found, found_line, longer_in, Starts, starts_code}
-use Rattle.rat_lower.proofs.Parts.{Src, HoldsValue, unless_follows, plain_follows, labelled_follows, performed_follows, case_follows, kept_follows}
-use Rattle.rat_lower.proofs.Loops.{waits, Closes, always_closes, stepped_closes, until_closes, turns_follow, counts_follow}
+use Rattle.rat_tree.specs.Meaning.{Flow, Then, landed, fits, run_from, picked, defaulted}
+use Rattle.rat_tree.specs.Uses.{NamesOfCommand, NamesOfCommands, NamesOfClauses}
+use Rattle.rat_lower.specs.Code.{Rings, jump, here, all_labels, each_test, tests, default_label, has_switch, have_switch, code_of, all_code, bodies}
+use Rattle.rat_lower.specs.Checked.{bit, IsBuilt, AreBuilt, ClausesBuilt}
+use Rattle.rat_lower.proofs.Spared.{Lowering, F}
+use Rattle.rat_lower.proofs.Follows.{Extra, keeps_self, Part, Comes, comes_here, comes_on, Run, Follows, first, past_jump, past_here}
+use Rattle.rat_lower.proofs.Counts.{same_number, ends, clause_heads}
+use Rattle.rat_lower.proofs.Labels.{AreUnique, no_closers, Within, within_in, within_tail, within_all, within_tests, within_bodies, found, longer_in}
+use Rattle.rat_lower.proofs.Parts.{Src, HoldsValue, case_follows, kept_follows}
 use Rattle.rat_lower.proofs.Lists as lists
 use Rattle.rat_lower.proofs.Lists.{behind, passing, list_right, more_right, from_more, together_right}
 use Rattle.rat_lower.proofs.Statements.{when_right, either_right, whilst_right, repeats_right, until_right, through_right, leave_right, again_right, gives_right, plain_right, marked_right, counts_right}
@@ -81,13 +75,14 @@ module _ (g : Lowering) (b : ℕ) (call : ℕ → List Spot → World → Out �
       let no_do : closers (made m) co ≡ [] = no_closers (made m) co (omega (arith, clear (made m), ap bit (same_number (made m)))) in
       let shorter = longer_in (within_all made spare ss (m + 1) ls mid) in
       let over : (pr1 : Extra) (s1 : State) → Comes (R mid pr1) s1 (R next pr1) s1 2 = λ pr1 s1.
-      comes_on (subst (λ z. Comes (R mid pr1) s1 (R z pr1) s1 1) (found out q unique at_out) (past_jump g p out rest pr1 s1)) (past_here g q out next pr1 s1 no_out) in
-      (λ pr w y ok.
-      let whole = landed b ss (λ z. run_from So f0 b ss (Some z)) (run_from So f0 b ss None w) in
-      subst (λ z. Fo b top ls pr (R z pr) w.state y next whole) (sym (found (made m) p unique has))
-      (first g {j1 = 1} {b1 = b} {x1 = 1 + y} whole (keeps_self top pr) (past_here g p (made m) body pr w.state no_do) (omega arith) (omega arith) (omega arith)
-      (passing g b call made spare unique whole (omega arith) (list_right g b call made spare unique ss r.0 r.1 (m + 1) ls mid at_body (λ z. omega (arith, clear z)) top (omega arith) pr w (2 + (1 + y)) (omega arith)) over)),
-      clauses_do cs r.2 (m + 1 + all_labels ss) out q ls next at_out no_out (within_tail _ at_mid) (λ z. omega (arith, clear z)) top (omega (arith, fits, shorter)))
+      comes_on (subst (λ z. Comes (R mid pr1) s1 (R z pr1) s1 1) (found out q unique at_out) (past_jump g p out rest pr1 s1)) (past_here g q out next pr1 s1 no_out) in (
+        λ pr w y ok.
+            let whole = landed b ss (λ z. run_from So f0 b ss (Some z)) (run_from So f0 b ss None w) in
+            subst (λ z. Fo b top ls pr (R z pr) w.state y next whole) (sym (found (made m) p unique has))
+            (first g {j1 = 1} {b1 = b} {x1 = 1 + y} whole (keeps_self top pr) (past_here g p (made m) body pr w.state no_do) (omega arith) (omega arith) (omega arith)
+            (passing g b call made spare unique whole (omega arith) (list_right g b call made spare unique ss r.0 r.1 (m + 1) ls mid at_body (λ z. omega (arith, clear z)) top (omega arith) pr w (2 + (1 + y)) (omega arith)) over)),
+        clauses_do cs r.2 (m + 1 + all_labels ss) out q ls next at_out no_out (within_tail _ at_mid) (λ z. omega (arith, clear z)) top (omega (arith, fits, shorter)),
+      )
 
   module _ (holds : HoldsValue g spare) where
     each_follows : (p : Place) (es : Formulas) → NamesOfAll (g.K g.unit) es → (q : ℕ) (top : ℕ) (ls : Rings) (pr : Extra) (rest next : List Line) (yea nay : Then) →

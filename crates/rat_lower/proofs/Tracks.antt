@@ -1,10 +1,9 @@
 -- Within one statement the target follows the source: values and plain statements. Where a part of the source gives a result
 -- or ends, the part of the target does the same from a near world, having begun d statements; d is at most 32 times the work
 -- that is done so far, less x.
-use Rattle.std.proofs.Common.{◌≡◌, true, false, Bool, ℕ, zero, suc, ◌+◌, ◌*◌, ◌-◌, Option, Some, None, ◌≤◌, ◌<◌, List, [], ◌∷◌, refl, sym, ap, ◌∙◌, subst, arith}
+use Rattle.std.proofs.Common.{◌≡◌, true, false, Bool, ℕ, zero, suc, ◌+◌, ◌*◌, ◌-◌, Option, Some, None, ◌≤◌, ◌<◌, List, [], refl, sym, ap, ◌∙◌, subst, arith}
 use Rattle.std.specs.Prelude.{⊤}
 use Rattle.ground.specs.declared.place.Place.{Place}
-use Rattle.ground.specs.declared.trap.Trap.{Trap}
 use Rattle.ground.specs.declared.trap.Trap.TheVariants.{ValueArgument}
 use Rattle.ground.specs.declared.value.Kind.{Kind}
 use Rattle.ground.specs.declared.value.Kind.TheVariants.{Integer}
@@ -12,14 +11,14 @@ use Rattle.ground.specs.Content.{Content}
 use Rattle.f66_tree.specs.declared.expression.Operator.TheVariants.{Eq}
 use Rattle.f66_tree.specs.Forms.{Text, Act, Formula, Par}
 use Rattle.f66_tree.specs.Uses.{Names, NameOfPar, NamesOfAct}
-use Rattle.f66_tree.specs.World.{Store, put_in, State, Tape, World, counted, taping, Finish, Trapped, Wrong, End, Ended, GoesOn, Lost, Out, Gives, Halts, bind, Try, Yields, Traps, Fails, settle, holding, take_one, choose}
-use Rattle.f66_tree.specs.Units.{Spot, Held, Lent, Linkage, Setting, Frame}
-use Rattle.f66_tree.specs.Evaluation.{asked, held, stored, store_at, load, operate, truth_in, value_of, asks}
+use Rattle.f66_tree.specs.World.{put_in, State, Tape, World, counted, taping, Finish, Trapped, Wrong, Ended, GoesOn, Lost, Out, Gives, Halts, bind, Try, Yields, Traps, Fails, settle, holding, take_one, choose}
+use Rattle.f66_tree.specs.Units.{Spot, Held, Lent, Setting}
+use Rattle.f66_tree.specs.Evaluation.{asked, held, store_at, load, operate, truth_in, value_of, asks}
 use Rattle.f66_tree.specs.Statements.{Exit, Loop, loop_start, loop_turn, taped, took, item_turns, does}
 use Rattle.f66_tree.proofs.Posts.{IfGives, post_any}
 use Rattle.f66_tree.proofs.Related.{Sides, side1, side2, Frames, one, two, Good, Holds, thens, settles, does_holds, asks_hold, value_holds, start_holds, turn_holds}
 use Rattle.rat_tree.specs.Meaning.{is_case}
-use Rattle.rat_lower.proofs.Spared.{Lowering, at, spared, near, still, still_near, put_apart, same_held}
+use Rattle.rat_lower.proofs.Spared.{Lowering, at, near, still_near, put_apart, same_held}
 
 module _ (I : Type 0) (bound : I → ℕ) (spot : ℕ) where
   -- a part t of the target's run, by what bounds its fuel, follows a part of the source's, which gave o

@@ -1,5 +1,5 @@
 -- The statements of a whole unit.
-use Rattle.std.proofs.Common.{◌≡◌, ℕ, List, [], ◌∷◌, ◌++◌, Bool, true, false, refl, sym, ap, ◌∙◌, None}
+use Rattle.std.proofs.Common.{◌≡◌, ℕ, List, [], ◌∷◌, ◌++◌, Bool, true, false, refl, sym, ap, ◌∙◌}
 use mathlib.Core.Path.{fun_ext}
 use Rattle.ground.specs.declared.place.Place.{Place}
 use Rattle.f66_tree.specs.Forms.{Text, Line}
@@ -29,14 +29,14 @@ pub unit_lowered : (taken : List ℕ) (before after : Making) (used : Bool) (p q
 unit_lowered taken before after used p q ss l0 l1 l2 l3 same made spare has none declared body stop =
     let M = labels_past taken in
     let all : (rest : List Line) → l2 ++ rest ≡ declared_if (have_switch ss) p spare_name (all_code M spare_name ss 0 [] rest) =
-        λ rest.
-            body.added.by rest
-            ∙ declared.by (all_code (labels_past before.taken) before.spare ss before.made [] rest)
-            ∙ ap (λ l. l ++ declared_if used p before.spare (all_code (labels_past before.taken) before.spare ss before.made [] rest)) none
-            ∙ ap (λ f. declared_if used p before.spare (all_code f before.spare ss before.made [] rest)) (fun_ext same)
-            ∙ ap (λ x. declared_if used p x (all_code M x ss before.made [] rest)) spare
-            ∙ ap (λ n. declared_if used p spare_name (all_code M spare_name ss n [] rest)) made
-            ∙ ap (λ b. declared_if b p spare_name (all_code M spare_name ss 0 [] rest)) has in
+    λ rest.
+    body.added.by rest
+    ∙ declared.by (all_code (labels_past before.taken) before.spare ss before.made [] rest)
+    ∙ ap (λ l. l ++ declared_if used p before.spare (all_code (labels_past before.taken) before.spare ss before.made [] rest)) none
+    ∙ ap (λ f. declared_if used p before.spare (all_code f before.spare ss before.made [] rest)) (fun_ext same)
+    ∙ ap (λ x. declared_if used p x (all_code M x ss before.made [] rest)) spare
+    ∙ ap (λ n. declared_if used p spare_name (all_code M spare_name ss n [] rest)) made
+    ∙ ap (λ b. declared_if b p spare_name (all_code M spare_name ss 0 [] rest)) has in
     let ends : ends_so false l2 ≡ ends_so false (all_code M spare_name ss 0 [] []) =
-        ap (ends_so false) (sym (with_nothing l2) ∙ all []) ∙ ends_behind (have_switch ss) p spare_name (all_code M spare_name ss 0 [] []) in
+    ap (ends_so false) (sym (with_nothing l2) ∙ all []) ∙ ends_behind (have_switch ss) p spare_name (all_code M spare_name ss 0 [] []) in
     stop ∙ ap (λ b. l2 ++ stop_unless b q) ends ∙ all (stop_unless (ends_so false (all_code M spare_name ss 0 [] [])) q)

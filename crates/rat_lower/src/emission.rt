@@ -8,8 +8,8 @@ ghost use Rattle.rat_lower.specs.Code.{all_labels, clause_labels, default_label,
 ghost use Rattle.rat_lower.specs.Emitted.{AllEmitted, ClausesEmitted, Emitted, first_default, labels_past};
 
 use crate::{
-    Around, Maker, Turn, append, label_again, label_behind, put_act, put_cases, put_copy, put_do, put_here, put_jump,
-    put_mark, put_return, put_step, put_test, put_unless, put_value,
+    Around, Maker, Turn, append, put_act, put_break, put_cases, put_copy, put_do, put_here,
+    put_jump, put_mark, put_next, put_return, put_step, put_test, put_unless, put_value,
 };
 use f66_tree::{Expr, Stmt};
 use ground::{List, Memory, Place};
@@ -49,28 +49,13 @@ fn emit(
             put_do(code, place, end, name, (first, last, step))?;
             emit(maker, code, body, &Around::Loop(behind, end, &*around))?;
             put_here(code, place, end)?;
-            put_here(code, place, behind)?;
-            Ok(())
+            Ok(put_here(code, place, behind)?)
         }
         RatKind::Switch(e, list) => emit_switch(maker, code, place, e, list, around),
-        RatKind::Break(count) => {
-            let depth = count.saturating_sub(1);
-            put_jump(code, place, label_behind(around, depth))?;
-            Ok(())
-        }
-        RatKind::Next(count) => {
-            let depth = count.saturating_sub(1);
-            put_jump(code, place, label_again(around, depth))?;
-            Ok(())
-        }
-        RatKind::Return(value) => {
-            put_return(maker.alloc(), code, place, value)?;
-            Ok(())
-        }
-        RatKind::Plain(kind) => {
-            put_copy(maker.alloc(), code, statement.label, place, kind)?;
-            Ok(())
-        }
+        RatKind::Break(count) => Ok(put_break(code, place, *count, around)?),
+        RatKind::Next(count) => Ok(put_next(code, place, *count, around)?),
+        RatKind::Return(value) => Ok(put_return(maker.alloc(), code, place, value)?),
+        RatKind::Plain(kind) => Ok(put_copy(maker.alloc(), code, statement.label, place, kind)?),
     }
 }
 
@@ -177,7 +162,8 @@ fn emit_until(
     let again = maker.fresh_label()?;
     let behind = maker.fresh_label()?;
     put_here(code, place, head)?;
-    emit(maker, code, body, &Around::Loop(behind, again, &*around))?;
+    let inside = Around::Loop(behind, again, &*around);
+    emit(maker, code, body, &inside)?;
     put_here(code, place, again)?;
     put_unless(maker.alloc(), code, at, e, head)?;
     put_here(code, place, behind)?;

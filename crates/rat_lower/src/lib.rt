@@ -5,17 +5,17 @@ mod around;
 mod counting;
 mod emission;
 mod lines;
+mod main_unit;
 mod maker;
 mod unit;
 
-pub use counting::count_labels;
-pub use unit::lower_body;
-
 use around::{Around, Turn, label_again, label_behind};
-use counting::have_switch;
+use counting::{count_labels, have_switch};
 use emission::emit_all;
 use lines::{
-    append, put, put_act, put_cases, put_copy, put_do, put_here, put_jump, put_mark, put_return, put_step, put_test,
-    put_unless, put_value,
+    append, put, put_act, put_break, put_cases, put_copy, put_do, put_here, put_jump, put_mark, put_next, put_return,
+    put_step, put_test, put_unless, put_value,
 };
+pub use main_unit::lower;
 use maker::Maker;
+use unit::lower_body;

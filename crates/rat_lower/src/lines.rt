@@ -3,11 +3,12 @@ ghost use Rattle.std.specs.Prelude.{◌≡◌, ◌∷◌, ◌++◌, IfOk, OnOk, 
 ghost use Rattle.f66_tree.specs.Forms.{bare, Assigns, Chooses, Goes, Grouped, Loops, Variable};
 ghost use Rattle.f66_tree.specs.Views.{formula_of, formulas_of, par_of, act_of, lines_of};
 ghost use Rattle.rat_tree.specs.Views.{act_if_any, formula_if_any};
-ghost use Rattle.rat_lower.specs.Around.{test_of, step_of, with_mark};
-ghost use Rattle.rat_lower.specs.Code.{jump, unless, here, with_test, with_act, with_return, case_test, each_test};
+ghost use Rattle.rat_tree.specs.Meaning.{pred_of};
+ghost use Rattle.rat_lower.specs.Around.{rings_of, test_of, step_of, with_mark};
+ghost use Rattle.rat_lower.specs.Code.{jump, label_again, label_behind, unless, here, with_test, with_act, with_return, case_test, each_test};
 ghost use Rattle.rat_lower.specs.Emitted.{Adds};
 
-use crate::{Maker, Turn};
+use crate::{Around, Maker, Turn, label_again, label_behind};
 use f66_tree::{Expr, Name, Operator, Par, Stmt, StmtKind, copy_expr, copy_kind, copy_par};
 use ground::{List, Place, Text};
 use rat_tree::{RatKind, RatStmt};
@@ -30,6 +31,32 @@ pub fn put_jump(code: &mut List<Stmt>, place: Place, label: u32) -> Result<(), A
     ensures { OnOk result (Adds (lines_of code.old.items) (lines_of code.new.items) (λ rest. jump place label ∷ rest)) }
 {
     put(code, None, place, StmtKind::Goto(label))
+}
+
+/// A jump behind the loop with this number, counted from the inside.
+pub fn put_break(
+    code: &mut List<Stmt>,
+    place: Place,
+    count: u32,
+    around: &Around,
+) -> Result<(), AllocError>
+    ensures { OnOk result (Adds (lines_of code.old.items) (lines_of code.new.items) (λ rest. jump place (label_behind (rings_of around.now) (pred_of count)) ∷ rest)) }
+{
+    let depth = count.saturating_sub(1);
+    put_jump(code, place, label_behind(around, depth))
+}
+
+/// A jump to the next turn of the loop with this number.
+pub fn put_next(
+    code: &mut List<Stmt>,
+    place: Place,
+    count: u32,
+    around: &Around,
+) -> Result<(), AllocError>
+    ensures { OnOk result (Adds (lines_of code.old.items) (lines_of code.new.items) (λ rest. jump place (label_again (rings_of around.now) (pred_of count)) ∷ rest)) }
+{
+    let depth = count.saturating_sub(1);
+    put_jump(code, place, label_again(around, depth))
 }
 
 /// A CONTINUE with this label.
@@ -158,7 +185,12 @@ pub fn put_do(
     let first = copy_par(parameters.0)?;
     let last = copy_par(parameters.1)?;
     let step = copy_par(parameters.2)?;
-    put(code, None, place, StmtKind::Loop(end, name, first, last, step))
+    put(
+        code,
+        None,
+        place,
+        StmtKind::Loop(end, name, first, last, step),
+    )
 }
 
 /// RETURN, behind the value of a function where there is one.

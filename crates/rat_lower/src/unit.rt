@@ -1,9 +1,12 @@
 // The statements of a main unit.
-ghost use Rattle.std.specs.Prelude.{◌≡◌, ◌+◌, ◌++◌, ◌≤◌, length, false, IfOk, OnOk};
+ghost use Rattle.std.specs.Prelude.{◌≡◌, ◌+◌, ◌++◌, ◌≤◌, length, true, false, IfOk, OnOk};
+ghost use Rattle.f66_tree.specs.Built.{is_built_unit};
 ghost use Rattle.f66_tree.specs.Units.{is_note};
 ghost use Rattle.f66_tree.specs.Views.{act_of, lines_of};
 ghost use Rattle.rat_tree.specs.Views.{commands};
 ghost use Rattle.rat_lower.specs.Code.{all_labels, declared_if, ends_so, is_transfer, stop_unless, unit_code};
+ghost use Rattle.rat_lower.specs.OneUnit.{notes_of_unit};
+ghost use Rattle.rat_lower.specs.Profile.{AreInProfile};
 ghost use Rattle.rat_lower.specs.Emitted.{Adds, labels_past, spare_name};
 
 use crate::{Around, Maker, emit_all, have_switch, put};
@@ -21,7 +24,8 @@ pub fn lower_body(
     finish: Place,
 ) -> Result<List<Stmt>, Memory>
     requires { length taken.now + all_labels (commands unit.now.body.items) ≤ 77000 }
-    ensures { IfOk result (λ code. lines_of code.items ≡ unit_code (labels_past taken.now) spare_name unit.now.place finish (commands unit.now.body.items)) }
+    ensures code { IfOk result (λ code. lines_of code.items ≡ unit_code (labels_past taken.now) spare_name unit.now.place finish (commands unit.now.body.items)) }
+    ensures built { IfOk result (λ code. AreInProfile (notes_of_unit (commands unit.now.body.items)) (commands unit.now.body.items) → is_built_unit (lines_of code.items) ≡ true) }
 {
     let mut maker = Maker::new(alloc, taken)?;
     let mut code = Vec::new(alloc);

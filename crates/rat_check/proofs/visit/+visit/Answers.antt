@@ -14,15 +14,15 @@ pub visit-returns-in_ok-note-in-Block : goal.visit-returns-in_ok-note-in-Block
 visit-returns-in_ok-note-in-Block t c =
     let k = depth_of c.args.around.now in
     then_noted c.visit_list.result c.args.survey.now c.note-in-Block.new.self c.visit_list.new.survey (_ ∷ []) _
-      (λ r. parts_in k (with_labels (commands c.deref.result.now) r) (commands c.deref.result.now)) c.in_ok-note-in-Block.ensures
-      (block_parts k (is_among c.args.survey.now.reach) c.args.statement.now c.in-Block.list c.deref.result.now c.in-Block.is c.deref.ensures.value) c.visit_list.ensures
+    (λ r. parts_in k (with_labels (commands c.deref.result.now) r) (commands c.deref.result.now)) c.in_ok-note-in-Block.ensures
+    (block_parts k (is_among c.args.survey.now.reach) c.args.statement.now c.in-Block.list c.deref.result.now c.in-Block.is c.deref.ensures.value) c.visit_list.ensures
 
 pub visit-returns-in_ok-note-in-Switch : goal.visit-returns-in_ok-note-in-Switch
 visit-returns-in_ok-note-in-Switch t c =
     let k = depth_of c.args.around.now in
     then_noted c.visit_clauses.result c.args.survey.now c.note-in-Switch.new.self c.visit_clauses.new.survey (_ ∷ []) _
-      (λ r. clause_parts k r false (clauses c.deref-in-Switch.result.now)) c.in_ok-note-in-Switch.ensures
-      (switch_parts k (is_among c.args.survey.now.reach) c.args.statement.now c.in-Switch.value c.in-Switch.list c.deref-in-Switch.result.now c.in-Switch.is c.deref-in-Switch.ensures.value) c.visit_clauses.ensures
+    (λ r. clause_parts k r false (clauses c.deref-in-Switch.result.now)) c.in_ok-note-in-Switch.ensures
+    (switch_parts k (is_among c.args.survey.now.reach) c.args.statement.now c.in-Switch.value c.in-Switch.list c.deref-in-Switch.result.now c.in-Switch.is c.deref-in-Switch.ensures.value) c.visit_clauses.ensures
 
 pub visit-returns-in_ok-visit-in-If : goal.visit-returns-in_ok-visit-in-If
 visit-returns-in_ok-visit-in-If t c =
@@ -33,9 +33,9 @@ visit-returns-in_ok-visit-in-If t c =
     let head = part k r c.args.statement.now.label c.args.statement.now.place (Asks (formula_of c.in-If.test)) in
     let first = behind s c.note-in-If.new.self c.visit.new.survey (head ∷ []) (λ q. parts_of k q None (command body)) c.in_ok-note-in-If.ensures c.in_ok-visit-in-If.ensures in
     then_noted c.visit_other.result s c.visit.new.survey c.visit_other.new.survey (head ∷ parts_of k r None (command body)) (parts_of k r None (command c.args.statement.now))
-      (λ q. other_parts k q c.in-If.other) first
-      (ap (λ x. head ∷ (parts_of k r None (command x) ++ other_parts k r c.in-If.other)) c.deref-in-If.ensures ∙ if_parts k r c.args.statement.now c.in-If.test c.in-If.body c.in-If.other c.in-If.is)
-      c.visit_other.ensures
+    (λ q. other_parts k q c.in-If.other) first
+    (ap (λ x. head ∷ (parts_of k r None (command x) ++ other_parts k r c.in-If.other)) c.deref-in-If.ensures ∙ if_parts k r c.args.statement.now c.in-If.test c.in-If.body c.in-If.other c.in-If.is)
+    c.visit_other.ensures
 
 pub visit-returns-in_ok-visit-in-Repeat : goal.visit-returns-in_ok-visit-in-Repeat
 visit-returns-in_ok-visit-in-Repeat t c =
@@ -46,9 +46,9 @@ visit-returns-in_ok-visit-in-Repeat t c =
     let head = part k r c.args.statement.now.label c.args.statement.now.place Rests in
     let first = behind s c.note-in-Repeat.new.self c.visit-in-Repeat.new.survey (head ∷ []) (λ q. parts_of (suc k) q None (command body)) c.in_ok-note-in-Repeat.ensures c.in_ok-visit-in-Repeat.ensures in
     then_noted c.note_until.result s c.visit-in-Repeat.new.survey c.note_until.new.survey (head ∷ parts_of (suc k) r None (command body)) (parts_of k r None (command c.args.statement.now))
-      (λ q. until_parts k q c.in-Repeat.until) first
-      (ap (λ x. head ∷ (parts_of (suc k) r None (command x) ++ until_parts k r c.in-Repeat.until)) c.deref-in-Repeat.ensures ∙ repeat_parts k r c.args.statement.now c.in-Repeat.body c.in-Repeat.until c.in-Repeat.is)
-      c.note_until.ensures
+    (λ q. until_parts k q c.in-Repeat.until) first
+    (ap (λ x. head ∷ (parts_of (suc k) r None (command x) ++ until_parts k r c.in-Repeat.until)) c.deref-in-Repeat.ensures ∙ repeat_parts k r c.args.statement.now c.in-Repeat.body c.in-Repeat.until c.in-Repeat.is)
+    c.note_until.ensures
 
 pub visit_each-loop-statement-preserved : goal.visit_each-loop-statement-preserved
 visit_each-loop-statement-preserved t c =
@@ -65,4 +65,4 @@ visit_clauses-loop-clause-preserved t c =
 pub visit_list-returns : goal.visit_list-returns
 visit_list-returns t c =
     list_noted c.args.survey.now c.enter.new.self c.visit_each.new.survey c.leave.new.self (depth_of c.args.around.now) (commands c.args.list.now) c.in_ok-outside.outside
-      c.in_ok-outside.ensures.outside c.in_ok-outside.ensures.inside c.in_ok-visit_each.ensures c.leave.ensures
+    c.in_ok-outside.ensures.outside c.in_ok-outside.ensures.inside c.in_ok-visit_each.ensures c.leave.ensures

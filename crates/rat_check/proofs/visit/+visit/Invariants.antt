@@ -10,14 +10,14 @@ abbrev pub invariant-visit_each-loop-statement : goal.invariant-visit_each-loop-
 invariant-visit_each-loop-statement l = record {
   reach : l.survey.reach ≡ l.initial.survey.reach;
   noted :
-    noting_all (parts_in (depth_of l.around) (is_among l.initial.survey.reach) (commands (drop l.statement-index l.list))) l.survey
-    ≡ noting_all (parts_in (depth_of l.around) (is_among l.initial.survey.reach) (commands l.list)) l.initial.survey;
+      noting_all (parts_in (depth_of l.around) (is_among l.initial.survey.reach) (commands (drop l.statement-index l.list))) l.survey
+      ≡ noting_all (parts_in (depth_of l.around) (is_among l.initial.survey.reach) (commands l.list)) l.initial.survey;
 }
 
 abbrev pub invariant-visit_clauses-loop-clause : goal.invariant-visit_clauses-loop-clause
 invariant-visit_clauses-loop-clause l = record {
   reach : l.survey.reach ≡ l.initial.survey.reach;
   noted :
-    noting_all (clause_parts (depth_of l.around) (is_among l.initial.survey.reach) l.seen (clauses (drop l.clause-index l.list))) l.survey
-    ≡ noting_all (clause_parts (depth_of l.around) (is_among l.initial.survey.reach) l.initial.seen (clauses l.list)) l.initial.survey;
+      noting_all (clause_parts (depth_of l.around) (is_among l.initial.survey.reach) l.seen (clauses (drop l.clause-index l.list))) l.survey
+      ≡ noting_all (clause_parts (depth_of l.around) (is_among l.initial.survey.reach) l.initial.seen (clauses l.list)) l.initial.survey;
 }

@@ -1,10 +1,10 @@
-use Rattle.std.proofs.Common.{◌≡◌, ◌+◌, ◌*◌, min, arith, ap, sym, drop, ◌∙◌}
+use Rattle.std.proofs.Common.{◌≡◌, ◌+◌, min, arith, ap, sym, ◌∙◌}
 use Rattle.rat_tree.specs.declared.program.RatCase.{out-RatCase}
-use Rattle.rat_tree.specs.Views.{commands, clauses}
+use Rattle.rat_tree.specs.Views.{commands}
 use Rattle.rat_lower.specs.Code.{all_labels, clause_labels}
 use Rattle.rat_lower.proofs.Sizes.{size_of_all}
 use Rattle.rat_lower.proofs.Blocks.{next_command, last_command, member_size}
-use Rattle.rat_lower.proofs.CappedCounts.{CountSoFar, count_more, count_all}
+use Rattle.rat_lower.proofs.CappedCounts.{count_more, count_all}
 use Rattle.rat_lower.proofs.Members.{block_labels, block_size, switch_labels, switch_size, next_clause, last_clause, clause_size}
 use Rattle.rat_lower.proofs.counting.+count.Goals as goal
 

@@ -1,4 +1,4 @@
-use Rattle.std.proofs.Common.{◌≡◌, arith, sym, ◌∙◌}
+use Rattle.std.proofs.Common.{arith, sym, ◌∙◌}
 use Rattle.rat_lower.proofs.Blocks.{member_size}
 use Rattle.rat_lower.proofs.Members.{block_size, block_has}
 use Rattle.rat_lower.proofs.counting.+switch.Goals as goal

@@ -1,4 +1,4 @@
-use Rattle.std.proofs.Common.{◌≡◌, ◌+◌, arith, ap, sym, subst, ◌∙◌, length, drop}
+use Rattle.std.proofs.Common.{◌+◌, arith, ap, sym, subst, length, drop}
 use Rattle.f66_tree.specs.Views.{formulas_of, lines_of}
 use Rattle.rat_tree.specs.declared.program.RatCase.{out-RatCase}
 use Rattle.rat_tree.specs.Views.{commands, clauses}
@@ -56,8 +56,7 @@ pub emit_clauses-emit_all-requires : goal.emit_clauses-emit_all-requires
 emit_clauses-emit_all-requires t c =
     let next = ap clause_labels (next_clause c.args.list.now c.loop-clause.clause-index c.clause-item.result c.loop-clause-test.true c.clause-item.is) in
     let size = clause_size c.args.list.now c.loop-clause.clause-index c.clause-item.result c.loop-clause-test.true c.clause-item.is in
-    let same = c.deref-in-loop-clause.ensures.value in
-    (
+    let same = c.deref-in-loop-clause.ensures.value in (
       omega (arith, size, ap (λ v. size_of_all (commands v)) same),
       omega (arith, next, ap (λ v. all_labels (commands v)) same, c.in_ok-label.ensures.made, ap length c.in_ok-label.ensures.taken, c.loop-clause.invariant.made, ap length c.loop-clause.invariant.taken, c.requires),
     )
@@ -71,6 +70,6 @@ emit_clauses-loop-clause-preserved t c =
     let B = λ (v : _). AllEmitted (commands v) (rings_of c.args.around.now) c.fresh_label.new.self c.emit_all.new.maker (lines_of c.put_here.new.code.items) (lines_of c.emit_all.new.code.items) in
     let D = λ (d : _). ClausesSoFar (clauses c.args.list.now) (clauses (drop (c.loop-clause.clause-index + 1) c.args.list.now)) c.args.behind (rings_of c.args.around.now) d c.args.maker.now c.emit_all.new.maker (lines_of c.args.code.now.items) (lines_of c.put_cases.new.code.items) (lines_of c.args.bodies.now.items) (lines_of c.put_jump.new.code.items) in
     let all =
-        clauses_more _ _ _ _ _ _ _ _ _ _ _ _ _ _ _ _ _ _ _ _ _ _ (subst P next c.loop-clause.invariant) c.in_ok-label.ensures.label c.in_ok-label.ensures.made c.in_ok-label.ensures.taken c.in_ok-label.ensures.spare
-        (subst T c.deref.ensures.value c.in_ok-put_cases.ensures) c.in_ok-put_here.ensures (subst B c.deref-in-loop-clause.ensures.value c.in_ok-emit_all.ensures) c.in_ok-put_jump.ensures in
+    clauses_more _ _ _ _ _ _ _ _ _ _ _ _ _ _ _ _ _ _ _ _ _ _ (subst P next c.loop-clause.invariant) c.in_ok-label.ensures.label c.in_ok-label.ensures.made c.in_ok-label.ensures.taken c.in_ok-label.ensures.spare
+    (subst T c.deref.ensures.value c.in_ok-put_cases.ensures) c.in_ok-put_here.ensures (subst B c.deref-in-loop-clause.ensures.value c.in_ok-emit_all.ensures) c.in_ok-put_jump.ensures in
     subst D (sym c.first_default-default.ensures) all

@@ -1,6 +1,3 @@
-use Rattle.std.proofs.Common.{◌≡◌, ap, sym, ◌∙◌, ◌++◌, ◌∷◌, ◌+◌, drop}
-use Rattle.f66_tree.specs.Views.{formulas_of, lines_of}
-use Rattle.rat_lower.specs.Code.{each_test}
 use Rattle.rat_lower.proofs.Blocks.{next_formulas, more_tests}
 use Rattle.rat_lower.proofs.lines.put_cases.Goals as goal
 

@@ -1,0 +1,170 @@
+-- Small main units, by computation: what they mean, what their units do, that they are checked, and what is refused.
+use Rattle.std.proofs.Common.{◌≡◌, ◌≢◌, ℕ, ◌+◌, ◌≤◌, Bool, true, false, true≢false, List, [], ◌∷◌, Some, None, refl, sym, ap, ◌∙◌, arith}
+use Rattle.std.specs.Prelude.{pos, nat_eq, codes}
+use Rattle.std.specs.Fmt.{digits}
+use Rattle.std.specs.Str.{bytes_eq}
+use Rattle.std.proofs.lemmas.Bool.{ne_eqb}
+use Rattle.std.proofs.lemmas.Slice.Eq.{bytes_eq-Decides}
+use Rattle.ground.specs.declared.fault.FaultKind.TheVariants.{NameTooLong, OutOfProfileType, BadLabel, BadBreak, Unbuilt}
+use Rattle.f66_tree.specs.declared.expression.Operator.TheVariants.{Add, Lt, Eq}
+use Rattle.f66_tree.specs.Forms.{Text, Joined, Nought, Also, Constant, Act, Goes, Stops, Line}
+use Rattle.f66_tree.specs.World.{Record, Shown, Ended, Done, GoesOn}
+use Rattle.f66_tree.specs.Agreement.{Agrees}
+use Rattle.f66_tree.specs.OneUnit.{executed}
+use Rattle.f66_tree.proofs.ExampleParts.{here, i, k, num, var, set, write, i3}
+use Rattle.rat_tree.specs.Commands.{Command, Together, When, Repeats, Until, Counts, Switches, Leaves, Turns, GivesBack, Plainly, Commands, NoCommand, AndCommand, NoClause, AndClause}
+use Rattle.rat_check.specs.Parts.{unit_parts}
+use Rattle.rat_check.specs.FirstFault.{fault_at, fault_of_parts}
+use Rattle.rat_lower.specs.Code.{unit_code}
+use Rattle.rat_lower.specs.OneUnit.{means}
+use Rattle.rat_lower.specs.Checked.{bit, all_given, Lacks, IsChecked}
+use Rattle.rat_lower.specs.Lowered.{source_labels, lowered}
+use Rattle.rat_lower.proofs.Top.{unit_agrees}
+
+abbrev all : List Command → Commands
+all [] = NoCommand
+all (c ∷ cs) = AndCommand c (all cs)
+
+abbrev plain : ℕ → Act → Command
+plain p a = Plainly None (here p) a
+
+abbrev block : ℕ → List Command → Command
+block p cs = Together (here p) (all cs)
+
+-- 9 format(i3)
+abbrev format : Command
+format = Plainly i3.label i3.place i3.act
+
+abbrev z : Text
+z = codes "Z00001"
+
+abbrev unit : List Command → List Line
+unit cs = lowered (source_labels (all cs)) (here 1) (here 99) (all cs)
+
+abbrev shows : List Command → ℕ → Shown
+shows cs b = means (all cs) [] b
+
+abbrev runs : List Command → ℕ → Shown
+runs cs most = executed (unit cs) [] most
+
+-- ---- a switch ----
+
+-- i = 2; switch (i) { case 1: k = 1; case 3, 2: k = 7; default: k = 9 }; write(6,9) k
+abbrev switch : List Command
+switch =
+    plain 1 (set i (num (pos 2)))
+    ∷ Switches (here 2) (var i)
+    (AndClause (Also (num (pos 1)) Nought) false (all (plain 3 (set k (num (pos 1))) ∷ [])) (here 3)
+    (AndClause (Also (num (pos 3)) (Also (num (pos 2)) Nought)) false (all (plain 4 (set k (num (pos 7))) ∷ [])) (here 4)
+    (AndClause Nought true (all (plain 5 (set k (num (pos 9))) ∷ [])) (here 5) NoClause)))
+    ∷ plain 6 (write (k ∷ [])) ∷ format ∷ []
+
+switch_means : (shows switch 1).records ≡ codes "  7" ∷ []
+unfolding digits
+switch_means = refl
+
+switch_runs : (runs switch 40).records ≡ codes "  7" ∷ []
+unfolding digits
+switch_runs = refl
+
+switch_ends : (runs switch 40).end ≡ Ended Done
+unfolding digits
+switch_ends = refl
+
+-- the theorem's premises can be met
+differs : (x y : Text) → bytes_eq x y ≡ false → x ≢ y
+differs x y e same = absurd (true≢false (sym ((bytes_eq-Decides x y).1 same) ∙ e))
+
+one_label : (l : ℕ) → all_given l (all switch) ≤ 1
+one_label l = by_number (nat_eq 9 l)
+  where
+    by_number : (v : Bool) → 0 + (0 + (0 + (bit v + 0))) ≤ 1
+    by_number true = omega arith
+    by_number false = omega arith
+
+other_i : i ≢ z
+other_i = differs i z refl
+
+other_k : k ≢ z
+other_k = differs k z refl
+
+lacks_z : Lacks z (all switch)
+lacks_z = record {
+  statements = ((other_i, tt), ((other_i, ((tt, tt), ((other_k, tt), tt), ((tt, (tt, tt)), ((other_k, tt), tt), (tt, ((other_k, tt), tt), tt)))), ((tt, (other_k, tt)), (tt, tt))));
+  dimensions = (tt, tt);
+}
+
+switch_checked : IsChecked (λ j. 23000 + j) z (all switch)
+switch_checked = record {
+  built = (tt, (((tt, tt), ((tt, tt), ((tt, tt), tt))), (tt, (tt, tt))));
+  fits = (tt, (((tt, tt), ((tt, tt), ((tt, tt), tt))), (tt, (tt, tt))));
+  lands = (tt, (((tt, tt), ((tt, tt), ((tt, tt), tt))), (tt, (tt, tt))));
+  once = one_label;
+  rises = λ a b lt. omega arith;
+  unused = λ j. ap (λ v. 0 + (0 + (0 + (bit v + 0)))) (ne_eqb 9 (23000 + j) (λ e. omega (arith, e)));
+  spared = λ there. lacks_z;
+}
+
+switch_agrees : (input : List Record) → Agrees (means (all switch) input) (executed (unit_code (λ j. 23000 + j) z (here 1) (here 99) (all switch)) input)
+switch_agrees input = unit_agrees (λ j. 23000 + j) z (here 1) (here 99) (all switch) switch_checked input
+
+-- ---- loops, labels and jumps ----
+
+-- do i = 1, 3 { if (i == 2) next; write(6,9) i }; k = 0; 20 k = k + 1; if (k < 3) goto 20; write(6,9) k; stop
+abbrev loops : List Command
+loops =
+    Counts (here 1) i (Constant (pos 1)) (Constant (pos 3)) (Constant (pos 1)) (block 1 (When (here 2) (Joined Eq (var i) (num (pos 2))) (Turns (here 2) 1) ∷ plain 3 (write (i ∷ [])) ∷ []))
+    ∷ plain 4 (set k (num (pos 0))) ∷ Plainly (Some 20) (here 5) (set k (Joined Add (var k) (num (pos 1)))) ∷ When (here 6) (Joined Lt (var k) (num (pos 3))) (plain 6 (Goes 20)) ∷ plain 7 (write (k ∷ [])) ∷ plain 8 (Stops None) ∷ format ∷ []
+
+loops_accepted : fault_of_parts (unit_parts (all loops)) ≡ None
+loops_accepted = refl
+
+loops_mean : (shows loops 3).records ≡ codes "  1" ∷ codes "  3" ∷ codes "  3" ∷ []
+unfolding digits
+loops_mean = refl
+
+loops_run : (runs loops 60).records ≡ codes "  1" ∷ codes "  3" ∷ codes "  3" ∷ []
+unfolding digits
+loops_run = refl
+
+loops_go_on : (runs loops 9).end ≡ GoesOn
+unfolding digits
+loops_go_on = refl
+
+-- ---- refusals ----
+
+-- break 2 in one loop
+abbrev too_far : Command
+too_far = Repeats (here 2) (block 2 (Leaves (here 3) 2 ∷ []))
+
+loop_refused : fault_of_parts (unit_parts (all (plain 1 (set i (num (pos 1))) ∷ too_far ∷ []))) ≡ Some (fault_at (here 3) BadBreak)
+loop_refused = refl
+
+-- goto 10 to a label within braces
+label_refused : fault_of_parts (unit_parts (all (plain 1 (Goes 10) ∷ block 2 (Plainly (Some 10) (here 2) (set i (num (pos 1))) ∷ []) ∷ []))) ≡ Some (fault_at (here 1) BadLabel)
+label_refused = refl
+
+-- a label that stands twice
+second_refused : fault_of_parts (unit_parts (all (Plainly (Some 10) (here 1) (set i (num (pos 1))) ∷ Plainly (Some 10) (here 2) (set i (num (pos 1))) ∷ []))) ≡ Some (fault_at (here 2) BadLabel)
+second_refused = refl
+
+-- a name of seven letters that would be real, and one of one letter
+long_refused : fault_of_parts (unit_parts (all (plain 1 (set i (var (codes "ABCDEFG"))) ∷ []))) ≡ Some (fault_at (here 1) NameTooLong)
+long_refused = refl
+
+real_refused : fault_of_parts (unit_parts (all (plain 1 (set i (var (codes "A"))) ∷ []))) ≡ Some (fault_at (here 1) OutOfProfileType)
+real_refused = refl
+
+-- a WRITE whose format is missing, and the condition of until after the faults of its body
+format_refused : fault_of_parts (unit_parts (all (plain 1 (write (i ∷ [])) ∷ []))) ≡ Some (fault_at (here 1) BadLabel)
+format_refused = refl
+
+body_first : fault_of_parts (unit_parts (all (Until (here 1) (block 1 (Leaves (here 2) 0 ∷ [])) (Joined Lt (var (codes "A")) (num (pos 3))) (here 3) ∷ []))) ≡ Some (fault_at (here 2) BadBreak)
+body_first = refl
+
+-- a return behind a fault: what is not built goes first
+unbuilt_refused : fault_of_parts (unit_parts (all (plain 1 (Goes 10) ∷ GivesBack (here 2) None ∷ []))) ≡ Some (fault_at (here 2) Unbuilt)
+unbuilt_refused = refl
+
+switch_accepted : fault_of_parts (unit_parts (all switch)) ≡ None
+switch_accepted = refl

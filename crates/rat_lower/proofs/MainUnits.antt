@@ -1,0 +1,39 @@
+-- The statements of a main unit that the checks accept: they do what it means, and are built.
+use Rattle.std.proofs.Common.{◌≡◌, ℕ, Bool, true, false, List, [], Option, Some, None, refl, sym, ap, ◌∙◌, subst}
+use Rattle.std.specs.Prelude.{if◌then◌else◌}
+use Rattle.std.proofs.lemmas.Option.{none-some}
+use Rattle.ground.specs.declared.place.Place.{Place}
+use Rattle.ground.specs.declared.fault.FaultKind.TheVariants.{Unbuilt}
+use Rattle.f66_tree.specs.Forms.{Line}
+use Rattle.f66_tree.specs.Units.{is_main}
+use Rattle.f66_tree.specs.World.{Record}
+use Rattle.f66_tree.specs.Agreement.{Agrees}
+use Rattle.f66_tree.specs.Built.{is_built_unit}
+use Rattle.f66_tree.specs.OneUnit.{executed}
+use Rattle.rat_tree.specs.Commands.{RatRoutine}
+use Rattle.rat_check.specs.Parts.{no_label, unit_parts}
+use Rattle.rat_check.specs.FirstFault.{fault_at, with_own, fault_of_parts, unit_fault}
+use Rattle.rat_check.specs.Survey.{is_among, own_labels}
+use Rattle.rat_check.proofs.SurveyLemmas.{own_among}
+use Rattle.rat_lower.specs.OneUnit.{means}
+use Rattle.rat_lower.specs.Emitted.{labels_past, spare_name}
+use Rattle.rat_lower.specs.Lowered.{lowered}
+use Rattle.rat_lower.proofs.Checks.{accepted_agrees, accepted_built}
+
+module _ (u : RatRoutine) (taken given : List ℕ) (first last : Place) (code : List Line) (none_found : unit_fault u ≡ None) (own : taken ≡ own_labels (unit_parts u.body) []) (same : given ≡ taken)
+    (made : code ≡ lowered given first last u.body) where
+  accepted : fault_of_parts (unit_parts u.body) ≡ None
+  accepted = by (is_main u.header) none_found
+    where
+      by : (v : Bool) → (if v then fault_of_parts (unit_parts u.body) else Some (fault_at u.place Unbuilt)) ≡ None → fault_of_parts (unit_parts u.body) ≡ None
+      by true e = e
+      by false e = absurd (none-some _ (sym e))
+
+  all : is_among given ≡ with_own (unit_parts u.body) no_label
+  all = ap is_among (same ∙ own) ∙ own_among (unit_parts u.body)
+
+  pub code_agrees : (input : List Record) → Agrees (means u.body input) (executed code input)
+  code_agrees input = subst (λ lines. Agrees (means u.body input) (executed lines input)) (sym made) (accepted_agrees u.body accepted given all first last input)
+
+  pub code_built : is_built_unit code ≡ true
+  code_built = ap is_built_unit made ∙ accepted_built u.body accepted given all first last

@@ -1,0 +1,31 @@
+-- The unit of FORTRAN that a main unit of Ratfor becomes, and what is refused.
+use Rattle.std.specs.Prelude.{ℕ, ◌+◌, nat_le, List, [], length, Option, Some, None, if◌then◌else◌}
+use Rattle.ground.specs.declared.place.Place.{Place}
+use Rattle.ground.specs.declared.fault.Fault.{Fault}
+use Rattle.ground.specs.declared.fault.FaultKind.TheVariants.{Limit}
+use Rattle.f66_tree.specs.Forms.{Line}
+use Rattle.rat_tree.specs.Commands.{Commands, RatRoutine}
+use Rattle.rat_check.specs.Parts.{unit_parts}
+use Rattle.rat_check.specs.FirstFault.{or_else, unit_fault}
+use Rattle.rat_check.specs.Survey.{own_labels}
+use Rattle.rat_lower.specs.Code.{all_labels, unit_code}
+use Rattle.rat_lower.specs.Emitted.{labels_past, spare_name}
+
+-- its labels are made from 23000 on, without these; the places are that of the unit and that of the end of the text
+abbrev pub lowered : List ℕ → Place → Place → Commands → List Line
+lowered taken first last ss = unit_code (labels_past taken) spare_name first last ss
+
+-- the labels of the source, each once in reading order
+abbrev pub source_labels : Commands → List ℕ
+source_labels ss = own_labels (unit_parts ss) []
+
+-- the labels of the source and those that are made: there is room for so many from 23000 to 99999
+abbrev pub label_count : Commands → ℕ
+label_count ss = length (source_labels ss) + all_labels ss
+
+abbrev pub room_fault : RatRoutine → Option Fault
+room_fault u = if nat_le (label_count u.body) 77000 then None else Some (record { kind = Limit; place = u.place; number = 6 })
+
+-- what the checks refuse, and then what has too many labels
+abbrev pub lower_fault : RatRoutine → Option Fault
+lower_fault u = or_else (unit_fault u) (room_fault u)
