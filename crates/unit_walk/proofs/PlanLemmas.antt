@@ -1,16 +1,20 @@
 -- What is prepared of a unit.
-use Rattle.std.proofs.Common.{◌≡◌, ℕ, ◌+◌, ◌<◌, Bool, true, false, nat_eq, List, [], ◌∷◌, ◌++◌, drop, length, map, get_or, Some, None, Vec, refl, sym, ◌∙◌, ap, subst, arith}
+use Rattle.std.proofs.Common.{◌≤◌, Option, ◌≡◌, ℕ, ◌+◌, ◌<◌, Bool, true, false, nat_eq, nat_lt, if◌then◌else◌, List, [], ◌∷◌, ◌++◌, drop, length, map, get_or, Some, None, Vec, refl, sym, ◌∙◌, ap, subst, arith}
 use Rattle.std.specs.declared.alloc.Global.{Global}
 use Rattle.std.specs.Borrow.{Bor}
+use Rattle.std.specs.Prelude.{cond}
+use Rattle.std.specs.BTreeMap.{BTreeMap, get_by}
+use Rattle.std.specs.Ordering.{nat_cmp, is_eq}
+use Rattle.std.specs.declared.cmp.Ordering.TheVariants.{Less, Equal, Greater}
 use Rattle.std.proofs.lemmas.Bool.Decides.{nat_tests}
-use Rattle.std.proofs.lemmas.List.{drop_more, map-append, get_or_append_left, get_or_default, get_or_push}
+use Rattle.std.proofs.lemmas.List.{drop_more, map-append, drop_all, get_or_append_left, get_or_default, get_or_push}
 use Rattle.f66_tree.specs.declared.statement.Stmt.{Stmt}
 use Rattle.f66_tree.specs.Forms.{Line}
-use Rattle.f66_tree.specs.Execution.{Closer, closer_of, closers}
-use Rattle.f66_tree.specs.Views.{act_of, lines_of}
+use Rattle.f66_tree.specs.Execution.{Closer, closer_of, closers, has_label, from_label}
+use Rattle.f66_tree.specs.Views.{act_of, line_of, lines_of}
 use Rattle.unit_walk.specs.declared.do_loop.Closing.{Closing}
 use Rattle.unit_walk.specs.Running.{closer_at}
-use Rattle.unit_walk.specs.Standing.{ClosesAt}
+use Rattle.unit_walk.specs.Standing.{ClosesAt, Points, LabelsAre}
 use Rattle.unit_walk.specs.Prepared.{ClosesLines, closer_by}
 use Rattle.unit_walk.proofs.StepLemmas.{drop_lines}
 
@@ -49,3 +53,52 @@ closes_more all closings n s es size inside here closes so_far i t fs lt is at =
     by_test false earlier =
         let below : i < n = grind (arith, nat_tests) in
         so_far i t fs below is (at ∙ get_or_append_left closings (es ∷ []) fs i (omega (arith, below, size)))
+
+-- ---- labels ----
+
+same_number : (m l : ℕ) → is_eq (nat_cmp m l) ≡ nat_eq m l
+same_number m l = by_tests (nat_lt m l) (nat_eq m l) refl refl
+  where
+    by_tests : (a b : Bool) → nat_lt m l ≡ a → nat_eq m l ≡ b → is_eq (cond a Less (cond b Equal Greater)) ≡ b
+    by_tests true true less same = absurd (grind (arith, nat_tests))
+    by_tests true false less same = refl
+    by_tests false true less same = refl
+    by_tests false false less same = refl
+
+points_as : (all : List Stmt) (l : ℕ) (rest next : List Line) (o : Option ℕ) → from_label l next ≡ from_label l rest → Points all l rest o → Points all l next o
+points_as all l rest next None is points = is ∙ points
+points_as all l rest next (Some j) is points = is ∙ points
+
+module _ (all : List Stmt) (i : ℕ) (s : Stmt) (within : i < length all) (here : s ≡ get_or all i s) where
+  lines_from : lines_of (drop i all) ≡ line_of s ∷ lines_of (drop (i + 1) all)
+  lines_from = ap (λ (l : List Stmt). lines_of l) (drop_more all i s within) ∙ ap (λ (x : Stmt). line_of x ∷ lines_of (drop (i + 1) all)) (sym here)
+
+  found_here : (l : ℕ) (b : Bool) → has_label l s.label ≡ b → from_label l (lines_of (drop i all)) ≡ (if b then (line_of s ∷ lines_of (drop (i + 1) all)) else from_label l (lines_of (drop (i + 1) all)))
+  found_here l b is = ap (from_label l) lines_from ∙ ap (λ (t : Bool). if t then (line_of s ∷ lines_of (drop (i + 1) all)) else from_label l (lines_of (drop (i + 1) all))) is
+
+  pub points_same : (lines : BTreeMap ℕ ℕ) → s.label ≡ None → LabelsAre all lines (lines_of (drop (i + 1) all)) → LabelsAre all lines (lines_of (drop i all))
+  points_same lines bare so_far l =
+      points_as all l (lines_of (drop (i + 1) all)) (lines_of (drop i all)) (get_by (nat_cmp l) lines) (found_here l false (ap (has_label l) bare)) (so_far l)
+
+  pub points_more : (lines more : BTreeMap ℕ ℕ) (m : ℕ) → s.label ≡ Some m → ((l : ℕ) → get_by (nat_cmp l) more ≡ cond (is_eq (nat_cmp m l)) (Some i) (get_by (nat_cmp l) lines))
+      → LabelsAre all lines (lines_of (drop (i + 1) all)) → LabelsAre all more (lines_of (drop i all))
+  points_more lines more m marked set so_far l =
+      let put : get_by (nat_cmp l) more ≡ cond (nat_eq m l) (Some i) (get_by (nat_cmp l) lines) = set l ∙ ap (λ (b : Bool). cond b (Some i) (get_by (nat_cmp l) lines)) (same_number m l) in
+      subst (λ (o : Option ℕ). Points all l (lines_of (drop i all)) o) (sym put) (by_test (nat_eq m l) refl)
+    where
+      by_test : (b : Bool) → nat_eq m l ≡ b → Points all l (lines_of (drop i all)) (cond b (Some i) (get_by (nat_cmp l) lines))
+      by_test true is = found_here l true (ap (has_label l) marked ∙ is) ∙ sym lines_from
+      by_test false is = points_as all l (lines_of (drop (i + 1) all)) (lines_of (drop i all)) (get_by (nat_cmp l) lines) (found_here l false (ap (has_label l) marked ∙ is)) (so_far l)
+
+pub points_none : (all : List Stmt) (lines : BTreeMap ℕ ℕ) (n : ℕ) → length all ≤ n → ((l : ℕ) → get_by (nat_cmp l) lines ≡ None) → LabelsAre all lines (lines_of (drop n all))
+points_none all lines n past empty l =
+    let none_left : drop n all ≡ [] = drop_all n all past in
+    subst (λ (o : Option ℕ). Points all l (lines_of (drop n all)) o) (sym (empty l)) (ap (λ (rest : List Stmt). from_label l (lines_of rest)) none_left)
+
+pub pointed_to : (all : List Stmt) (l : ℕ) (rest : List Line) (o : Option ℕ) (j : ℕ) → o ≡ Some j → Points all l rest o → lines_of (drop j all) ≡ from_label l rest
+pointed_to all l rest o j is points = sym (subst (λ (p : Option ℕ). Points all l rest p) is points)
+
+pub pointed_past : (all : List Stmt) (l : ℕ) (rest : List Line) (o : Option ℕ) → o ≡ None → Points all l rest o → lines_of (drop (length all) all) ≡ from_label l rest
+pointed_past all l rest o is points =
+    let past : length all ≤ length all = omega arith in
+    ap (λ (ls : List Stmt). lines_of ls) (drop_all (length all) all past) ∙ sym (subst (λ (p : Option ℕ). Points all l rest p) is points)

@@ -1,5 +1,5 @@
 -- The shapes of formats and lists that are built.
-use Rattle.std.proofs.Common.{◌≡◌, ℕ, true, List, [], ◌∷◌, get_or, sym, ap}
+use Rattle.std.proofs.Common.{false, refl, arith, length, ◌≢◌, Bool, ◌≡◌, ℕ, true, List, [], ◌∷◌, get_or, sym, ap}
 use Rattle.f66_tree.specs.declared.format.Field.{Field}
 use Rattle.f66_tree.specs.declared.format.Field as f
 use Rattle.f66_tree.specs.declared.statement.Entry.{Entry}
@@ -50,3 +50,31 @@ pub one_of : (all : List Field) (x : Field) → is_one_field (fields_of all) ≡
 one_of [] x built is = cc built
 one_of (a ∷ []) x built is = ap (λ (e : Field). field_then e NoField) (sym is)
 one_of (a ∷ b ∷ rest) x built is = absurd (two_fields a b (fields_of rest) built)
+
+pub not_one_field : (all : List Field) → length all ≢ 1 → false ≡ is_one_field (fields_of all)
+not_one_field [] other = refl
+not_one_field (a ∷ []) other = absurd (other refl)
+not_one_field (a ∷ b ∷ rest) other = by_test (is_one_field (fields_of (a ∷ b ∷ rest))) (two_fields a b (fields_of rest))
+  where
+    by_test : (t : Bool) → (t ≡ true → ⊥) → false ≡ t
+    by_test true never = absurd (never refl)
+    by_test false never = refl
+
+pub not_one_entry : (all : List Entry) → length all ≢ 1 → false ≡ is_one_variable (entries_of all)
+not_one_entry [] other = refl
+not_one_entry (a ∷ []) other = absurd (other refl)
+not_one_entry (a ∷ b ∷ rest) other = by_test (is_one_variable (entries_of (a ∷ b ∷ rest))) (two_entries (entry_of a) (entry_of b) (entries_of rest))
+  where
+    by_test : (t : Bool) → (t ≡ true → ⊥) → false ≡ t
+    by_test true never = absurd (never refl)
+    by_test false never = refl
+
+pub lone_field : (all : List Field) (x : Field) → length all ≡ 1 → x ≡ get_or all 0 x → field_then x NoField ≡ fields_of all
+lone_field [] x size is = absurd (omega arith)
+lone_field (a ∷ []) x size is = ap (λ (e : Field). field_then e NoField) is
+lone_field (a ∷ b ∷ rest) x size is = absurd (omega (arith, size))
+
+pub lone_entry : (all : List Entry) (x : Entry) → length all ≡ 1 → x ≡ get_or all 0 x → AndEntry (entry_of x) NoEntry ≡ entries_of all
+lone_entry [] x size is = absurd (omega arith)
+lone_entry (a ∷ []) x size is = ap (λ (e : Entry). AndEntry (entry_of e) NoEntry) is
+lone_entry (a ∷ b ∷ rest) x size is = absurd (omega (arith, size))

@@ -1,5 +1,7 @@
 -- Where a run stands in the code, and what a statement comes to.
-use Rattle.std.specs.Prelude.{◌≡◌, ℕ, suc, ◌+◌, ◌<◌, true, List, drop, length, map, All, slice_index_or as get_or, Option, Vec, ⊤}
+use Rattle.std.specs.Prelude.{◌≡◌, ℕ, suc, ◌+◌, ◌<◌, true, List, [], drop, length, map, All, slice_index_or as get_or, Option, Some, None, Vec, ⊤}
+use Rattle.std.specs.BTreeMap.{BTreeMap, get_by}
+use Rattle.std.specs.Ordering.{nat_cmp}
 use Rattle.std.specs.declared.alloc.Global.{Global}
 use Rattle.ground.specs.declared.place.Place.{Place}
 use Rattle.f66_tree.specs.declared.statement.Stmt.{Stmt}
@@ -9,7 +11,7 @@ use Rattle.f66_tree.specs.Units.{notes_of}
 use Rattle.f66_tree.specs.Views.{lines_of}
 use Rattle.f66_tree.specs.Built.{is_built_unit}
 use Rattle.f66_tree.specs.Statements.{Exit, does}
-use Rattle.f66_tree.specs.Execution.{Progress, stand, closers_at, nowhere, leads, perform, exec, start, no_loops}
+use Rattle.f66_tree.specs.Execution.{Progress, stand, closers_at, nowhere, from_label, leads, perform, exec, start, no_loops}
 use Rattle.f66_tree.specs.OneUnit.{one_unit}
 use Rattle.unit_walk.specs.declared.do_loop.Closing.{Closing}
 use Rattle.unit_walk.specs.declared.do_loop.Lead.{Lead}
@@ -17,7 +19,7 @@ use Rattle.unit_walk.specs.declared.do_loop.Lead.TheVariants.{At, Over}
 use Rattle.unit_walk.specs.declared.plan.Plan.{Plan}
 use Rattle.unit_walk.specs.declared.run.Run.{Run}
 use Rattle.unit_walk.specs.Values.{value_under, AllInRange}
-use Rattle.unit_walk.specs.Walking.{Holds, AreFormats, main_at, around_main}
+use Rattle.unit_walk.specs.Walking.{Holds, AreNotes, main_at, around_main}
 use Rattle.unit_walk.specs.Loops.{PassesFit}
 use Rattle.unit_walk.specs.Leaving.{end_of}
 use Rattle.unit_walk.specs.Running.{LoopsAre, closer_at, Part}
@@ -27,12 +29,22 @@ pub record ClosesAt (code : List Line) (label : Option ℕ) (closings : List Clo
   pub same : map (closer_at code) closings ≡ closers_at label code
   pub within : All (λ e. e.index < length code) closings
 
--- the lines of a plan, and the loops that end at each
+-- where a label is found from some line on
+abbrev pub Points : List Stmt → ℕ → List Line → Option ℕ → Type 0
+Points all l rest None = from_label l rest ≡ []
+Points all l rest (Some j) = from_label l rest ≡ lines_of (drop j all)
+
+-- where each label is found from some line on
+abbrev pub LabelsAre : List Stmt → BTreeMap ℕ ℕ → List Line → Type 0
+LabelsAre all lines rest = (l : ℕ) → Points all l rest (get_by (nat_cmp l) lines)
+
+-- the lines of a plan, the loops that end at each, and the labels
 pub record IsPlan (plan : Plan) : Type 0 where
   pub built : is_built_unit (lines_of plan.code.now) ≡ true
-  pub formats : AreFormats (notes_of (lines_of plan.code.now))
+  pub formats : AreNotes (notes_of (lines_of plan.code.now))
   pub closes : (i : ℕ) (s : Stmt) (closings : Vec Closing Global) → i < length plan.code.now → s ≡ get_or plan.code.now i s → closings ≡ get_or plan.closings.items i closings → ClosesAt (lines_of plan.code.now) s.label closings.items
   pub size : length plan.closings.items ≡ length plan.code.now
+  pub labels : LabelsAre plan.code.now plan.lines (lines_of plan.code.now)
 
 pub record IsSound (code : List Line) (run : Run) : Type 0 where
   pub range : AllInRange (value_under run.variables)

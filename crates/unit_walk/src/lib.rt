@@ -1,6 +1,7 @@
 //! A walk of one main unit of FORTRAN, statement by statement.
 #![tactic(auto)]
 
+mod built;
 mod do_loop;
 mod plan;
 mod run;
@@ -8,5 +9,9 @@ mod statement;
 mod value;
 mod walked;
 
+pub use built::is_built;
 pub use statement::RunEnd;
 pub use walked::{Walked, walk};
+
+#[cfg(test)]
+mod tests;

@@ -6,18 +6,21 @@ ghost use Rattle.f66_tree.specs.Forms.{Line};
 ghost use Rattle.f66_tree.specs.Execution.{Closer, closer_of, from_label, runnable};
 ghost use Rattle.f66_tree.specs.Views.{act_of, lines_of};
 ghost use Rattle.f66_tree.specs.Built.{is_built_unit};
-ghost use Rattle.unit_walk.specs.Standing.{IsPlan, ClosesAt};
+ghost use Rattle.unit_walk.specs.Standing.{IsPlan, ClosesAt, LabelsAre};
 ghost use Rattle.unit_walk.specs.Prepared.{ClosesLines, closer_by};
 
 use crate::do_loop::Closing;
 use f66_tree::{Name, Stmt, StmtKind};
 use std::alloc::{AllocError, Global};
+use std::collections::BTreeMap;
 
 /// A unit's statements, with the DO loops that end at each, innermost first.
 #[derive(Debug, Drop)]
 pub(crate) struct Plan<'a> {
     pub code: &'a [Stmt],
     pub closings: Vec<Vec<Closing<'a>>>,
+    /// The index of the first line with each label.
+    pub lines: BTreeMap<u32, usize>,
     /// How many statements may begin.
     pub limit: u64,
 }
@@ -31,11 +34,24 @@ impl<'a> Plan<'a> {
         ensures limit { IfOk result (λ plan. plan.limit ≡ limit) }
     {
         let closings = closings_of(alloc, code)?;
+        let lines = lines_by_label(alloc, code)?;
         Ok(Plan {
             code,
             closings,
+            lines,
             limit,
         })
+    }
+
+    /// The index of the first line with a label, or that behind the last line.
+    pub(crate) fn line_with(&self, label: u32) -> usize
+        requires { IsPlan self.now }
+        ensures { lines_of (drop result self.now.code.now) ≡ from_label label (lines_of self.now.code.now) }
+    {
+        match self.lines.get(&label) {
+            Some(index) => *index,
+            None => self.code.len(),
+        }
     }
 
     /// The loops that end at a line, the innermost first.
@@ -102,16 +118,21 @@ fn loop_to(kind: &StmtKind, label: u32) -> Option<&Name>
     }
 }
 
-/// The index of the first line with this label, or that behind the last line.
-pub(crate) fn line_with(code: &[Stmt], label: u32) -> usize
-    ensures { lines_of (drop result code.now) ≡ from_label label (lines_of code.now) }
+/// The index of the first line with each label.
+fn lines_by_label(alloc: Global, code: &[Stmt]) -> Result<BTreeMap<u32, usize>, AllocError>
+    ensures { IfOk result (λ lines. LabelsAre code.now lines (lines_of code.now)) }
 {
-    for (index, statement) in code.iter().enumerate() {
-        if statement.label == Some(label) {
-            return index;
+    let mut lines = BTreeMap::new(alloc);
+    for index in (0..code.len()).rev() {
+        let statement = &code[index];
+        match statement.label {
+            Some(label) => {
+                lines.insert(label, index)?;
+            }
+            None => {}
         }
     }
-    code.len()
+    Ok(lines)
 }
 
 /// The index of the first line from `at` on that is executed.

@@ -14,7 +14,7 @@ ghost use Rattle.unit_walk.specs.Shows.{IsFirst};
 ghost use Rattle.unit_walk.specs.Standing.{IsPlan, IsSound, plainly, onward, branch_line, runs, performs, Stands, LeadsTo, Rises};
 
 use crate::do_loop::{Lead, Pass, begin, close};
-use crate::plan::{Plan, is_note, line_with};
+use crate::plan::{Plan, is_note};
 use crate::statement::{Exit, RunEnd, perform};
 use crate::value::{Variables, holds};
 use f66_tree::{Stmt, StmtKind};
@@ -171,7 +171,7 @@ fn plain<'a>(
         place,
     )? {
         Exit::Next => next_line(plan, run, index, statement),
-        Exit::To(label) => Ok(Lead::At(line_with(plan.code, label))),
+        Exit::To(label) => Ok(Lead::At(plan.line_with(label))),
         Exit::Ends(end) => Ok(Lead::Over(end)),
     }
 }

@@ -1,0 +1,269 @@
+// Small programs with what they show, worked out by hand from the standard.
+
+use crate::{RunEnd, Walked, is_built, walk};
+use f66_tree::{Entry, Expr, Field, Name, Operator, Par, Stmt, StmtKind};
+use ground::{Place, Text};
+use std::alloc::{AllocError, Global};
+use std::test::Fail;
+
+/// A program that is read byte by byte: digits and letters go on a stack, signs take from it. Each statement stands on a
+/// line of its own, counted from 1.
+#[derive(Drop)]
+struct Reading {
+    stack: Vec<Expr>,
+    lines: Vec<Stmt>,
+    label: Option<u32>,
+    test: Option<Expr>,
+}
+
+fn name(alloc: Global, letter: u8) -> Result<Name, AllocError> {
+    Ok(Name::new(Text::new([letter].to_vec(alloc)?)))
+}
+
+impl Reading {
+    fn number(&mut self) -> u16 {
+        match self.stack.pop() {
+            Some(Expr::Int(value)) if 0 <= value && value <= 200 => value as u16,
+            _ => 0,
+        }
+    }
+
+    fn named(&mut self, alloc: Global) -> Result<Name, AllocError> {
+        match self.stack.pop() {
+            Some(Expr::Ref(letter)) => Ok(letter),
+            _ => name(alloc, b'?'),
+        }
+    }
+
+    fn par(&mut self) -> Par {
+        match self.stack.pop() {
+            Some(Expr::Int(value)) => Par::Number(value),
+            Some(Expr::Ref(letter)) => Par::Variable(letter),
+            _ => Par::Number(0),
+        }
+    }
+
+    fn value(&mut self) -> Expr {
+        match self.stack.pop() {
+            Some(e) => e,
+            None => Expr::Truth(false),
+        }
+    }
+
+    fn pair(&mut self, alloc: Global, operator: Operator) -> Result<(), AllocError> {
+        let second = self.value();
+        let first = self.value();
+        let first = Box::new(alloc, first)?;
+        let second = Box::new(alloc, second)?;
+        self.stack.push(Expr::Pair(operator, first, second))?;
+        Ok(())
+    }
+
+    fn ends(&mut self, alloc: Global, kind: StmtKind) -> Result<(), AllocError> {
+        let line = match u32::try_from(self.lines.len()) {
+            Ok(line) => line,
+            Err(_) => 0,
+        };
+        let place = Place {
+            file: 0,
+            line: line.saturating_add(1),
+        };
+        let kind = match self.test.take() {
+            Some(test) => StmtKind::When(test, Box::new(alloc, kind)?),
+            None => kind,
+        };
+        let label = self.label.take();
+        self.lines.push(Stmt { label, place, kind })?;
+        Ok(())
+    }
+
+    /// A DO (`D`), its label, variable and parameters before it.
+    fn ends_loop(&mut self, alloc: Global) -> Result<(), AllocError> {
+        let step = self.par();
+        let last = self.par();
+        let first = self.par();
+        let variable = self.named(alloc)?;
+        let label = u32::from(self.number());
+        self.ends(alloc, StmtKind::Loop(label, variable, first, last, step))
+    }
+
+    /// A computed GO TO of two labels (`C`), which stand before its index.
+    fn ends_choice(&mut self, alloc: Global) -> Result<(), AllocError> {
+        let index = self.named(alloc)?;
+        let second = u32::from(self.number());
+        let first = u32::from(self.number());
+        let labels = [first, second].to_vec(alloc)?;
+        self.ends(alloc, StmtKind::Computed(labels, index))
+    }
+
+    /// A WRITE of a variable by the format 9 (`!`).
+    fn ends_write(&mut self, alloc: Global) -> Result<(), AllocError> {
+        let item = self.named(alloc)?;
+        let mut entries = Vec::new(alloc);
+        entries.push(Entry::Item(Expr::Ref(item)))?;
+        self.ends(alloc, StmtKind::Write(Par::Number(6), 9, entries))
+    }
+
+    /// A FORMAT of one integer (`F`), its width before it.
+    fn ends_format(&mut self, alloc: Global) -> Result<(), AllocError> {
+        let width = self.number();
+        let mut fields = Vec::new(alloc);
+        fields.push(Field::Whole(1, width))?;
+        self.ends(alloc, StmtKind::Format(fields))
+    }
+
+    fn ends_assignment(&mut self, alloc: Global) -> Result<(), AllocError> {
+        let right = self.value();
+        let left = self.value();
+        self.ends(alloc, StmtKind::Assign(left, right))
+    }
+
+    fn statement(&mut self, alloc: Global, byte: u8) -> Result<(), AllocError> {
+        match byte {
+            b':' => self.ends_assignment(alloc),
+            b'!' => self.ends_write(alloc),
+            b'F' => self.ends_format(alloc),
+            b'D' => self.ends_loop(alloc),
+            b'C' => self.ends_choice(alloc),
+            b'.' => self.ends(alloc, StmtKind::Continue),
+            b'#' => self.ends(alloc, StmtKind::Stop(None)),
+            b'S' => {
+                let number = self.number();
+                self.ends(alloc, StmtKind::Stop(Some(number)))
+            }
+            b'G' => {
+                let label = u32::from(self.number());
+                self.ends(alloc, StmtKind::Goto(label))
+            }
+            _ => Ok(()),
+        }
+    }
+
+    fn take(&mut self, alloc: Global, byte: u8) -> Result<(), AllocError> {
+        match byte {
+            b'0'..=b'9' => {
+                self.stack.push(Expr::Int(i64::from(byte - b'0')))?;
+                Ok(())
+            }
+            b'a'..=b'z' => {
+                self.stack.push(Expr::Ref(name(alloc, byte)?))?;
+                Ok(())
+            }
+            b'B' => {
+                self.stack.push(Expr::Int(2_147_483_647))?;
+                Ok(())
+            }
+            b'W' => {
+                self.stack.push(Expr::Int(133))?;
+                Ok(())
+            }
+            b'~' => {
+                let negative = Box::new(alloc, self.value())?;
+                self.stack.push(Expr::Minus(negative))?;
+                Ok(())
+            }
+            b'@' => {
+                self.label = Some(u32::from(self.number()));
+                Ok(())
+            }
+            b'?' => {
+                self.test = Some(self.value());
+                Ok(())
+            }
+            b'+' => self.pair(alloc, Operator::Add),
+            b'*' => self.pair(alloc, Operator::Mul),
+            b'/' => self.pair(alloc, Operator::Div),
+            b'^' => self.pair(alloc, Operator::Power),
+            b'<' => self.pair(alloc, Operator::Lt),
+            b'=' => self.pair(alloc, Operator::Eq),
+            b'|' => self.pair(alloc, Operator::Or),
+            _ => self.statement(alloc, byte),
+        }
+    }
+}
+
+fn lines_of(alloc: Global, text: &[u8]) -> Result<Vec<Stmt>, AllocError> {
+    let mut reading = Reading {
+        stack: Vec::new(alloc),
+        lines: Vec::new(alloc),
+        label: None,
+        test: None,
+    };
+    for byte in text {
+        reading.take(alloc, *byte)?;
+    }
+    Ok(reading.lines)
+}
+
+/// The records with `/` behind each, the end, and how many statements began.
+fn shown(alloc: Global, walked: &Walked) -> Result<String, AllocError> {
+    let mut shown = String::new(alloc);
+    for record in &walked.records {
+        for byte in record.as_bytes() {
+            shown.push(*byte as char)?;
+        }
+        shown.push('/')?;
+    }
+    match walked.end {
+        RunEnd::Done => shown.push_str("done")?,
+        RunEnd::Stopped(number) => write!(shown, "stop {number}")?,
+        RunEnd::Trapped(trap, place) => {
+            let number = trap.number();
+            let line = place.line;
+            write!(shown, "trap {number} at {line}")?;
+        }
+        RunEnd::GoesOn => shown.push_str("goes on")?,
+    }
+    let begun = walked.begun;
+    write!(shown, " {begun}")?;
+    Ok(shown)
+}
+
+#[test]
+fn programs(rt: HostRuntime) -> Result<(), Fail> {
+    let rows: [(&[u8], u64, &str); 34] = [
+        (b"", 0, "done 0"),
+        (b".", 0, "goes on 0"),
+        (b".", 1, "done 1"),
+        (b"9@4F", 0, "done 0"),
+        (b"3S.", 9, "stop 3 1"),
+        (b"k7:9@4Fk!#.", 9, "   7/done 3"),
+        (b"9@1Fk7~:k!", 9, "*/done 2"),
+        (b"9@WFk7:k!", 9, "trap 14 at 3 2"),
+        (b"9@WFk!", 9, "trap 5 at 2 1"),
+        (b".k!9@2F", 9, "trap 5 at 2 2"),
+        (b"kB:kk1+:", 9, "trap 1 at 2 2"),
+        (b"k10/:", 9, "trap 2 at 1 1"),
+        (b"k00^:", 9, "trap 3 at 1 1"),
+        (b"k7~2/:9@2Fk!", 9, "-3/done 2"),
+        (b"9@2Fk1:2@k!kk1+:k4<?2Gk!", 99, " 1/ 2/ 3/ 4/done 13"),
+        (b"9@2Fk1:2@k!kk1+:k4<?2Gk!", 4, " 1/goes on 4"),
+        (b"9@2Fk1:2@k!kk1+:k4<?2Gk!", 5, " 1/goes on 5"),
+        (b"9@2Fk1:2@k!kk1+:k4<?2Gk!", 13, " 1/ 2/ 3/ 4/done 13"),
+        (b"9@2Fk1:2@k!kk1+:k4<?2Gk!", 12, " 1/ 2/ 3/goes on 12"),
+        (b"k2:56kC#5@1S6@2S", 9, "stop 2 3"),
+        (b"k1:56kC#5@1S6@2S", 9, "stop 1 3"),
+        (b"k0:56kC", 9, "trap 10 at 2 2"),
+        (b"k3:56kC", 9, "trap 10 at 2 2"),
+        (b"9@2F5i131D5@i!k7:", 99, " 1/ 2/ 3/done 5"),
+        (b"9@2F5i111D5@i!k7:", 99, " 1/done 3"),
+        (b"5i211D5@.", 99, "trap 9 at 1 1"),
+        (b"5i110D5@.", 99, "trap 9 at 1 1"),
+        (b"9@2F5i142D5@i!i!", 99, " 1/ 3/trap 5 at 4 4"),
+        (b"9@2F5i121D5j121D5@j!", 99, " 1/ 2/ 1/ 2/done 7"),
+        (b"5iBB1D5@..", 99, "done 3"),
+        (b"9@2F5i191Di4=?6G5@.#6@i!", 99, " 4/done 10"),
+        (b"1k=?k1:", 9, "trap 5 at 1 1"),
+        (b"11=?9@2F.", 9, "done 2"),
+        (b"12=10/1=|?.", 9, "trap 2 at 1 1"),
+    ];
+    for (text, limit, wanted) in rows {
+        let code = lines_of(rt.alloc(), text)?;
+        let built = is_built(&code);
+        assert!(rt; built, "not built");
+        let walked = walk(rt.alloc(), &code, limit).ok().ok_or("memory")?;
+        let found = shown(rt.alloc(), &walked)?;
+        assert_eq!(rt; found.as_str(), wanted);
+    }
+    Ok(())
+}
