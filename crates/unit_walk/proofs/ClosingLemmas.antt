@@ -11,7 +11,7 @@ use Rattle.unit_walk.specs.declared.do_loop.Pass.{Pass}
 use Rattle.unit_walk.specs.declared.do_loop.Closing.{Closing}
 use Rattle.unit_walk.specs.declared.do_loop.Lead.TheVariants.{At}
 use Rattle.unit_walk.specs.Values.{Values}
-use Rattle.unit_walk.specs.Walking.{AreFormats, main_at, around_main}
+use Rattle.unit_walk.specs.Walking.{AreNotes, main_at, around_main}
 use Rattle.unit_walk.specs.Loops.{loop_of, Turns}
 use Rattle.unit_walk.specs.Running.{Part, Leads}
 use Rattle.unit_walk.specs.Closing.{closing, Closes, ClosedTo}
@@ -27,7 +27,7 @@ module _ (passes : List Pass) (closings : List Closing) (next : ℕ) (p : Place)
 
   pub close_turns : (k : ℕ) (now : Values) (e : Closing) (pass : Pass) (r : Result Bool Trap) (new : Values) → drop k closings ≡ e ∷ drop (k + 1) closings → e.index < length passes → pass ≡ get_or passes e.index pass
       → Turns e.variable.now pass now r new → ClosedTo passes closings next p values k now
-      → (code : List Line) → length code ≡ length passes → AreFormats (notes_of code) → (records : List Record) → Leads code passes (closing code closings next p) (turned_to code e (drop (k + 1) closings) r) values records new records
+      → (code : List Line) → length code ≡ length passes → AreNotes (notes_of code) → (records : List Record) → Leads code passes (closing code closings next p) (turned_to code e (drop (k + 1) closings) r) values records new records
   close_turns k now e pass r new split within here turns so_far code size are records = record {
     is = λ n run go pr loops w holds.
         let s : Setting = around_main (notes_of code) code n run in

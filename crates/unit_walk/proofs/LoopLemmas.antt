@@ -17,7 +17,7 @@ use Rattle.f66_tree.specs.OneUnit.{list_number}
 use Rattle.unit_walk.specs.declared.do_loop.Pass.{Pass}
 use Rattle.unit_walk.specs.Values.{Values, Sets, known, par_value}
 use Rattle.unit_walk.specs.Loops.{loop_of, fitted, begun_loop, next_value}
-use Rattle.unit_walk.specs.Walking.{content_of, Holds, AreFormats, main_at, around_main, Comes}
+use Rattle.unit_walk.specs.Walking.{content_of, Holds, AreNotes, main_at, around_main, Comes}
 use Rattle.unit_walk.proofs.ValueLemmas.{asked_is, par_is}
 use Rattle.unit_walk.proofs.StatementLemmas.{put_holds, same_counts}
 
@@ -26,7 +26,7 @@ started_by : Setting → Place → Text → World → Result (ℤ × Pass) Trap 
 started_by s p x w (Err t) = Halts (Ended (Trapped t p)) w
 started_by s p x w (Ok v) = bind (store_at s (main_at p) (Held 0 x 0) (Whole v.0) w) (λ _ w1. Gives (loop_of v.1) w1)
 
-module _ (notes : List Note) (are : AreFormats notes) (code : List Line) (n : ℕ) (run : Frame → Stand → World → Out ⊤) (values : Values) (records : List Record) (p : Place) (w : World) (holds : Holds values records w) where
+module _ (notes : List Note) (are : AreNotes notes) (code : List Line) (n : ℕ) (run : Frame → Stand → World → Out ⊤) (values : Values) (records : List Record) (p : Place) (w : World) (holds : Holds values records w) where
   fits : (x : Text) (a b c : ℤ) → bind (settle p (fit_loop a b c) w) (λ k w1. bind (store_at (around_main notes code n run) (main_at p) (Held 0 x 0) (Whole a) w1) (λ _ w2. Gives k w2)) ≡ started_by (around_main notes code n run) p x w (fitted a b c)
   unfolding started_by
   fits x a b c = by_test (int_le (pos 1) a && int_le a b && int_le (pos 1) c)

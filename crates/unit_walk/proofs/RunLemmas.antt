@@ -20,7 +20,7 @@ use Rattle.unit_walk.specs.declared.do_loop.Lead.{Lead}
 use Rattle.unit_walk.specs.declared.do_loop.Lead.TheVariants.{At, Over}
 use Rattle.unit_walk.specs.declared.run.Run.{Run}
 use Rattle.unit_walk.specs.Values.{Values, value_under, truth}
-use Rattle.unit_walk.specs.Walking.{HoldsValues, AreFormats, main_at, around_main}
+use Rattle.unit_walk.specs.Walking.{HoldsValues, AreNotes, main_at, around_main}
 use Rattle.unit_walk.specs.Loops.{loop_of, Begins}
 use Rattle.unit_walk.specs.Running.{LoopsAre, Part, led_to, Leads}
 use Rattle.unit_walk.specs.Standing.{plainly, runs, performs, Stands, led, LeadsTo}
@@ -104,7 +104,7 @@ performs_plain notes s p code label index _ go pr w is = refl
 
 -- ---- logical IF ----
 
-pub conditioned : (code : List Line) → AreFormats (notes_of code) → (w : World) (values : Values) → HoldsValues values w.state.store → (label : Option ℕ) (p : Place) (e : Formula) (a : Act) (rest : List Line) (pr : Progress) (r : Result Bool Trap)
+pub conditioned : (code : List Line) → AreNotes (notes_of code) → (w : World) (values : Values) → HoldsValues values w.state.store → (label : Option ℕ) (p : Place) (e : Formula) (a : Act) (rest : List Line) (pr : Progress) (r : Result Bool Trap)
     → is_condition e ≡ true → r ≡ truth values e
     → performs code w (record { label = label; place = p; act = Chooses e a }) rest pr
     ≡ bind (settle p (lifted r) w) (λ holds w1. choose holds (main_from code (suc w.left) (stand (record { label = label; place = p; act = a } ∷ rest) pr) w1) (leads (around_from code (suc w.left)) (main_at p) code label rest (main_from code (suc w.left)) pr Next w1))
@@ -127,7 +127,7 @@ loops_set code passes pr index k within size loops i q lt here = by_test (nat_eq
         let apart : i ≢ index = λ same. cc (ap (λ (j : ℕ). nat_eq (length (drop (j + 1) code)) (length (drop (index + 1) code))) same, is, eq-eqb (length (drop (index + 1) code)) (length (drop (index + 1) code)) refl) in
         loops i q lt (here ∙ get_or-set_other passes index i k q apart)
 
-module _ (code : List Line) (limit : ℕ) (run : Run) (w : World) (pr : Progress) (stands : Stands code limit run w pr) (are : AreFormats (notes_of code)) (label : Option ℕ) (p : Place) (l : ℕ) (x : Text) (a b c : Par) (index : ℕ) where
+module _ (code : List Line) (limit : ℕ) (run : Run) (w : World) (pr : Progress) (stands : Stands code limit run w pr) (are : AreNotes (notes_of code)) (label : Option ℕ) (p : Place) (l : ℕ) (x : Text) (a b c : Par) (index : ℕ) where
   abbrev loop_line : Line
   loop_line = record { label = label; place = p; act = Loops l x a b c }
 

@@ -16,7 +16,7 @@ use Rattle.f66_tree.specs.Execution.{Stand}
 use Rattle.f66_tree.specs.OneUnit.{list_number}
 use Rattle.f66_tree.specs.Built.{is_whole}
 use Rattle.unit_walk.specs.Values.{Values, AllInRange, Sets, known, whole_value}
-use Rattle.unit_walk.specs.Walking.{content_of, HoldsValues, Holds, AreFormats, main_at, around_main, SameCounts, Comes}
+use Rattle.unit_walk.specs.Walking.{content_of, HoldsValues, Holds, AreNotes, main_at, around_main, SameCounts, Comes}
 use Rattle.unit_walk.proofs.Spots.{same_unit}
 use Rattle.unit_walk.proofs.ValueLemmas.{variable_is, whole_is}
 
@@ -30,7 +30,7 @@ put_holds values new store name o sets holds = record { under = λ q. put_is q (
 pub same_counts : (w : World) → SameCounts w w
 same_counts w = record { left = refl; count = refl }
 
-module _ (notes : List Note) (are : AreFormats notes) (code : List Line) (n : ℕ) (run : Frame → Stand → World → Out ⊤) (values : Values) (records : List Record) (p : Place) (w : World) (holds : Holds values records w) where
+module _ (notes : List Note) (are : AreNotes notes) (code : List Line) (n : ℕ) (run : Frame → Stand → World → Out ⊤) (values : Values) (records : List Record) (p : Place) (w : World) (holds : Holds values records w) where
   pub assigns : (new : Values) (name : Text) (e : Formula) (z : ℤ) → Sets values name (Some z) new → is_whole e ≡ true → Ok z ≡ whole_value values e
       → Comes (does (around_main notes code n run) (main_at p) (Assigns (Variable name) e) w) (λ w1. Gives Next w1) w new records
   assigns new name e z sets built is = record {

@@ -1,6 +1,7 @@
 -- The value of an expression in a store that holds the values of the variables.
 use Rattle.std.proofs.Common.{◌≡◌, ℕ, ℤ, neg_ℤ, Bool, true, false, not, ◌&&◌, ◌||◌, List, [], ◌∷◌, nat_le, Option, Some, None, Result, Ok, Err, refl, ◌∙◌, ap, if◌then◌else◌}
 use Rattle.std.specs.Prelude.{⊤}
+use Rattle.std.specs.Str.{bytes_eq}
 use Rattle.ground.specs.declared.place.Place.{Place}
 use Rattle.ground.specs.declared.trap.Trap.{Trap}
 use Rattle.ground.specs.declared.value.Kind.{Kind}
@@ -11,37 +12,15 @@ use Rattle.f66_tree.specs.declared.declaration.TypeWord.TheVariants.{Integer, Ot
 use Rattle.f66_tree.specs.declared.expression.Operator.{Operator}
 use Rattle.f66_tree.specs.declared.expression.Operator.TheVariants.{Add, Sub, Mul, Div, Power, Lt, Le, Eq, Ne, Ge, Gt, And, Or}
 use Rattle.f66_tree.specs.Turns.{◌>>=◌}
-use Rattle.f66_tree.specs.Forms.{Text, Formula, Number, Fact, Letter, Variable, Applied, Grouped, Positive, Negative, Negated, Joined, Par, Constant, Named, Line}
+use Rattle.f66_tree.specs.Forms.{Text, Formula, Number, Fact, Letter, Variable, Applied, Grouped, Positive, Negative, Negated, Joined, Par, Constant, Named, Declared, Act, Formats, Types, Line}
 use Rattle.f66_tree.specs.World.{World, Out, Try, Yields, Traps, bind, settle, lifted}
-use Rattle.f66_tree.specs.Units.{Note, Frame, kind_by, by_letter, type_in, typed_by, sizes_of, sizes_by}
+use Rattle.f66_tree.specs.Units.{Note, Frame, kind_by, by_letter, type_in, typed_by, lists, sizes_of, sizes_by, sizes_in, if_any}
 use Rattle.f66_tree.specs.Evaluation.{whole, on_whole, on_truth, operate, opposite, denied, same_whole, truth_in, asked, variable_in, par_in, value_of, asks, by_operator}
 use Rattle.f66_tree.specs.Execution.{Stand}
-use Rattle.f66_tree.specs.Built.{is_arithmetic, is_relation, is_whole, is_condition}
+use Rattle.f66_tree.specs.Built.{is_scalar, are_scalars, is_arithmetic, is_relation, is_whole, is_condition}
 use Rattle.f66_tree.specs.OneUnit.{list_number}
 use Rattle.unit_walk.specs.Values.{Values, known, combined, whole_value, related, relation, truth, par_value}
-use Rattle.unit_walk.specs.Walking.{content_of, HoldsValues, AreFormats, main_at, around_main}
-
--- ---- names ----
-
-typed : (x : Text) (notes : List Note) (before : TypeWord) → AreFormats notes → type_in x notes before ≡ before
-typed x [] before are = refl
-typed x (s ∷ notes) before are = ap (λ a. typed_by x a (type_in x notes before)) are.0.is ∙ typed x notes before are.1
-
--- a name without a type is an integer here
-by_letter_is : (x : Text) → kind_by (by_letter x) ≡ AnInteger
-by_letter_is [] = refl
-by_letter_is (c ∷ cs) = by_test (nat_le 73 c && nat_le c 78)
-  where
-    by_test : (b : Bool) → kind_by (if b then Integer else Other) ≡ AnInteger
-    by_test true = refl
-    by_test false = refl
-
-pub kind_is : (x : Text) (notes : List Note) → AreFormats notes → kind_by (type_in x notes (by_letter x)) ≡ AnInteger
-kind_is x notes are = ap kind_by (typed x notes (by_letter x) are) ∙ by_letter_is x
-
-pub sizes_are : (x : Text) (notes : List Note) → AreFormats notes → sizes_of x notes ≡ []
-sizes_are x [] are = refl
-sizes_are x (s ∷ notes) are = ap (λ a. sizes_by x a (sizes_of x notes)) are.0.is ∙ sizes_are x notes are.1
+use Rattle.unit_walk.specs.Walking.{content_of, HoldsValues, IsNote, AreNotes, main_at, around_main}
 
 -- ---- tests ----
 
@@ -52,6 +31,53 @@ both_first false b is = is
 pub both_second : (a b : Bool) → a && b ≡ true → b ≡ true
 both_second true b is = is
 both_second false b is = cc is
+
+-- ---- names ----
+
+typed : (x : Text) (notes : List Note) (before : TypeWord) → kind_by before ≡ AnInteger → AreNotes notes → kind_by (type_in x notes before) ≡ AnInteger
+typed x [] before is are = is
+typed x (s ∷ notes) before is are = by_act s.act are.0 (typed x notes before is are.1)
+  where
+    by_test : (b : Bool) → kind_by (type_in x notes before) ≡ AnInteger → kind_by (if b then Integer else type_in x notes before) ≡ AnInteger
+    by_test true others = refl
+    by_test false others = others
+
+    by_act : (a : Act) → IsNote a → kind_by (type_in x notes before) ≡ AnInteger → kind_by (typed_by x a (type_in x notes before)) ≡ AnInteger
+    by_act (Formats fields) note others = others
+    by_act (Types Integer ds) note others = by_test (lists x ds) others
+    by_act (Types _ ds) note others = absurd note
+    by_act _ note others = absurd note
+
+-- a name without a type is an integer here
+by_letter_is : (x : Text) → kind_by (by_letter x) ≡ AnInteger
+by_letter_is [] = refl
+by_letter_is (c ∷ cs) = by_test (nat_le 73 c && nat_le c 78)
+  where
+    by_test : (b : Bool) → kind_by (if b then Integer else Other) ≡ AnInteger
+    by_test true = refl
+    by_test false = refl
+
+pub kind_is : (x : Text) (notes : List Note) → AreNotes notes → kind_by (type_in x notes (by_letter x)) ≡ AnInteger
+kind_is x notes are = typed x notes (by_letter x) (by_letter_is x) are
+
+no_sizes : (x : Text) (ds : List Declared) (others : List Par) → are_scalars ds ≡ true → sizes_in x ds others ≡ others
+no_sizes x [] others are = refl
+no_sizes x (d ∷ ds) others are = by_test (bytes_eq x d.name) d.sizes (both_first (is_scalar d.sizes) (are_scalars ds) are) (no_sizes x ds others (both_second (is_scalar d.sizes) (are_scalars ds) are))
+  where
+    by_test : (b : Bool) (sizes : List Par) → is_scalar sizes ≡ true → sizes_in x ds others ≡ others → (if b then if_any sizes (sizes_in x ds others) else sizes_in x ds others) ≡ others
+    by_test true [] is rest = rest
+    by_test true (n ∷ ns) is rest = cc is
+    by_test false sizes is rest = rest
+
+pub sizes_are : (x : Text) (notes : List Note) → AreNotes notes → sizes_of x notes ≡ []
+sizes_are x [] are = refl
+sizes_are x (s ∷ notes) are = by_act s.act are.0 (sizes_of x notes) ∙ sizes_are x notes are.1
+  where
+    by_act : (a : Act) → IsNote a → (others : List Par) → sizes_by x a others ≡ others
+    by_act (Formats fields) note others = refl
+    by_act (Types Integer ds) note others = no_sizes x ds others note
+    by_act (Types _ ds) note others = absurd note
+    by_act _ note others = absurd note
 
 -- ---- values ----
 
@@ -80,7 +106,7 @@ relation_is Ge a b is = refl
 relation_is Gt a b is = refl
 relation_is _ a b is = cc is
 
-module _ (notes : List Note) (are : AreFormats notes) (code : List Line) (n : ℕ) (run : Frame → Stand → World → Out ⊤) (values : Values) (p : Place) (w : World) (holds : HoldsValues values w.state.store) where
+module _ (notes : List Note) (are : AreNotes notes) (code : List Line) (n : ℕ) (run : Frame → Stand → World → Out ⊤) (values : Values) (p : Place) (w : World) (holds : HoldsValues values w.state.store) where
   pub variable_is : (x : Text) → variable_in (around_main notes code n run) (main_at p) x w ≡ settle p (whole (known (values x))) w
   variable_is x =
       ap (λ (k : Kind). settle p (asked k (w.state.store (list_number (0 ∷ x)))) w) (kind_is x notes are)

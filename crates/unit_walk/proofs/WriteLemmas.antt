@@ -24,7 +24,7 @@ use Rattle.f66_tree.specs.Evaluation.{whole, asked}
 use Rattle.f66_tree.specs.Statements.{Exit, Next, taped, edited, one_or_row, items, opened_by, does}
 use Rattle.f66_tree.specs.Execution.{Stand}
 use Rattle.unit_walk.specs.Values.{Values, known}
-use Rattle.unit_walk.specs.Walking.{HoldsValues, Holds, AreFormats, main_at, around_main, Comes, one_field, one_item}
+use Rattle.unit_walk.specs.Walking.{HoldsValues, Holds, AreNotes, main_at, around_main, Comes, one_field, one_item}
 use Rattle.unit_walk.proofs.ValueLemmas.{asked_is, kind_is, sizes_are}
 
 abbrev pub over : World → Out ⊤
@@ -47,7 +47,7 @@ abbrev pub written_world : ℕ → List ℕ → World → World
 written_world width text w =
     taping (record { unread = w.state.tape.unread; written = w.state.tape.written ++ text ∷ []; hand = stands Writing [] (steps (again (one_field width))) text Over }) w
 
-module _ (notes : List Note) (are : AreFormats notes) (code : List Line) (n : ℕ) (run : Frame → Stand → World → Out ⊤) (values : Values) (p : Place) where
+module _ (notes : List Note) (are : AreNotes notes) (code : List Line) (n : ℕ) (run : Frame → Stand → World → Out ⊤) (values : Values) (p : Place) where
   item_is : (x : Text) (w : World) → items (around_main notes code n run) (main_at p) Writing (one_item x) w ≡ bind (edited (around_main notes code n run) (main_at p) Writing AnInteger (Held 0 x 0) w) (λ _ w1. over w1)
   item_is x w =
       ap (λ (k : Kind). bind (one_or_row (around_main notes code n run) (main_at p) Writing k (sizes_of x notes) (Held 0 x 0) w) (λ _ w1. over w1)) (kind_is x notes are)

@@ -7,7 +7,7 @@ use Rattle.f66_tree.specs.Units.{Frame, notes_of}
 use Rattle.f66_tree.specs.Statements as meant
 use Rattle.f66_tree.specs.Execution.{Stand}
 use Rattle.unit_walk.specs.Values.{Values}
-use Rattle.unit_walk.specs.Walking.{Holds, AreFormats, main_at, around_main, Comes}
+use Rattle.unit_walk.specs.Walking.{Holds, AreNotes, main_at, around_main, Comes}
 use Rattle.unit_walk.specs.declared.statement.RunEnd.{RunEnd}
 use Rattle.unit_walk.specs.declared.statement.RunEnd.TheVariants as ends
 use Rattle.unit_walk.specs.declared.statement.Exit.{Exit}
@@ -31,4 +31,4 @@ pub record Does (code : List Line) (p : Place) (a : Act) (values : Values) (reco
 
 -- the same in each unit whose statements that are not executed are FORMATs
 abbrev pub DoesAnywhere : Place → Act → Values → List Record → Exit → Values → Type 0
-DoesAnywhere p a values records exit new = (code : List Line) → AreFormats (notes_of code) → Does code p a values records exit new records
+DoesAnywhere p a values records exit new = (code : List Line) → AreNotes (notes_of code) → Does code p a values records exit new records

@@ -12,7 +12,7 @@ use Rattle.f66_tree.specs.Statements.{Loop, loop_start, loop_turn}
 use Rattle.f66_tree.specs.Execution.{Stand}
 use Rattle.unit_walk.specs.declared.do_loop.Pass.{Pass}
 use Rattle.unit_walk.specs.Values.{Values, known, par_value}
-use Rattle.unit_walk.specs.Walking.{Holds, AreFormats, main_at, around_main, Comes}
+use Rattle.unit_walk.specs.Walking.{Holds, AreNotes, main_at, around_main, Comes}
 
 abbrev pub loop_of : Pass → Loop
 loop_of k = record { limit = k.limit; step = k.step }
@@ -46,10 +46,10 @@ begun_with (Err t) = Err t
 
 -- a DO begins so
 pub record Begins (x : Text) (a b c : Par) (values : Values) (begun : Result Pass Trap) (new : Values) : Type 0 where
-  pub is : (code : List Line) → AreFormats (notes_of code) → (n : ℕ) (run : Frame → Stand → World → Out ⊤) (p : Place) (records : List Record) (w : World) → Holds values records w
+  pub is : (code : List Line) → AreNotes (notes_of code) → (n : ℕ) (run : Frame → Stand → World → Out ⊤) (p : Place) (records : List Record) (w : World) → Holds values records w
       → Comes (loop_start (around_main (notes_of code) code n run) (main_at p) x a b c w) (settle p (lifted (begun_with begun))) w new records
 
 -- after a turn of a DO it goes on, or not
 pub record Turns (x : Text) (k : Pass) (values : Values) (goes_on : Result Bool Trap) (new : Values) : Type 0 where
-  pub is : (code : List Line) → AreFormats (notes_of code) → (n : ℕ) (run : Frame → Stand → World → Out ⊤) (p : Place) (records : List Record) (w : World) → Holds values records w
+  pub is : (code : List Line) → AreNotes (notes_of code) → (n : ℕ) (run : Frame → Stand → World → Out ⊤) (p : Place) (records : List Record) (w : World) → Holds values records w
       → Comes (loop_turn (around_main (notes_of code) code n run) (main_at p) x (loop_of k) w) (settle p (lifted goes_on)) w new records

@@ -19,7 +19,7 @@ use Rattle.unit_walk.specs.declared.do_loop.Lead.TheVariants.{At, Over}
 use Rattle.unit_walk.specs.declared.plan.Plan.{Plan}
 use Rattle.unit_walk.specs.declared.run.Run.{Run}
 use Rattle.unit_walk.specs.Values.{value_under, AllInRange}
-use Rattle.unit_walk.specs.Walking.{Holds, AreFormats, main_at, around_main}
+use Rattle.unit_walk.specs.Walking.{Holds, AreNotes, main_at, around_main}
 use Rattle.unit_walk.specs.Loops.{PassesFit}
 use Rattle.unit_walk.specs.Leaving.{end_of}
 use Rattle.unit_walk.specs.Running.{LoopsAre, closer_at, Part}
@@ -41,7 +41,7 @@ LabelsAre all lines rest = (l : ℕ) → Points all l rest (get_by (nat_cmp l) l
 -- the lines of a plan, the loops that end at each, and the labels
 pub record IsPlan (plan : Plan) : Type 0 where
   pub built : is_built_unit (lines_of plan.code.now) ≡ true
-  pub formats : AreFormats (notes_of (lines_of plan.code.now))
+  pub formats : AreNotes (notes_of (lines_of plan.code.now))
   pub closes : (i : ℕ) (s : Stmt) (closings : Vec Closing Global) → i < length plan.code.now → s ≡ get_or plan.code.now i s → closings ≡ get_or plan.closings.items i closings → ClosesAt (lines_of plan.code.now) s.label closings.items
   pub size : length plan.closings.items ≡ length plan.code.now
   pub labels : LabelsAre plan.code.now plan.lines (lines_of plan.code.now)

@@ -1,13 +1,15 @@
 -- What a walk keeps of a run: the variables that have a value, the records, and where the run stands.
-use Rattle.std.specs.Prelude.{◌≡◌, ℕ, ℤ, List, [], ◌∷◌, Option, Some, None, ⊤}
+use Rattle.std.specs.Prelude.{◌≡◌, ℕ, ℤ, true, List, [], ◌∷◌, Option, Some, None, ⊤}
 use Rattle.ground.specs.declared.place.Place.{Place}
 use Rattle.ground.specs.Content.{Content, Nothing, Whole}
 use Rattle.f66_tree.specs.declared.editing.EditKind.TheVariants as edits
 use Rattle.f66_tree.specs.Fields.{Takes, Fields, NoField, Single}
-use Rattle.f66_tree.specs.Forms.{Text, Variable, One, Entries, NoEntry, AndEntry, Act, Formats, Line}
+use Rattle.f66_tree.specs.Forms.{Text, Variable, One, Entries, NoEntry, AndEntry, Act, Formats, Types, Line}
 use Rattle.f66_tree.specs.World.{Record, Store, World, Out}
 use Rattle.f66_tree.specs.Units.{Note, Frame, Setting}
 use Rattle.f66_tree.specs.Execution.{target, Stand}
+use Rattle.f66_tree.specs.declared.declaration.TypeWord.TheVariants.{Integer}
+use Rattle.f66_tree.specs.Built.{are_scalars}
 use Rattle.f66_tree.specs.OneUnit.{list_number, one_unit}
 use Rattle.unit_walk.specs.Values.{Values}
 
@@ -23,14 +25,16 @@ pub record Holds (values : Values) (records : List Record) (w : World) : Type 0 
   pub store : HoldsValues values w.state.store
   pub written : w.state.tape.written ≡ records
 
-pub record IsFormat (a : Act) : Type 0 where
-  pub fields : Fields
-  pub is : a ≡ Formats fields
+-- a FORMAT, or a declaration of integers without dimensions
+abbrev pub IsNote : Act → Type 0
+IsNote (Formats fields) = ⊤
+IsNote (Types Integer ds) = are_scalars ds ≡ true
+IsNote _ = ⊥
 
--- of the statements that are not executed each is a FORMAT
-abbrev pub AreFormats : List Note → Type 0
-AreFormats [] = ⊤
-AreFormats (s ∷ notes) = IsFormat s.act × AreFormats notes
+-- of the statements that are not executed each is one of these
+abbrev pub AreNotes : List Note → Type 0
+AreNotes [] = ⊤
+AreNotes (s ∷ notes) = IsNote s.act × AreNotes notes
 
 -- a main unit at the statement of this place
 abbrev pub main_at : Place → Frame

@@ -1,12 +1,12 @@
 // Whether a unit has built statements alone, as data that comes from outside is tested before it is run.
-ghost use Rattle.std.specs.Prelude.{◌≡◌};
+ghost use Rattle.std.specs.Prelude.{◌≡◌, map};
 ghost use Rattle.f66_tree.specs.Units.{notes_of, format_of};
-ghost use Rattle.f66_tree.specs.Views.{formula_of, par_of, fields_of, field_then, entries_of, entry_of, act_of, lines_of};
+ghost use Rattle.f66_tree.specs.Views.{formula_of, par_of, declared_of, fields_of, field_then, entries_of, entry_of, act_of, lines_of};
 ghost use Rattle.f66_tree.specs.Fields.{NoField};
 ghost use Rattle.f66_tree.specs.Forms.{AndEntry, NoEntry};
 ghost use Rattle.f66_tree.specs.Built as built;
 
-use f66_tree::{Entry, Expr, Field, Operator, Par, Stmt, StmtKind};
+use f66_tree::{Declared, Entry, Expr, Field, Operator, Par, Stmt, StmtKind, TypeWord};
 
 /// Whether all statements of a main unit are built.
 pub fn is_built(code: &[Stmt]) -> bool
@@ -43,7 +43,33 @@ fn is_plain(code: &[Stmt], kind: &StmtKind) -> bool
             is_printer(unit) && (is_one_variable(entries) && has_one_field(code, *label))
         }
         StmtKind::Format(fields) => is_one_field(fields),
+        StmtKind::Typed(word, list) => match word {
+            TypeWord::Integer => are_scalars(list),
+            TypeWord::Logical => false,
+            TypeWord::Other => false,
+        },
         _ => false,
+    }
+}
+
+/// Whether names are declared without dimensions.
+fn are_scalars(list: &[Declared]) -> bool
+    ensures { result ≡ built.are_scalars (map declared_of list.now) }
+{
+    for declared in list {
+        if !is_scalar(&declared.sizes) {
+            return false;
+        }
+    }
+    true
+}
+
+fn is_scalar(sizes: &[Par]) -> bool
+    ensures { result ≡ built.is_scalar (map par_of sizes.now) }
+{
+    match sizes {
+        [] => true,
+        [_, ..] => false,
     }
 }
 

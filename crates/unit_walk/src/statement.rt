@@ -11,7 +11,7 @@ ghost use Rattle.f66_tree.specs.Units.{is_note, notes_of, format_of};
 ghost use Rattle.f66_tree.specs.Views.{formula_of, par_of, field_then, fields_of, entry_of, entries_of, act_of, lines_of};
 ghost use Rattle.f66_tree.specs.Built.{is_variable, is_whole, is_printer, is_one_variable, is_one_field, is_one_field_of, is_plain};
 ghost use Rattle.unit_walk.specs.Values.{value_under, AllInRange};
-ghost use Rattle.unit_walk.specs.Walking.{AreFormats, one_field, one_item};
+ghost use Rattle.unit_walk.specs.Walking.{AreNotes, one_field, one_item};
 ghost use Rattle.unit_walk.specs.Leaving.{Does, DoesAnywhere};
 
 use crate::value::{Variables, evaluate, set, value_of};
@@ -54,7 +54,7 @@ pub(crate) fn perform<'a>(
 ) -> Result<Exit, AllocError>
     requires built { is_plain (notes_of (lines_of code.now)) (act_of kind.now) ≡ true }
     requires executed { is_note (act_of kind.now) ≡ false }
-    requires formats { AreFormats (notes_of (lines_of code.now)) }
+    requires formats { AreNotes (notes_of (lines_of code.now)) }
     requires range { AllInRange (value_under variables.old) }
     ensures does { IfOk result (λ exit. Does (lines_of code.now) place (act_of kind.now) (value_under variables.old) records.old.items exit (value_under variables.new) records.new.items) }
     ensures range { IfOk result (λ exit. AllInRange (value_under variables.new)) }
@@ -145,7 +145,7 @@ fn write(
     place: Place,
 ) -> Result<Exit, AllocError>
     requires { AllInRange (value_under variables.now) }
-    ensures { IfOk result (λ exit. (code : List Line) (unit : Par) (label : ℕ) → AreFormats (notes_of code) → is_printer unit ≡ true → format_of label (notes_of code) ≡ Some (one_field columns) → Does code place (Writes unit label (one_item name.now)) (value_under variables.now) records.old.items exit (value_under variables.now) records.new.items) }
+    ensures { IfOk result (λ exit. (code : List Line) (unit : Par) (label : ℕ) → AreNotes (notes_of code) → is_printer unit ≡ true → format_of label (notes_of code) ≡ Some (one_field columns) → Does code place (Writes unit label (one_item name.now)) (value_under variables.now) records.old.items exit (value_under variables.now) records.new.items) }
 {
     match value_of(variables, name) {
         Ok(_) if columns > LONGEST => Ok(Exit::Ends(RunEnd::Trapped(Trap::LongRecord, place))),

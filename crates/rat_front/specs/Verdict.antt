@@ -1,0 +1,75 @@
+-- What becomes of a text: its first fault, or a program. The phases are gather, parse and checks, and behind the checks the
+-- count of main programs; the first phase with a fault decides.
+use Rattle.std.specs.Prelude.{◌≡◌, ◌⊎◌, ℕ, List, [], ◌∷◌, Option, Some, None, Result, Ok, Err, slice_get, unwrap_or}
+use Rattle.ground.specs.declared.fault.Fault.{Fault}
+use Rattle.ground.specs.declared.fault.FaultKind.TheVariants.{MainCount}
+use Rattle.ground.specs.declared.place.Place.{Place}
+use Rattle.ground.specs.declared.token.Token.{Token}
+use Rattle.ground.specs.declared.token.Dialect.TheVariants.{Ratfor}
+use Rattle.macro_define.specs.Answers.{Known}
+use Rattle.macro_define.specs.Expansion.{Stop, World, gathered}
+use Rattle.grammar.specs.Answers.{IsFirstFault}
+use Rattle.grammar.specs.Limits.{IsAccepted}
+use Rattle.rat_grammar.specs.Ratfor.{grammar}
+use Rattle.rat_grammar.specs.Limits.{meter}
+use Rattle.rat_grammar.specs.Values.{program}
+use Rattle.rat_tree.specs.Commands.{Commands, RatRoutine, RatProgram}
+use Rattle.rat_check.specs.FirstFault.{fault_at, or_else}
+use Rattle.rat_lower.specs.Lowered.{lower_fault}
+
+-- a fault with the name of the file of its place; or the statements of the one main program, and the names of the files, whose
+-- numbers places have
+pub data Verdict : Type 0 where
+  Refuses : Fault → List ℕ → Verdict
+  Accepts : List (List ℕ) → Commands → Verdict
+
+-- ---- checks ----
+
+-- the checks go unit by unit
+abbrev pub first_fault_of : List RatRoutine → Option Fault
+first_fault_of [] = None
+first_fault_of (u ∷ us) = or_else (lower_fault u) (first_fault_of us)
+
+-- a fault of a tree, or the statements of its main program
+pub data Checked : Type 0 where
+  Faulty : Fault → Checked
+  Main : Commands → Checked
+
+-- there is exactly one unit; the fault of none stands at the end of the text, that of several at the second one
+abbrev pub counted : Place → List RatRoutine → Checked
+counted finish [] = Faulty (fault_at finish MainCount)
+counted finish (u ∷ []) = Main u.body
+counted finish (u ∷ second ∷ more) = Faulty (fault_at second.place MainCount)
+
+abbrev pub unless : Option Fault → Checked → Checked
+unless None all = all
+unless (Some fault) all = Faulty fault
+
+abbrev pub checked : RatProgram → Checked
+checked tree = unless (first_fault_of tree.routines) (counted tree.finish tree.routines)
+
+-- ---- parse ----
+
+-- the first fault at the grammar or at a limit, or what the checks say of the tree
+abbrev pub IsParsed : List Token → Checked → Type 0
+IsParsed ts c =
+    ((fault : Fault) × IsFirstFault grammar meter ts fault × (c ≡ Faulty fault))
+    ⊎ ((tree : RatProgram) × IsAccepted grammar meter ts (program tree) × (c ≡ checked tree))
+
+-- ---- gather ----
+
+-- the name of the file that has this number
+abbrev pub name_of : List (List ℕ) → ℕ → List ℕ
+name_of files n = unwrap_or (slice_get files n) []
+
+abbrev pub in_files : List (List ℕ) → Checked → Verdict
+in_files files (Faulty fault) = Refuses fault (name_of files fault.place.file)
+in_files files (Main body) = Accepts files body
+
+abbrev pub IsVerdictOf : Result World Stop → Verdict → Type 0
+IsVerdictOf (Err stop) verdict = verdict ≡ Refuses stop.fault stop.file
+IsVerdictOf (Ok w) verdict = (c : Checked) × IsParsed w.made.tokens c × (verdict ≡ in_files w.files c)
+
+-- What becomes of the text under this name, by what is known of the library. There is exactly one verdict.
+abbrev pub Becomes : List ℕ → Known → Verdict → Type 0
+Becomes name known verdict = IsVerdictOf (gathered Ratfor name known) verdict

@@ -1,0 +1,53 @@
+// From a file to its unit.
+ghost use Rattle.std.specs.Prelude.{◌≡◌, IfOk};
+ghost use Rattle.macro_define.specs.Gathered.{HasCause};
+ghost use Rattle.rat_front.specs.Verdict.{name_of as name_of_file};
+ghost use Rattle.rat_front.specs.Compiled.{IsCompiled};
+
+use crate::unit_of;
+use f66_tree::Unit;
+use ground::{Dialect, List, Refusal, Text};
+use macro_define::{GatherRefusal, Gathered, gather};
+use ports::Library;
+use std::alloc::{AllocError, Global};
+
+/// A main program as a unit of FORTRAN. A place's file has its number in the list of names.
+#[derive(Debug, Drop)]
+pub struct Compiled {
+    pub unit: Unit,
+    pub files: List<Text>,
+}
+
+/// The unit of the Ratfor text under this name, with its includes, which does what the text means (Kernighan, Ratfor: A
+/// Preprocessor for a Rational Fortran, 1975), or the text's first fault: of gather, of the parse, of the checks unit by
+/// unit, or MainCount.
+pub fn compile_text<L: Library>(
+    alloc: Global,
+    name: &str,
+    library: &mut L,
+) -> Result<Compiled, GatherRefusal>
+    ensures text { IsCompiled (L.files library.old) name.now result }
+    ensures same { L.files library.new ≡ L.files library.old }
+    ensures becomes { L.becomes library.old library.new }
+    ensures cause { HasCause (L.faults library.old) (L.faults library.new) result }
+{
+    let Gathered { tokens, files } = gather(alloc, Dialect::Ratfor, name, library)?;
+    match unit_of(alloc, &tokens) {
+        Ok(unit) => Ok(Compiled { unit, files }),
+        Err(Refusal::Fault(fault)) => {
+            let name = name_of(alloc, &files, fault.place.file)?;
+            Err(GatherRefusal::Fault(fault, name))
+        }
+        Err(Refusal::Memory) => Err(GatherRefusal::Memory),
+    }
+}
+
+/// The name of the file that has this number.
+fn name_of(alloc: Global, files: &[Text], number: u16) -> Result<Text, AllocError>
+    ensures { IfOk result (λ name. name ≡ name_of_file files.now number) }
+{
+    match files.get(usize::from(number)) {
+        Some(name) => name.clone(),
+        None => Ok(Text::new(Vec::new(alloc))),
+    }
+}

@@ -1,0 +1,10 @@
+//! The front of the compiler for Ratfor: a text with its includes becomes a unit of FORTRAN, or is refused for its first
+//! fault.
+#![tactic(auto)]
+
+mod compile;
+mod tree;
+
+pub use compile::{Compiled, compile_text};
+pub use macro_define::GatherRefusal;
+use tree::unit_of;
