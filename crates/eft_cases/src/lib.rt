@@ -1,11 +1,11 @@
 //! The top call over a library, a source and sinks in memory: what its clauses say of them, and its worked examples.
 #![tactic(auto)]
 
-ghost use Rattle.std.specs.Prelude.{◌≡◌, ◌≢◌, ◌++◌, [], ◌∷◌, None, Some};
+ghost use Rattle.std.specs.Prelude.{◌≡◌, ◌≢◌, ◌++◌, ℕ, [], ◌∷◌, None, Some};
 ghost use Rattle.ports.specs.Held.{held_bytes};
-ghost use Rattle.eft_top.specs.Outcome.{out_of, line_of, status_of, IfAsked};
+ghost use Rattle.eft_top.specs.Outcome.{IfAsked};
 ghost use Rattle.eft_top.specs.Words.{command_of, texts};
-ghost use Rattle.eft_top.specs.Causes.{Comes, IsOfText};
+ghost use Rattle.eft_top.specs.Causes.{Comes, MayBe, MustBe, IsOfText, IsShown};
 ghost use Rattle.ground.specs.declared.trap.Trap.{Trap as ATrap};
 
 use eft_top::{Status, eft};
@@ -16,7 +16,7 @@ use std::alloc::Global;
 mod tests;
 
 /// A call over objects in memory, which tell what they hold: with a status that a text has, out and diag hold exactly
-/// the records and the line of the text's outcome.
+/// the records and the line of what comes of the text.
 pub fn eft_in_memory(
     alloc: Global,
     words: &Vec<String>,
@@ -25,17 +25,19 @@ pub fn eft_in_memory(
     out: &mut MemSink,
     diag: &mut MemSink,
 ) -> Status
-    ensures usage { Comes result Status.Usage (command_of (texts words.now.items) ≡ None) (Status.OutputFault ∷ Status.Memory ∷ []) }
-    ensures source_fault { IfAsked (command_of (texts words.now.items)) (Some (held_bytes library.old.texts)) (λ outcome.
-        Comes result Status.SourceFault (status_of outcome ≡ Some Status.SourceFault) (Status.LibraryFault ∷ Status.OutputFault ∷ Status.Memory ∷ [])) }
-    ensures done { IfAsked (command_of (texts words.now.items)) (Some (held_bytes library.old.texts)) (λ outcome.
-        Comes result Status.Done (status_of outcome ≡ Some Status.Done) (Status.LibraryFault ∷ Status.OutputFault ∷ Status.Memory ∷ [])) }
-    ensures trapped { (trap : ATrap) → IfAsked (command_of (texts words.now.items)) (Some (held_bytes library.old.texts)) (λ outcome.
-        Comes result (Status.Trapped trap) (status_of outcome ≡ Some (Status.Trapped trap)) (Status.LibraryFault ∷ Status.OutputFault ∷ Status.Memory ∷ [])) }
-    ensures out { IsOfText result → IfAsked (command_of (texts words.now.items)) (Some (held_bytes library.old.texts)) (λ outcome.
-        out.new.held ≡ out.old.held ++ out_of outcome) }
-    ensures diag { IsOfText result → IfAsked (command_of (texts words.now.items)) (Some (held_bytes library.old.texts)) (λ outcome.
-        diag.new.held ≡ diag.old.held ++ line_of outcome) }
+    ensures usage { Comes result Status.Usage (command_of (texts words.now.items) ≡ None) (command_of (texts words.now.items) ≡ None) (Status.OutputFault ∷ []) }
+    ensures source_fault { IfAsked (command_of (texts words.now.items)) (Some (held_bytes library.old.texts)) (λ told.
+        Comes result Status.SourceFault (MayBe told Status.SourceFault) (MayBe told Status.SourceFault) (Status.LibraryFault ∷ Status.OutputFault ∷ Status.Memory ∷ [])) }
+    ensures done { IfAsked (command_of (texts words.now.items)) (Some (held_bytes library.old.texts)) (λ told.
+        Comes result Status.Done (MayBe told Status.Done) (MustBe told Status.Done) (Status.LibraryFault ∷ Status.OutputFault ∷ Status.Memory ∷ [])) }
+    ensures stopped { (n : ℕ) → IfAsked (command_of (texts words.now.items)) (Some (held_bytes library.old.texts)) (λ told.
+        Comes result (Status.Stopped n) (MayBe told (Status.Stopped n)) (MustBe told (Status.Stopped n)) (Status.LibraryFault ∷ Status.OutputFault ∷ Status.Memory ∷ [])) }
+    ensures step_limit { IfAsked (command_of (texts words.now.items)) (Some (held_bytes library.old.texts)) (λ told.
+        Comes result Status.StepLimit (MayBe told Status.StepLimit) (MustBe told Status.StepLimit) (Status.LibraryFault ∷ Status.OutputFault ∷ Status.Memory ∷ [])) }
+    ensures trapped { (trap : ATrap) → IfAsked (command_of (texts words.now.items)) (Some (held_bytes library.old.texts)) (λ told.
+        Comes result (Status.Trapped trap) (MayBe told (Status.Trapped trap)) (MustBe told (Status.Trapped trap)) (Status.LibraryFault ∷ Status.OutputFault ∷ Status.Memory ∷ [])) }
+    ensures shown { IsOfText result → IsShown (command_of (texts words.now.items)) (Some (held_bytes library.old.texts)) result
+        (λ bytes. out.new.held ≡ out.old.held ++ bytes) (λ bytes. diag.new.held ≡ diag.old.held ++ bytes) }
     // With no failing fetch on its list the library is never at fault.
     ensures no_fault { library.old.failing ≡ [] → library.old.faults ≡ 0 → result ≢ Status.LibraryFault }
 {

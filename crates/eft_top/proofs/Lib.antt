@@ -1,2 +1,2 @@
-mod WalkLemmas
 mod Statuses
+mod StepNumbers

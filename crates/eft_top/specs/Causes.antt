@@ -5,16 +5,23 @@ use Rattle.eft_top.specs.declared.status.Status.{Status}
 use Rattle.eft_top.specs.declared.status.Status.TheVariants.{Done, Usage, SourceFault, LibraryFault, InputFault, OutputFault, StepLimit, Memory, Stopped, Trapped}
 use Rattle.eft_top.specs.Lines.{usage_line, library_fault_line, memory_line, output_fault_line}
 use Rattle.eft_top.specs.Words.{Command}
-use Rattle.eft_top.specs.Outcome.{Outcome, status_of, out_of, line_of, IfAsked, IsOutcome}
+use Rattle.eft_top.specs.Outcome.{Outcome, status_of, out_of, line_of, IsOutcome}
 
 abbrev pub IsOneOf : Status → List Status → Type 0
 IsOneOf status [] = ⊥
 IsOneOf status (one ∷ others) = (status ≡ one) ⊎ IsOneOf status others
 
--- the status comes only where P holds, and wherever P holds, unless one of these others comes
-pub record Comes (result status : Status) (P : Type 0) (others : List Status) : Type 0 where
+-- the status comes only where P holds, and wherever Q holds, unless one of these others comes
+pub record Comes (result status : Status) (P Q : Type 0) (others : List Status) : Type 0 where
   pub only : result ≡ status → P
-  pub wherever : P → IsOneOf result (status ∷ others)
+  pub wherever : Q → IsOneOf result (status ∷ others)
+
+-- Of what may come of a command, something has this status. All has it: so it is of the program's end, whichever target runs.
+abbrev pub MayBe : (Outcome → Type 0) → Status → Type 0
+MayBe told status = (outcome : Outcome) × told outcome × (status_of outcome ≡ Some status)
+
+abbrev pub MustBe : (Outcome → Type 0) → Status → Type 0
+MustBe told status = (outcome : Outcome) → told outcome → status_of outcome ≡ Some status
 
 -- a status that a text has
 abbrev pub IsOfText : Status → Type 0
@@ -26,7 +33,7 @@ IsOfText InputFault = ⊥
 IsOfText OutputFault = ⊥
 IsOfText StepLimit = Unit {0}
 IsOfText Memory = ⊥
-IsOfText Stopped = Unit {0}
+IsOfText (Stopped n) = Unit {0}
 IsOfText (Trapped trap) = Unit {0}
 
 -- the line of a status that says all
@@ -39,24 +46,17 @@ fixed_line InputFault = None
 fixed_line OutputFault = None
 fixed_line StepLimit = None
 fixed_line Memory = Some memory_line
-fixed_line Stopped = None
+fixed_line (Stopped n) = None
 fixed_line (Trapped trap) = None
 
 -- The words ask for a command. There is an outcome of some text, of the told one where the library tells it, whose
 -- status this is, whose bytes out got and whose line diag got.
 pub record IsShown (command : Option Command) (files : Option (List ℕ → Option (List ℕ))) (result : Status) (out diag : List ℕ → Type 0) : Type 0 where
   pub outcome : Outcome
-  pub asked : (command ≡ None) → ⊥
-  pub of_a_text : IsOutcome command outcome
-  pub told : IfAsked command files (λ told. outcome ≡ told)
+  pub is : IsOutcome command files outcome
   pub status : Some result ≡ status_of outcome
   pub on_out : out (out_of outcome)
   pub on_diag : diag (line_of outcome)
-
--- the outcome of some text, and of the told one where the library tells it
-pub record IsToldOutcome (command : Option Command) (files : Option (List ℕ → Option (List ℕ))) (outcome : Outcome) : Type 0 where
-  pub of_a_text : IsOutcome command outcome
-  pub told : IfAsked command files (λ told. outcome ≡ told)
 
 abbrev pub IsLineOf : List ℕ → List (List ℕ) → Type 0
 IsLineOf line [] = ⊥
@@ -65,11 +65,11 @@ IsLineOf line (one ∷ others) = (line ≡ one) ⊎ IsLineOf line others
 -- what out was to get: nothing, or the bytes of an outcome; and P of it
 pub record ForOut (command : Option Command) (files : Option (List ℕ → Option (List ℕ))) (P : List ℕ → Type 0) : Type 0 where
   pub bytes : List ℕ
-  pub planned : (bytes ≡ []) ⊎ ((outcome : Outcome) × IsToldOutcome command files outcome × (bytes ≡ out_of outcome))
+  pub planned : (bytes ≡ []) ⊎ ((outcome : Outcome) × IsOutcome command files outcome × (bytes ≡ out_of outcome))
   pub holds : P bytes
 
 -- what diag was to get: a line that says all, or the line of an outcome; and P of it
 pub record ForDiag (command : Option Command) (files : Option (List ℕ → Option (List ℕ))) (P : List ℕ → Type 0) : Type 0 where
   pub line : List ℕ
-  pub planned : IsLineOf line (output_fault_line ∷ usage_line ∷ library_fault_line ∷ memory_line ∷ []) ⊎ ((outcome : Outcome) × IsToldOutcome command files outcome × (line ≡ line_of outcome))
+  pub planned : IsLineOf line (output_fault_line ∷ usage_line ∷ library_fault_line ∷ memory_line ∷ []) ⊎ ((outcome : Outcome) × IsOutcome command files outcome × (line ≡ line_of outcome))
   pub holds : P line

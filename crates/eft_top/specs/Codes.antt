@@ -13,5 +13,5 @@ code_of InputFault = 5
 code_of OutputFault = 6
 code_of StepLimit = 7
 code_of Memory = 8
-code_of Stopped = 9
+code_of (Stopped n) = 9
 code_of (Trapped trap) = 10 + trap_number trap

@@ -1,7 +1,5 @@
 pub mod Codes
 pub mod Lines
-pub mod Variables
-pub mod Walk
 pub mod Words
 pub mod Outcome
 pub mod Causes

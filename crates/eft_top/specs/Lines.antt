@@ -1,7 +1,7 @@
 -- The lines that diag gets.
-use Rattle.std.specs.Prelude.{ℕ, List, [], ◌∷◌, ◌++◌, codes}
-use Rattle.std.specs.Fmt.{decimal}
-use Rattle.ground.specs.declared.fault.FaultKind.{FaultKind}
+use Rattle.std.specs.Prelude.{ℕ, false, List, [], ◌∷◌, ◌++◌, codes, ◌==◌, if◌then◌else◌}
+use Rattle.std.specs.Fmt.{decimal, digits}
+use Rattle.ground.specs.declared.fault.Fault.{Fault}
 use Rattle.ground.specs.declared.trap.Trap.{Trap}
 use Rattle.ground.specs.FaultNames.{fault_number, fault_word}
 use Rattle.ground.specs.TrapNames.{trap_number, trap_word}
@@ -10,11 +10,29 @@ use Rattle.ground.specs.TrapNames.{trap_number, trap_word}
 abbrev pub at_line : List ℕ → ℕ → List ℕ
 at_line file line = codes " at " ++ (file ++ (codes ":" ++ (decimal line ++ 10 ∷ [])))
 
-abbrev pub fault_line : FaultKind → List ℕ → ℕ → List ℕ
-fault_line kind file line = codes "fault " ++ (decimal (fault_number kind) ++ (codes " " ++ (fault_word kind ++ at_line file line)))
+-- the number of a limit; other faults have none
+abbrev pub limit_part : ℕ → List ℕ
+limit_part number = if number == 0 then [] else (codes " " ++ decimal number)
+
+abbrev pub fault_head : Fault → List ℕ
+fault_head fault = codes "fault " ++ (decimal (fault_number fault.kind) ++ (codes " " ++ (fault_word fault.kind ++ limit_part fault.number)))
+
+-- a fault in the file of this name
+abbrev pub fault_line : Fault → List ℕ → List ℕ
+fault_line fault file = fault_head fault ++ at_line file fault.place.line
+
+abbrev pub trap_head : Trap → List ℕ
+trap_head trap = codes "trap " ++ (decimal (trap_number trap) ++ (codes " " ++ trap_word trap))
 
 abbrev pub trap_line : Trap → List ℕ → ℕ → List ℕ
-trap_line trap file line = codes "trap " ++ (decimal (trap_number trap) ++ (codes " " ++ (trap_word trap ++ at_line file line)))
+trap_line trap file line = trap_head trap ++ at_line file line
+
+-- the number of a STOP in octal digits, as it was written but for zeros in front
+abbrev pub stop_line : ℕ → List ℕ
+stop_line n = codes "stop " ++ (digits 8 false n ++ 10 ∷ [])
+
+abbrev pub limit_line : ℕ → List ℕ
+limit_line n = codes "step limit " ++ (decimal n ++ 10 ∷ [])
 
 -- the lines that say all
 abbrev pub usage_line : List ℕ

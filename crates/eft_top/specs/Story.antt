@@ -1,12 +1,14 @@
 -- What came of a call before anything was put.
-use Rattle.std.specs.Prelude.{◌≡◌, ℕ, List, [], Some, None}
+use Rattle.std.specs.Prelude.{◌≡◌, ℕ, List, [], Some, None, ⊤, Result, Ok, Err}
 use Rattle.std.specs.declared.option.Option.{Option}
 use Rattle.ports.specs.Causes.{Rose}
+use Rattle.ports.specs.declared.outside.FetchFault.{FetchFault}
+use Rattle.ports.specs.declared.outside.FetchFault.TheVariants as faults
 use Rattle.eft_top.specs.declared.status.Status.{Status}
 use Rattle.eft_top.specs.declared.status.Status.TheVariants.{Usage, LibraryFault, Memory}
 use Rattle.eft_top.specs.Lines.{usage_line, library_fault_line, memory_line}
 use Rattle.eft_top.specs.Words.{Command}
-use Rattle.eft_top.specs.Outcome.{Outcome, status_of, out_of, line_of, IfAsked, IsOutcome}
+use Rattle.eft_top.specs.Outcome.{Outcome, status_of, out_of, line_of, IsOutcome}
 
 pub data Story : Type 0 where
   BadWords : Story
@@ -18,12 +20,12 @@ pub data Story : Type 0 where
 abbrev pub Came : Story → Option Command → Option (List ℕ → Option (List ℕ)) → ℕ → ℕ → Status → List ℕ → List ℕ → Type 0
 Came BadWords command files before now status out line = (command ≡ None) × (status ≡ Usage) × (out ≡ []) × (line ≡ usage_line)
 Came NotFetched command files before now status out line = ((command ≡ None) → ⊥) × Rose before now × (status ≡ LibraryFault) × (out ≡ []) × (line ≡ library_fault_line)
-Came NoMemory command files before now status out line = (status ≡ Memory) × (out ≡ []) × (line ≡ memory_line)
+Came NoMemory command files before now status out line = ((command ≡ None) → ⊥) × (status ≡ Memory) × (out ≡ []) × (line ≡ memory_line)
 Came (Shows outcome) command files before now status out line =
-    ((command ≡ None) → ⊥)
-    × IsOutcome command outcome
-    × (now ≡ before)
-    × IfAsked command files (λ told. outcome ≡ told)
-    × (Some status ≡ status_of outcome)
-    × (out ≡ out_of outcome)
-    × (line ≡ line_of outcome)
+    IsOutcome command files outcome × (now ≡ before) × (Some status ≡ status_of outcome) × (out ≡ out_of outcome) × (line ≡ line_of outcome)
+
+-- a failed fetch has raised the count, and an answer leaves it
+abbrev pub Caused : {T : Type 0} → ℕ → ℕ → Result T FetchFault → Type 0
+Caused before now (Ok t) = now ≡ before
+Caused before now (Err faults.Failed) = Rose before now
+Caused before now (Err faults.Memory) = ⊤

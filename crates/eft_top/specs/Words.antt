@@ -1,31 +1,113 @@
--- What the words ask for.
-use Rattle.std.specs.Prelude.{ℕ, List, [], ◌∷◌, ◌&&◌, ◌||◌, not, Bool, false, codes, Some, None, if◌then◌else◌, ◌==◌, map, String, string_bytes}
+-- What the words ask for: run [--steps N] ratfor FILE, with options anywhere behind the command.
+use Rattle.std.specs.Prelude.{ℕ, zero, ◌+◌, ◌-◌, ◌*◌, ◌<◌, nat_le, nat_lt, List, [], ◌∷◌, ◌&&◌, ◌||◌, not, Bool, true, false, codes, Some, None, if◌then◌else◌, ◌==◌, map, fold, take, drop, length, String, string_bytes, unwrap_or}
 use Rattle.std.specs.Str.{bytes_eq}
+use Rattle.std.specs.Char.{is_ascii_digit}
 use Rattle.std.specs.declared.option.Option.{Option}
 use Rattle.std.specs.declared.alloc.Global.{Global}
+use Rattle.std.specs.Borrow.{Bor}
 use Rattle.eft_top.specs.declared.words.Asked.{Asked}
 use Rattle.eft_top.specs.declared.words.Asked.TheVariants.{Run as AskRun}
+use Rattle.eft_top.specs.declared.words.Stage.{Stage}
+use Rattle.eft_top.specs.declared.words.Stage.TheVariants.{Open, Steps, Closed, Wrong}
+use Rattle.eft_top.specs.declared.words.Reading as memory
 
--- a run of the Ratfor text in a file
+-- a run of the Ratfor text in a file, of which at most so many statements begin
 pub data Command : Type 0 where
-  Run : List ℕ → Command
+  Run : ℕ → List ℕ → Command
 
 abbrev pub texts : List (String Global) → List (List ℕ)
 texts words = map string_bytes words
 
--- a file's name isn't empty, and no option
-abbrev pub is_file : List ℕ → Bool
-is_file [] = false
-is_file (byte ∷ rest) = not (byte == 45) || bytes_eq rest []
+-- ---- the number of steps ----
+
+-- from 1 to 1,000,000,000,000
+abbrev pub steps_of : ℕ → Option ℕ
+steps_of n = if nat_le 1 n && nat_le n 1000000000000 then Some n else None
+
+-- decimal digits behind a number n
+abbrev pub steps_after : ℕ → List ℕ → Option ℕ
+steps_after n [] = steps_of n
+steps_after n (digit ∷ rest) = if is_ascii_digit digit then steps_after (n * 10 + (digit - 48)) rest else None
+
+abbrev pub steps_in : List ℕ → Option ℕ
+steps_in word = steps_after 0 word
+
+-- ---- word by word ----
+
+-- what the words behind the command have said so far, and what may come: options and operands, the number of --steps, or
+-- operands alone
+pub record Reading : Type 0 where
+  pub stage : Stage
+  pub steps : Option ℕ
+  pub language : Option (List ℕ)
+  pub file : Option (List ℕ)
+
+abbrev pub start : Reading
+start = record { stage = Open; steps = None; language = None; file = None }
+
+abbrev pub at_stage : Stage → Reading → Reading
+at_stage stage r = record { stage = stage; steps = r.steps; language = r.language; file = r.file }
+
+-- there are two operands
+abbrev pub with_operand : Option (List ℕ) → Option (List ℕ) → List ℕ → Reading → Reading
+with_operand None file word r = record { stage = r.stage; steps = r.steps; language = Some word; file = r.file }
+with_operand (Some language) None word r = record { stage = r.stage; steps = r.steps; language = r.language; file = Some word }
+with_operand (Some language) (Some file) word r = at_stage Wrong r
+
+-- --steps stands at most once
+abbrev pub with_steps : Option ℕ → Option ℕ → Reading → Reading
+with_steps (Some n) None r = record { stage = Open; steps = Some n; language = r.language; file = r.file }
+with_steps _ _ r = at_stage Wrong r
+
+-- begins with - and goes on
+abbrev pub is_option : List ℕ → Bool
+is_option [] = false
+is_option (byte ∷ rest) = (byte == 45) && not (bytes_eq rest [])
+
+abbrev pub with_word : List ℕ → Reading → Reading
+with_word word r =
+    if bytes_eq word (codes "--") then at_stage Closed r
+    else (if bytes_eq word (codes "--steps") then at_stage Steps r
+    else (if bytes_eq (take 8 word) (codes "--steps=") then with_steps (steps_in (drop 8 word)) r.steps r
+    else (if is_option word then at_stage Wrong r else with_operand r.language r.file word r)))
+
+abbrev pub read_at : Stage → List ℕ → Reading → Reading
+read_at Open word r = with_word word r
+read_at Steps word r = with_steps (steps_in word) r.steps r
+read_at Closed word r = with_operand r.language r.file word r
+read_at Wrong word r = r
+
+abbrev pub read : Reading → List ℕ → Reading
+read r word = read_at r.stage word r
+
+-- ---- the end ----
+
+-- the language is Ratfor, and the file has a name
+abbrev pub operands : ℕ → Option (List ℕ) → Option (List ℕ) → Option Command
+operands steps (Some language) (Some file) = if bytes_eq language (codes "ratfor") && not (bytes_eq file []) then Some (Run steps file) else None
+operands steps _ _ = None
+
+abbrev pub asked_at : Stage → Reading → Option Command
+asked_at Open r = operands (unwrap_or r.steps 10000000) r.language r.file
+asked_at Closed r = operands (unwrap_or r.steps 10000000) r.language r.file
+asked_at _ r = None
+
+abbrev pub asked : Reading → Option Command
+asked r = asked_at r.stage r
 
 abbrev pub command_of : List (List ℕ) → Option Command
-command_of (command ∷ language ∷ file ∷ []) = if bytes_eq command (codes "run") && bytes_eq language (codes "ratfor") && is_file file then Some (Run file) else None
-command_of _ = None
+command_of [] = None
+command_of (command ∷ rest) = if bytes_eq command (codes "run") then asked (fold read start rest) else None
 
--- the file that a command asks for
-abbrev pub file_in : Command → List ℕ
-file_in (Run file) = file
+-- ---- in memory ----
+
+abbrev pub text_of : Option (Bor (List ℕ)) → Option (List ℕ)
+text_of None = None
+text_of (Some text) = Some text.now
+
+abbrev pub reading_of : memory.Reading → Reading
+reading_of r = record { stage = r.stage; steps = r.steps; language = text_of r.language; file = text_of r.file }
 
 -- the command that the program works with
 abbrev pub asked_command : Asked → Command
-asked_command (AskRun file) = Run file.now
+asked_command (AskRun steps file) = Run steps file.now

@@ -3,9 +3,11 @@
 
 mod answer;
 mod deliver;
+mod lines;
+mod numbers;
+mod report;
 mod status;
 mod top;
-mod walk;
 mod words;
 
 pub use status::Status;

@@ -23,8 +23,8 @@ pub enum Status {
     StepLimit,
     /// Want of memory.
     Memory,
-    /// The program stopped with a number.
-    Stopped,
+    /// The program stopped with this number.
+    Stopped(u16),
     /// The run ended by a fault of its own.
     Trapped(Trap),
 }
@@ -43,7 +43,7 @@ impl Status {
             Status::OutputFault => 6,
             Status::StepLimit => 7,
             Status::Memory => 8,
-            Status::Stopped => 9,
+            Status::Stopped(_) => 9,
             Status::Trapped(trap) => 10 + trap.number(),
         }
     }

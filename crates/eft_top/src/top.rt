@@ -3,10 +3,9 @@ ghost use Rattle.std.specs.Prelude.{◌≡◌, ◌≢◌, ◌⊎◌, ℕ, [], �
 ghost use Rattle.ports.specs.Causes.{Rose};
 ghost use Rattle.ports.specs.Puts.{PutsPrefix};
 ghost use Rattle.eft_top.specs.Lines.{output_fault_line};
-ghost use Rattle.eft_top.specs.Outcome.{status_of, IfAsked};
+ghost use Rattle.eft_top.specs.Outcome.{IfAsked};
 ghost use Rattle.eft_top.specs.Words.{command_of, texts};
-ghost use Rattle.eft_top.specs.Causes.{Comes, IsOfText, IsShown, ForOut, ForDiag, fixed_line};
-ghost use Rattle.eft_top.specs.Report.{IsNotBuilt};
+ghost use Rattle.eft_top.specs.Causes.{Comes, MayBe, MustBe, IsOfText, IsShown, ForOut, ForDiag, fixed_line};
 ghost use Rattle.ground.specs.declared.trap.Trap.{Trap as ATrap};
 
 use crate::Status;
@@ -26,17 +25,21 @@ pub fn eft<L: Library, S: Source, K: Sink, D: Sink>(
     diag: &mut D,
 ) -> Status
     // When each status comes.
-    ensures usage { Comes result Status.Usage (command_of (texts words.now.items) ≡ None) (Status.OutputFault ∷ Status.Memory ∷ []) }
-    ensures source_fault { IfAsked (command_of (texts words.now.items)) (L.files library.old) (λ outcome.
-        Comes result Status.SourceFault (status_of outcome ≡ Some Status.SourceFault) (Status.LibraryFault ∷ Status.OutputFault ∷ Status.Memory ∷ [])) }
-    ensures done { IfAsked (command_of (texts words.now.items)) (L.files library.old) (λ outcome.
-        Comes result Status.Done (status_of outcome ≡ Some Status.Done) (Status.LibraryFault ∷ Status.OutputFault ∷ Status.Memory ∷ [])) }
-    ensures trapped { (trap : ATrap) → IfAsked (command_of (texts words.now.items)) (L.files library.old) (λ outcome.
-        Comes result (Status.Trapped trap) (status_of outcome ≡ Some (Status.Trapped trap)) (Status.LibraryFault ∷ Status.OutputFault ∷ Status.Memory ∷ [])) }
+    ensures usage { Comes result Status.Usage (command_of (texts words.now.items) ≡ None) (command_of (texts words.now.items) ≡ None) (Status.OutputFault ∷ []) }
+    ensures source_fault { IfAsked (command_of (texts words.now.items)) (L.files library.old) (λ told.
+        Comes result Status.SourceFault (MayBe told Status.SourceFault) (MayBe told Status.SourceFault) (Status.LibraryFault ∷ Status.OutputFault ∷ Status.Memory ∷ [])) }
+    ensures done { IfAsked (command_of (texts words.now.items)) (L.files library.old) (λ told.
+        Comes result Status.Done (MayBe told Status.Done) (MustBe told Status.Done) (Status.LibraryFault ∷ Status.OutputFault ∷ Status.Memory ∷ [])) }
+    ensures stopped { (n : ℕ) → IfAsked (command_of (texts words.now.items)) (L.files library.old) (λ told.
+        Comes result (Status.Stopped n) (MayBe told (Status.Stopped n)) (MustBe told (Status.Stopped n)) (Status.LibraryFault ∷ Status.OutputFault ∷ Status.Memory ∷ [])) }
+    ensures step_limit { IfAsked (command_of (texts words.now.items)) (L.files library.old) (λ told.
+        Comes result Status.StepLimit (MayBe told Status.StepLimit) (MustBe told Status.StepLimit) (Status.LibraryFault ∷ Status.OutputFault ∷ Status.Memory ∷ [])) }
+    ensures trapped { (trap : ATrap) → IfAsked (command_of (texts words.now.items)) (L.files library.old) (λ told.
+        Comes result (Status.Trapped trap) (MayBe told (Status.Trapped trap)) (MustBe told (Status.Trapped trap)) (Status.LibraryFault ∷ Status.OutputFault ∷ Status.Memory ∷ [])) }
     ensures library_fault { result ≡ Status.LibraryFault → Rose (L.faults library.old) (L.faults library.new) }
     ensures output_fault { result ≡ Status.OutputFault → Rose (K.faults out.old) (K.faults out.new) ⊎ Rose (D.faults diag.old) (D.faults diag.new) }
-    // No program reads input, stops with a number or meets a limit of steps yet.
-    ensures not_built { IsNotBuilt result → ⊥ }
+    // No program reads input yet.
+    ensures not_built { result ≢ Status.InputFault }
 
     // With any other status no put of this call failed, and with a text's status no fetch.
     ensures all_put_out { result ≢ Status.OutputFault → K.faults out.new ≡ K.faults out.old }

@@ -1,0 +1,6 @@
+use Rattle.std.proofs.Common.{◌≡◌, drop, fold}
+use Rattle.eft_top.specs.Words.{texts, start, read, reading_of}
+use Rattle.eft_top.proofs.words.read_run.Given as goal
+
+abbrev pub invariant-loop-word : goal.invariant-loop-word
+invariant-loop-word l = fold read start (texts l.words) ≡ fold read (reading_of l.reading) (texts (drop l.word-index l.words))

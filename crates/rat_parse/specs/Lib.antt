@@ -1,5 +1,0 @@
-pub mod Program
-pub mod Pieces
-pub mod Lines
-pub mod Texts
-pub mod Meaning
