@@ -1,5 +1,5 @@
 #!/bin/sh
-# Times runs of the first texts: the ratio of a text of 64 KiB to one of 8 KiB (linear: at most 10), the time of an empty
+# Times runs of straight texts: the ratio of a text of 64 KiB to one of 8 KiB (linear: at most 10), the time of an empty
 # run, and whether the largest text runs in 64 MiB of memory. Build the program first (./eft builds it).
 cd "$(dirname "$0")/.." || exit 1
 program=$PWD/crates/eft/out/eft
@@ -11,7 +11,7 @@ trap 'rm -rf "$folder"' EXIT
 text() {
     awk -v bytes="$1" 'BEGIN {
         print "k = 0"; print "n = 3"
-        for (used = 12 + 31; used + 18 <= bytes; used += 18) print "k = k + 1 - n + n"
+        for (used = 12 + 31; used + 40 <= bytes; used += 40) print "k = k + 1 - n + n # and a comment to 40"
         print "write(6,9) k"; print "9 format(i11)"; print "end"
     }' >"$folder/$2"
 }

@@ -1,0 +1,11 @@
+# The numbers of Fibonacci up to 1000.
+i = 0
+j = 1
+repeat {
+    write(6,9) i
+    k = i + j
+    i = j
+    j = k
+} until (i > 1000)
+9 format(i5)
+end
