@@ -387,10 +387,10 @@ fn limits(rt: HostRuntime) -> Result<(), Fail> {
     }
     let status = eft_in_memory(alloc, &words, &mut library, &mut input, &mut out, &mut diag);
     assert_eq!(rt; status.code(), 7);
-    assert!(rt; diag.bytes() == b"step limit 1000\n");
+    assert!(rt; diag.bytes() == b"step limit 1000\n".as_slice());
     assert!(rt; out.bytes().len() >= 9);
     for record in out.bytes().chunks(3) {
-        assert!(rt; record == b" 1\n");
+        assert!(rt; record == b" 1\n".as_slice());
     }
     Ok(())
 }
