@@ -1,0 +1,323 @@
+// Small programs with what they show, worked out by hand from what the statements of Ratfor do.
+
+use crate::reading::{at, read};
+use f66_tree::{Header, Name};
+use ground::{Fault, List, Refusal, Text};
+use rat_lower::lower;
+use rat_tree::{RatStmt, RatUnit};
+use std::alloc::{AllocError, Global};
+use std::process::Abort;
+use std::test::Fail;
+use unit_walk::{RunEnd, Walked, walk};
+
+fn main_unit(body: List<RatStmt>) -> RatUnit {
+    RatUnit {
+        header: Header::Main,
+        body,
+        place: at(1),
+    }
+}
+
+/// The records with `/` behind each, and the end.
+fn shown(alloc: Global, walked: &Walked) -> Result<String, AllocError> {
+    let mut shown = String::new(alloc);
+    for record in &walked.records {
+        for byte in record.as_bytes() {
+            shown.push(*byte as char)?;
+        }
+        shown.push('/')?;
+    }
+    match walked.end {
+        RunEnd::Done => shown.push_str("done")?,
+        RunEnd::Stopped(number) => write!(shown, "stop {number}")?,
+        RunEnd::Trapped(trap, place) => {
+            let word = trap.word();
+            let line = place.line;
+            write!(shown, "{word} at {line}")?;
+        }
+        RunEnd::GoesOn => shown.push_str("goes on")?,
+    }
+    Ok(shown)
+}
+
+fn fault_shown(alloc: Global, fault: Fault) -> Result<String, AllocError> {
+    let word = fault.kind.word();
+    let line = fault.place.line;
+    Ok(format!(in alloc; "{word} at {line}")?)
+}
+
+/// What a unit shows: its run, or its fault.
+fn outcome(alloc: Global, unit: &RatUnit, limit: u64) -> Result<String, Fail> {
+    match lower(alloc, unit, at(99)) {
+        Ok(made) => {
+            let walked = walk(alloc, &made.statements, limit).ok().ok_or("memory")?;
+            Ok(shown(alloc, &walked)?)
+        }
+        Err(Refusal::Fault(fault)) => Ok(fault_shown(alloc, fault)?),
+        Err(Refusal::Memory) => Err("memory")?,
+    }
+}
+
+/// Texts of programs, each with what it shows.
+fn expect_all(rt: &impl Abort, alloc: Global, rows: &[(&str, &str)]) -> Result<(), Fail> {
+    for (text, wanted) in rows {
+        let unit = main_unit(read(alloc, text.as_bytes())?);
+        let found = outcome(alloc, &unit, 10_000)?;
+        assert_eq!(rt; found.as_str(), *wanted, "at {text}");
+    }
+    Ok(())
+}
+
+// Loops of no, one and many turns.
+#[test]
+fn turns(rt: HostRuntime) -> Result<(), Fail> {
+    let rows: [(&str, &str); 25] = [
+        ("", "done"),
+        ("9@2T k3: k3<{k!}W", "done"),
+        ("9@2T k2: k3<{{k! k k1+:}B}W", " 2/done"),
+        ("9@2T k0: k3<{{k! k k1+:}B}W", " 0/ 1/ 2/done"),
+        ("9@2T i4;i4<i i1+;{i!}F i!", " 4/done"),
+        ("9@2T i3;i4<i i1+;{i!}F i!", " 3/ 4/done"),
+        ("9@2T i1;i4<i i1+;{i!}F i!", " 1/ 2/ 3/ 4/done"),
+        ("9@2T k1: _k3<k k1+;{k!}F", " 1/ 2/done"),
+        ("9@2T k1;k3<_{{k! k k1+:}B}F", " 1/ 2/done"),
+        ("9@2T k0: __{{k k1+: k! k3={1X}I}B}E", " 1/ 2/ 3/done"),
+        // `next` goes on with the step of a `for`, and with the condition of an `until`.
+        ("9@2T i1;i4<i i1+;{{i2={1N}I i!}B}F", " 1/ 3/done"),
+        ("9@2T k0: {{k k1+: k2={1N}I k!}B}k3>U", " 1/ 3/ 4/done"),
+        ("9@2T k1: {{k k1+: k2={1N}I k!}B}k1>U k!", " 2/done"),
+        ("9@2T k5: {{k! k k1+:}B}k5>U", " 5/done"),
+        ("9@2T k4: {{k! k k1+:}B}k5>U", " 4/ 5/done"),
+        ("9@2T k0: {{k k1+: k! k2={#}I}B}R", " 1/ 2/done"),
+        ("9@2T k0: {{k k1+: k! k2={17Q}I}B}R", " 1/ 2/stop 17"),
+        // A DO makes one turn at least, and ends as a trap where its first parameter is above the last.
+        ("9@2T i1 1 1{i!}D", " 1/done"),
+        ("9@2T i1 5 2{i!}D", " 1/ 3/ 5/done"),
+        ("9@2T i2 1 1{i!}D", "BadDo at 2"),
+        ("9@2T i1 2 0{i!}D", "BadDo at 2"),
+        ("9@2T k3: i1 k 1{{k1: i!}B}D", " 1/ 2/ 3/done"),
+        ("9@2T i1 2 1{i!}D i!", " 1/ 2/Undefined at 4"),
+        ("9@2T i1 5 1{{i! i2={1X}I}B}D i!", " 1/ 2/ 2/done"),
+        ("9@2T i1 3 1{{i2={1N}I i!}B}D", " 1/ 3/done"),
+    ];
+    expect_all(&rt, rt.alloc(), &rows)
+}
+
+/// A nest with a jump put in at its star.
+fn nest_with(alloc: Global, nest: &str, jump: &str) -> Result<String, AllocError> {
+    let mut text = String::new(alloc);
+    for letter in nest.chars() {
+        if letter == '*' {
+            text.push_str(jump)?;
+        } else {
+            text.push(letter)?;
+        }
+    }
+    Ok(text)
+}
+
+// A `for` in a `for` in a `for`, and a `repeat` in a `while` in a `do`.
+#[test]
+fn nests(rt: HostRuntime) -> Result<(), Fail> {
+    let fors =
+        "9@2T i21;i23<i i1+;{{ j11;j13<j j1+;{{ k1;k4<k k1+;{{ k2={*}I k! }B}F j! }B}F i! }B}F";
+    let mixed =
+        "9@2T i21 22 1{{ j11: j13<{{ j j1+: k0: {{ k k1+: k2={*}I k! }B}k2>U j! }B}W i! }B}D";
+    let next_in_fors = " 1/ 3/11/ 1/ 3/12/21/ 1/ 3/11/ 1/ 3/12/22/done";
+    let next_in_mixed = " 1/ 3/12/ 1/ 3/13/21/ 1/ 3/12/ 1/ 3/13/22/done";
+    let rows: [(&str, &str, &str); 14] = [
+        (fors, "1X", " 1/11/ 1/12/21/ 1/11/ 1/12/22/done"),
+        (fors, "2X", " 1/21/ 1/22/done"),
+        (fors, "3X", " 1/done"),
+        (fors, "1N", next_in_fors),
+        (fors, "2N", " 1/ 1/21/ 1/ 1/22/done"),
+        (fors, "3N", " 1/ 1/done"),
+        (fors, "4X", "BadBreak at 9"),
+        (mixed, "1X", " 1/12/ 1/13/21/ 1/12/ 1/13/22/done"),
+        (mixed, "2X", " 1/21/ 1/22/done"),
+        (mixed, "3X", " 1/done"),
+        (mixed, "1N", next_in_mixed),
+        (mixed, "2N", " 1/ 1/21/ 1/ 1/22/done"),
+        (mixed, "3N", " 1/ 1/done"),
+        (mixed, "4N", "BadBreak at 13"),
+    ];
+    for (nest, jump, wanted) in rows {
+        let text = nest_with(rt.alloc(), nest, jump)?;
+        expect_all(&rt, rt.alloc(), &[(text.as_str(), wanted)])?;
+    }
+    Ok(())
+}
+
+// A choice, a clause of a switch, labels and jumps.
+#[test]
+fn choices(rt: HostRuntime) -> Result<(), Fail> {
+    let rows: [(&str, &str); 31] = [
+        ("9@2T k1: k1={k2:}I k!", " 2/done"),
+        ("9@2T k3: k1={k2:}I k!", " 3/done"),
+        ("9@2T k1: k1={k2: k7:}I k!", " 2/done"),
+        ("9@2T k3: k1={k2: k7:}I k!", " 7/done"),
+        ("9@2T k3: k1=?k4<&{k2: k7:}I k!", " 2/done"),
+        ("9@2T k3: k1=k4=|{k2: k7:}I k!", " 7/done"),
+        // None of the cases fits.
+        ("9@2T k5: k{1[k1:] 2[k2:]}S k!", " 5/done"),
+        ("9@2T k5: k{}S k!", " 5/done"),
+        // A default before a later case.
+        ("9@2T k1: k{1[l1:] [l9:] 2[l2:]}S l!", " 1/done"),
+        ("9@2T k2: k{1[l1:] [l9:] 2[l2:]}S l!", " 2/done"),
+        ("9@2T k5: k{1[l1:] [l9:] 2[l2:]}S l!", " 9/done"),
+        // Several values of a clause, and two clauses with one value.
+        ("9@2T k3: k{1 3[l1:] 2 4 5[l2:]}S l!", " 1/done"),
+        ("9@2T k4: k{1 3[l1:] 2 4 5[l2:]}S l!", " 2/done"),
+        ("9@2T k4: k{4[l1:] 4[l2:]}S l!", " 1/done"),
+        ("9@2T k4: m3: k{m[l1:] m1+[l2:]}S l!", " 2/done"),
+        // The value is taken once, and no clause falls into the next.
+        ("9@2T k1: k{1[k2:] 2[k7:]}S k!", " 2/done"),
+        ("9@2T k1: m2: k{1[m{1[l1:] 2[l2:]}S] 2[l3:]}S l!", " 2/done"),
+        // A switch is no loop.
+        ("9@2T i1;i4<i i1+;{i{2[1N] [i!]}S}F", " 1/ 3/done"),
+        ("9@2T i1;i4<i i1+;{i{2[1X] [i!]}S}F", " 1/done"),
+        // Jumps back, forward, out of a block, out of loops, and within one.
+        ("9@2T k0: 5@k k1+: k! k3<{5G}I", " 1/ 2/ 3/done"),
+        ("9@2T k1: {7G k!}B k2: 7@k!", " 1/done"),
+        (
+            "9@2T i1;i9<i i1+;{{i3={7G}I i!}B}F i5: 7@i!",
+            " 1/ 2/ 3/done",
+        ),
+        ("9@2T i1 9 1{{i3={7G}I i!}B}D 7@i!", " 1/ 2/ 3/done"),
+        ("9@2T i1;i4<i i1+;{{i2={8G}I i! 8@.}B}F", " 1/ 3/done"),
+        ("9@2T k0: 23000@{k k1+: k! k3<{23000G}I}B", " 1/ 2/ 3/done"),
+        (
+            "9@2T k0: 5@k2<{k k1+:}W k! k4<{{k k1+: 5G}B}I",
+            " 2/ 3/ 4/done",
+        ),
+        ("9@2T k1: l0: 3 4kC 3@l1: 4@l!", " 1/done"),
+        ("9@2T k2: l0: 3 4kC 3@l1: 4@l!", " 0/done"),
+        ("9@2T k0: l0: 3 4kC 3@l1: 4@l!", "BadBranch at 4"),
+        ("9@2T k3: l0: 3 4kC 3@l1: 4@l!", "BadBranch at 4"),
+        ("5@5G", "goes on"),
+    ];
+    expect_all(&rt, rt.alloc(), &rows)
+}
+
+// Traps with the lines of their statements.
+#[test]
+fn traps(rt: HostRuntime) -> Result<(), Fail> {
+    let rows: [(&str, &str); 14] = [
+        ("k2147483647: k k1+:", "Overflow at 2"),
+        ("1 0/1={#}I", "Division at 1"),
+        ("9@2T k1: 1k/2<{k k1-:}W", "Division at 3"),
+        ("k2147483647 1+;k1<_{#}F", "Overflow at 1"),
+        ("k1;1 0/1<_{#}F", "Division at 1"),
+        ("9@2T i1: k2147483646;k1>k k1+;{i!}F", " 1/ 1/Overflow at 3"),
+        ("9@2T k2: {{k! k k1-:}B}4k/9=U", " 2/ 1/Division at 7"),
+        ("9@2T k1: {{k! k k1-:}B}4k/9=U", " 1/Division at 7"),
+        ("9@2T k{1[#]}S", "Undefined at 2"),
+        ("9@2T k1: k{2[k!] 1 0/[#] [k!]}S", "Division at 6"),
+        ("9@2T k2: k{2[k!] 1 0/[#] [k!]}S", " 2/done"),
+        ("9@2T k1: k{2[k!] [k!] 0 0^[#]}S", "Power at 8"),
+        ("9@2T k!", "Undefined at 2"),
+        ("9@2T k1: k1={k m:}I", "Undefined at 4"),
+    ];
+    expect_all(&rt, rt.alloc(), &rows)
+}
+
+// The first fault, with its line.
+#[test]
+fn refusals(rt: HostRuntime) -> Result<(), Fail> {
+    let rows: [(&str, &str); 29] = [
+        ("1X", "BadBreak at 1"),
+        ("1N", "BadBreak at 1"),
+        ("k1<{2X}W", "BadBreak at 2"),
+        ("k1<{0X}W", "BadBreak at 2"),
+        ("k1={1X}I", "BadBreak at 2"),
+        ("k{[1X]}S", "BadBreak at 3"),
+        ("__{1N}E 1N", "BadBreak at 3"),
+        ("k1: L1:", "NameTooLong at 2"),
+        ("k1: {k1:}L1=U", "NameTooLong at 4"),
+        ("k1: x1:", "OutOfProfileType at 2"),
+        ("i1 x 1{.}D", "OutOfProfileType at 1"),
+        ("kxL+:", "NameTooLong at 1"),
+        ("x1: L1:", "OutOfProfileType at 1"),
+        ("7G", "BadLabel at 1"),
+        ("7G {7@#}B", "BadLabel at 1"),
+        ("k1={7G}I k1<{{7@.}B}W", "BadLabel at 2"),
+        ("7 8kC 7@.", "BadLabel at 1"),
+        ("0@.", "BadLabel at 1"),
+        ("99999@.", "done"),
+        ("100000@.", "BadLabel at 1"),
+        ("5@. {5@.}B", "BadLabel at 3"),
+        ("k!", "BadLabel at 1"),
+        ("9@. k!", "BadLabel at 2"),
+        ("k{[.] 1[.] [.]}S", "DuplicateCase at 6"),
+        ("9@133T", "BadFormat at 1"),
+        ("9@0T", "BadFormat at 1"),
+        ("V", "Unbuilt at 1"),
+        ("x1: 1X {V}B", "Unbuilt at 4"),
+        ("k1+{.}W", "Unbuilt at 1"),
+    ];
+    expect_all(&rt, rt.alloc(), &rows)
+}
+
+// A unit with a header is not built, whatever its statements are; its place is that of the header.
+#[test]
+fn other_units(rt: HostRuntime) -> Result<(), Fail> {
+    let name = Name::new(Text::new([b'S'].to_vec(rt.alloc())?));
+    let mut unit = main_unit(read(rt.alloc(), b"x1:")?);
+    unit.header = Header::Sub(name, Vec::new(rt.alloc()));
+    unit.place = at(3);
+    let found = outcome(rt.alloc(), &unit, 1)?;
+    assert_eq!(rt; found.as_str(), "Unbuilt at 3");
+    Ok(())
+}
+
+/// Whether the records are the numbers from 1 on, in two columns.
+fn are_counted(walked: &Walked) -> bool {
+    let mut number: u8 = 0;
+    for record in &walked.records {
+        number = number.saturating_add(1);
+        let tens = if number < 10 {
+            b' '
+        } else {
+            b'0' + number / 10
+        };
+        let wanted = [tens, b'0' + number % 10];
+        if record.as_bytes() != wanted.as_slice() {
+            return false;
+        }
+    }
+    true
+}
+
+// A run without end goes on at each limit, and its records are the first ones, never fewer at a greater limit. A turn does
+// eight pieces of work and what stands before it two, so that at a limit of 1000 there are two records at least.
+#[test]
+fn endless(rt: HostRuntime) -> Result<(), Fail> {
+    let texts = [
+        "9@2T k0: {{k k1+: k!}B}R",
+        "9@2T k0: k k={{k k1+: k!}B}W",
+        "9@2T k1: 5@k! k k1+: 5G",
+    ];
+    for text in texts {
+        let unit = main_unit(read(rt.alloc(), text.as_bytes())?);
+        let made = lower(rt.alloc(), &unit, at(99)).ok().ok_or("refused")?;
+        let mut before = 0;
+        for limit in 1..=40 {
+            let walked = walk(rt.alloc(), &made.statements, limit)
+                .ok()
+                .ok_or("memory")?;
+            assert_eq!(rt; walked.end, RunEnd::GoesOn, "at {limit} of {text}");
+            assert_eq!(rt; walked.begun, limit, "at {limit} of {text}");
+            let counted = are_counted(&walked);
+            assert!(rt; counted, "at {limit} of {text}");
+            let count = walked.records.len();
+            assert!(rt; before <= count, "at {limit} of {text}");
+            before = count;
+        }
+        let walked = walk(rt.alloc(), &made.statements, 1000)
+            .ok()
+            .ok_or("memory")?;
+        let count = walked.records.len();
+        assert!(rt; count >= 2, "{text}");
+    }
+    Ok(())
+}
