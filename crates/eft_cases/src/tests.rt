@@ -181,7 +181,7 @@ fn stops(rt: HostRuntime) -> Result<(), Fail> {
 // Faults of the tokens and of the grammar.
 #[test]
 fn misreads(rt: HostRuntime) -> Result<(), Fail> {
-    let table: [(&[u8], &str); 9] = [
+    let table: [(&[u8], &str); 10] = [
         (b"", "fault 22 MainCount at p.r:1\n"),
         (b"\n\n", "fault 22 MainCount at p.r:3\n"),
         (
@@ -193,6 +193,10 @@ fn misreads(rt: HostRuntime) -> Result<(), Fail> {
             "fault 4 MacroLoop at p.r:3\n",
         ),
         (b"define(one, 1\nend\n", "fault 5 BadDefine at p.r:1\n"),
+        (
+            b"k = 1\ninclude q\nend\n",
+            "fault 6 IncludeMissing at p.r:2\n",
+        ),
         (b"k = (1 +\n", "fault 9 Syntax at p.r:2\n"),
         (b"k = 1)\n", "fault 9 Syntax at p.r:1\n"),
         (
@@ -213,7 +217,7 @@ fn misreads(rt: HostRuntime) -> Result<(), Fail> {
 // Faults of the checks, and what is not built yet.
 #[test]
 fn refuses(rt: HostRuntime) -> Result<(), Fail> {
-    let table: [(&[u8], &str); 10] = [
+    let table: [(&[u8], &str); 11] = [
         (
             b"k = 1\nx = k\nwrite(6,9) y\n9 format(i11)\nend\n",
             "fault 11 OutOfProfileType at p.r:2\n",
@@ -243,6 +247,10 @@ fn refuses(rt: HostRuntime) -> Result<(), Fail> {
         (
             b"i = 1\nj = 2\nk = 3\nwrite(6,9) i, j, k\n9 format(i3,(i2))\nstop 17\nend\n",
             "fault 31 Unbuilt at p.r:4\n",
+        ),
+        (
+            b"k = 1\nm = 2\ncommon /kk/ m\nend\n",
+            "fault 31 Unbuilt at p.r:3\n",
         ),
         (
             b"stop\nend\nsubroutine s\nreturn\nend\n",
