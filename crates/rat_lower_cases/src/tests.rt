@@ -46,15 +46,23 @@ fn fault_shown(alloc: Global, fault: Fault) -> Result<String, AllocError> {
     Ok(format!(in alloc; "{word} at {line}")?)
 }
 
-/// What a unit shows: its run, or its fault.
-fn outcome(alloc: Global, unit: &RatUnit, limit: u64) -> Result<String, Fail> {
+/// The run of a unit, or its fault.
+fn run_of(alloc: Global, unit: &RatUnit, limit: u64) -> Result<Result<Walked, Fault>, Fail> {
     match lower(alloc, unit, at(99)) {
-        Ok(made) => {
-            let walked = walk(alloc, &made.statements, limit).ok().ok_or("memory")?;
-            Ok(shown(alloc, &walked)?)
-        }
-        Err(Refusal::Fault(fault)) => Ok(fault_shown(alloc, fault)?),
+        Ok(made) => match walk(alloc, &made.statements, limit) {
+            Ok(walked) => Ok(Ok(walked)),
+            Err(_) => Err("memory")?,
+        },
+        Err(Refusal::Fault(fault)) => Ok(Err(fault)),
         Err(Refusal::Memory) => Err("memory")?,
+    }
+}
+
+/// What the run of a unit shows, or its fault.
+fn outcome(alloc: Global, unit: &RatUnit, limit: u64) -> Result<String, Fail> {
+    match run_of(alloc, unit, limit)? {
+        Ok(walked) => Ok(shown(alloc, &walked)?),
+        Err(fault) => Ok(fault_shown(alloc, fault)?),
     }
 }
 
@@ -288,8 +296,8 @@ fn are_counted(walked: &Walked) -> bool {
     true
 }
 
-// A run without end goes on at each limit, and its records are the first ones, never fewer at a greater limit. A turn does
-// eight pieces of work and what stands before it two, so that at a limit of 1000 there are two records at least.
+// A run without end goes on at each limit, and its records are the first ones, never fewer at a greater limit. Two turns of
+// each text are less than 30 pieces of work, and 32 * (30 + 1) is below 1000: with that limit there are two records at least.
 #[test]
 fn endless(rt: HostRuntime) -> Result<(), Fail> {
     let texts = [
@@ -299,12 +307,9 @@ fn endless(rt: HostRuntime) -> Result<(), Fail> {
     ];
     for text in texts {
         let unit = main_unit(read(rt.alloc(), text.as_bytes())?);
-        let made = lower(rt.alloc(), &unit, at(99)).ok().ok_or("refused")?;
         let mut before = 0;
         for limit in 1..=40 {
-            let walked = walk(rt.alloc(), &made.statements, limit)
-                .ok()
-                .ok_or("memory")?;
+            let walked = run_of(rt.alloc(), &unit, limit)?.ok().ok_or("refused")?;
             assert_eq!(rt; walked.end, RunEnd::GoesOn, "at {limit} of {text}");
             assert_eq!(rt; walked.begun, limit, "at {limit} of {text}");
             let counted = are_counted(&walked);
@@ -313,9 +318,7 @@ fn endless(rt: HostRuntime) -> Result<(), Fail> {
             assert!(rt; before <= count, "at {limit} of {text}");
             before = count;
         }
-        let walked = walk(rt.alloc(), &made.statements, 1000)
-            .ok()
-            .ok_or("memory")?;
+        let walked = run_of(rt.alloc(), &unit, 1000)?.ok().ok_or("refused")?;
         let count = walked.records.len();
         assert!(rt; count >= 2, "{text}");
     }
