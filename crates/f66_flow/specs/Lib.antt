@@ -1,3 +1,4 @@
 pub mod Acts
 pub mod Ranges
 pub mod FlowRules
+pub mod Under

@@ -1,6 +1,13 @@
 //! The rules of FORTRAN on the order of statements, on labels and on DO ranges, statement by statement.
 #![tactic(auto)]
 
+mod flow;
+mod forms;
+mod labels;
+mod order;
+mod rows;
 mod scope;
 
+pub use flow::{Flow, flow_of};
+pub use labels::Labels;
 pub use scope::Scope;
