@@ -5,6 +5,7 @@ mod flow;
 mod forms;
 mod labels;
 mod order;
+mod ranges;
 mod rows;
 mod scope;
 
