@@ -56,10 +56,13 @@ ends_wrong lines i _ = false
 abbrev pub overlaps : List Line → ℕ → Act → Bool
 overlaps lines i a = some_below i (λ d. holds (range_ends lines) d i && nat_lt (end_at (range_ends lines) d) (range_end lines a))
 
--- a branch from i to a statement in the range of some DO that does not have i
+-- a branch from i to t, in the range of some DO that does not have i
+abbrev pub enters_at : List Line → ℕ → ℕ → Bool
+enters_at lines i t = some_below t (λ d. holds (range_ends lines) d t && not (holds (range_ends lines) d i))
+
+-- a branch from i to the statement that a label names
 abbrev pub enters : List Line → ℕ → ℕ → Bool
-enters lines i l =
-    is_some_and (λ t. some_below t (λ d. holds (range_ends lines) d t && not (holds (range_ends lines) d i))) (place_of lines l)
+enters lines i l = is_some_and (enters_at lines i) (place_of lines l)
 
 abbrev pub nests_wrong : List Line → ℕ → Act → Bool
 nests_wrong lines i a = ends_wrong lines i a || (overlaps lines i a || list_any (enters lines i) (branches a))

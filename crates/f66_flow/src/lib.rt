@@ -11,4 +11,5 @@ mod scope;
 
 pub use flow::{Flow, flow_of};
 pub use labels::Labels;
+pub use rows::{broken_rule, header_rule};
 pub use scope::Scope;
