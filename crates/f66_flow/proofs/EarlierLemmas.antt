@@ -12,6 +12,9 @@ use Rattle.f66_flow.specs.Acts.{branches}
 use Rattle.f66_flow.specs.Ranges.{end_at, holds, range_end, range_ends}
 use Rattle.f66_flow.specs.Innermost.{IsNested}
 use Rattle.f66_flow.specs.FlowRules.{ends_wrong, overlaps, enters, breaks_flow, breaks_flow_at}
+use Rattle.f66_tree.specs.declared.statement.Stmt.{Stmt}
+use Rattle.f66_tree.specs.Views.{line_of, lines_of}
+use Rattle.f66_flow.specs.declared.scope.Scope.{Scope}
 use Rattle.f66_flow.specs.declared.scope.Scope.TheVariants.{Whole}
 use Rattle.f66_flow.proofs.NestLemmas.{or_left, or_right, and_true, each_below, held_before, false_lt}
 
@@ -38,3 +41,9 @@ nested_at lines d e (Some s) is clean held =
 
 pub nested_by : (lines : List Line) (i : ℕ) → ((j : ℕ) (k : FaultKind) → j < i → breaks_flow_at Whole lines j k ≡ false) → IsNested (range_ends lines) i
 nested_by lines i clean = record { within = λ d e l held. nested_at lines d e (slice_get lines d) refl (clean d DoNesting l) held }
+
+-- what a statement in memory breaks
+pub broken_at : (w : Scope) (all : List Stmt) (i : ℕ) (s : Stmt) → slice_get all i ≡ Some s →
+    breaks_flow_at w (lines_of all) i ≡ breaks_flow w (lines_of all) i (line_of s)
+broken_at w all i s e =
+    ap (λ o. λ k. is_some_and (λ t. breaks_flow w (lines_of all) i t k) o) (slice_get-map line_of all i ∙ ap (option_map line_of) e)

@@ -13,3 +13,6 @@ pub use flow::{Flow, flow_of};
 pub use labels::Labels;
 pub use rows::{broken_rule, header_rule};
 pub use scope::Scope;
+
+#[cfg(test)]
+mod tests;
