@@ -1,0 +1,8 @@
+use Rattle.std.proofs.Common.{◌≡◌, take, None}
+use Rattle.rule_table.specs.Words.{first_place}
+use Rattle.f66_tree.specs.Views.{act_of}
+use Rattle.f66_flow.specs.Acts.{is_executable}
+use Rattle.f66_flow.proofs.order.first_executable.Given as goal
+
+abbrev pub invariant-loop-i : goal.invariant-loop-i
+invariant-loop-i l = first_place (λ s. is_executable (act_of s.kind)) (take l.i l.statements) ≡ None

@@ -1,0 +1,5 @@
+pub mod Acts
+pub mod Ranges
+pub mod FlowRules
+pub mod Under
+pub mod Innermost

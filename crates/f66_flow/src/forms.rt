@@ -1,0 +1,60 @@
+// The forms of statements that the rules tell apart.
+ghost use Rattle.std.specs.Prelude.{◌≡◌};
+ghost use Rattle.f66_tree.specs.Views.{act_of};
+ghost use Rattle.f66_flow.specs.Acts as acts;
+
+use f66_tree::StmtKind;
+
+pub(crate) fn is_executable(kind: &StmtKind) -> bool
+    ensures { result ≡ acts.is_executable (act_of kind.now) }
+{
+    !(is_specification(kind) || is_data(kind) || is_format(kind))
+}
+
+pub(crate) fn is_specification(kind: &StmtKind) -> bool
+    ensures { result ≡ acts.is_specification (act_of kind.now) }
+{
+    matches!(
+        kind,
+        StmtKind::Typed(..)
+            | StmtKind::Dimension(_)
+            | StmtKind::Common(_)
+            | StmtKind::Equivalence(_)
+    )
+}
+
+pub(crate) fn is_data(kind: &StmtKind) -> bool
+    ensures { result ≡ acts.is_data (act_of kind.now) }
+{
+    matches!(kind, StmtKind::Preset(_))
+}
+
+pub(crate) fn is_format(kind: &StmtKind) -> bool
+    ensures { result ≡ acts.is_format (act_of kind.now) }
+{
+    matches!(kind, StmtKind::Format(_))
+}
+
+pub(crate) fn is_transfer(kind: &StmtKind) -> bool
+    ensures { result ≡ acts.is_transfer (act_of kind.now) }
+{
+    matches!(
+        kind,
+        StmtKind::Goto(_)
+            | StmtKind::Computed(..)
+            | StmtKind::Sign(..)
+            | StmtKind::Return
+            | StmtKind::Stop(_)
+    )
+}
+
+/// Whether no range may end with a statement.
+pub(crate) fn ends_no_range(kind: &StmtKind) -> bool
+    ensures { result ≡ acts.ends_no_range (act_of kind.now) }
+{
+    match kind {
+        StmtKind::Loop(..) => true,
+        StmtKind::When(_, inner) => ends_no_range(inner),
+        kind => is_transfer(kind),
+    }
+}
