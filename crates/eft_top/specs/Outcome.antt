@@ -4,6 +4,8 @@ use Rattle.std.specs.declared.option.Option.{Option}
 use Rattle.ground.specs.declared.fault.Fault.{Fault}
 use Rattle.ports.specs.Records.{output_bytes}
 use Rattle.f66_tree.specs.World.{Record, Shown, End, Ended, GoesOn, Lost, Done, Stopped, Trapped, Wrong}
+use Rattle.f66_tree.specs.Forms.{Line}
+use Rattle.f66_tree.specs.OneUnit.{executed}
 use Rattle.f66_tree.specs.Agreement.{Agrees}
 use Rattle.rat_tree.specs.Commands.{Commands}
 use Rattle.rat_lower.specs.OneUnit.{means}
@@ -19,13 +21,14 @@ pub data Outcome : Type 0 where
   HasFault : Fault → List ℕ → Outcome
   Runs : List (List ℕ) → ℕ → Shown → Outcome
 
--- A run of these statements with a limit: whatever the input holds, it shows what a target does within the limit that agrees
--- with what the statements mean. So where it has ended, they mean the same records and the same end; where it goes on, its
--- records begin theirs; and whatever they do with a work w where 32 * (w + 1) is within the limit, it has done.
+-- A run of these statements with a limit: whatever the input holds, it shows what a main unit of FORTRAN does within the limit
+-- that agrees with what the statements mean. So where it has ended, they mean the same records and the same end; where it goes
+-- on, that unit goes on past so many statements, and its records begin theirs; and whatever they do with a work w where
+-- 32 * (w + 1) is within the limit, it has done.
 pub record IsRun (body : Commands) (limit : ℕ) (shown : Shown) : Type 0 where
-  pub target : List Record → ℕ → Shown
-  pub agrees : (input : List Record) → Agrees (means body input) (target input)
-  pub is : (input : List Record) → shown ≡ target input limit
+  pub target : List Line
+  pub agrees : (input : List Record) → Agrees (means body input) (executed target input)
+  pub is : (input : List Record) → shown ≡ executed target input limit
 
 abbrev pub ComesOf : Verdict → ℕ → Outcome → Type 0
 ComesOf (Refuses fault file) limit outcome = outcome ≡ HasFault fault file

@@ -1,6 +1,5 @@
 use Rattle.std.proofs.Common.{refl}
 use Rattle.f66_tree.specs.Views.{lines_of}
-use Rattle.f66_tree.specs.OneUnit.{executed}
 use Rattle.rat_front.specs.Verdict.{Accepts}
 use Rattle.eft_top.specs.Outcome.{Runs}
 use Rattle.eft_top.proofs.answer.run_file.Goals as goal
@@ -20,7 +19,7 @@ returns-in-Ok-run-clause-tells g c =
           (
             ran.0,
             record {
-              target = λ input. executed (lines_of c.in-Ok.compiled.unit.statements.items) input;
+              target = lines_of c.in-Ok.compiled.unit.statements.items;
               agrees = text.gives.2.agrees;
               is = ran.1;
             },
