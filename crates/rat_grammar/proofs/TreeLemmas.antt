@@ -18,7 +18,7 @@ use Rattle.rat_grammar.specs.Values.{Val, command, program}
 use Rattle.rat_grammar.specs.Parts.{as_program}
 use Rattle.rat_grammar.specs.Build.{conditional, marked}
 use Rattle.rat_grammar.specs.Choices.{command_if_any, chosen}
-use Rattle.rat_grammar.specs.Limits.{meter}
+use Rattle.rat_table.specs.Limits.{meter}
 use Rattle.rat_grammar.specs.Ratfor.{grammar}
 
 pub marked_first : (n : ℕ) (p : Place) (s : RatKind) → command_of (Some n) p s ≡ marked n p (command_of None p s)

@@ -9,8 +9,8 @@ use Rattle.f66_tree.specs.Fields.{Fields, NoField, Single, Group, Takes, Blanks,
 use Rattle.f66_tree.specs.Forms.{Text, Formula, Number, Fact, Letter, Variable, Applied, Grouped, Positive, Negative, Negated, Joined, Par, Constant, Named, Header, MainUnit, SubUnit, FuncUnit, DataUnit, Entry, One, Many, Entries, Act, Assigns, Goes, Selects, Invokes, Passes, Stops, Reads, Writes, Formats, Types, Dimensions, Commons, Equivalences, Presets, Nought}
 use Rattle.f66_tree.specs.Views.{chained, listed}
 use Rattle.rat_tree.specs.Commands.{Command, Empty, Together, When, Either, Whilst, Through, Repeats, Until, Counts, Switches, Leaves, Turns, GivesBack, Plainly, Marked, Commands, NoCommand, AndCommand, Clauses, NoClause, AndClause, RatRoutine}
-use Rattle.rat_grammar.specs.declared.table.Production.{Production}
-use Rattle.rat_grammar.specs.declared.table.Production.TheVariants as productions
+use Rattle.rat_table.specs.declared.table.Production.{Production}
+use Rattle.rat_table.specs.declared.table.Production.TheVariants as productions
 use Rattle.rat_grammar.specs.Values.{Val, nothing, tok, formula, located, formulas, joins, names, numbers, par, pars, range, declared, declareds, area, areas, groups, preset, presets, datum, data_values, entry, entries, rest, pending, field, fields, deed, command, commands, clause, clauses, heading, routine, routines, program, Range, LoopRest, last_of, at}
 use Rattle.rat_grammar.specs.Parts.{place_in, name_in, text_in, first_letter, integer_in, number_in, count_in, sign_in, is_true, is_minus, operator_of, is_word, type_in, as_exprs, as_joins, as_names, as_numbers, as_pars, as_declareds, as_areas, as_groups, as_presets, as_data, as_entries, as_fields, as_statements, as_clauses, as_units, with_declared, with_area, with_preset, with_entry, with_field, with_clause, with_routine, with_datum, as_formula, as_par, as_act, as_command, as_header, as_range, formula_if_any, act_if_any, name_if_any, count_or_one, octal_if_any, step_or_one}
 

@@ -14,7 +14,7 @@ use Rattle.f66_tree.specs.declared.declaration.TypeWord.TheVariants as types
 use Rattle.f66_tree.specs.Fields.{Fields, NoField}
 use Rattle.f66_tree.specs.Forms.{Text, Formula, Number, Par, Constant, Header, MainUnit, Entry, Declared, Area, PresetPart, Act, Passes}
 use Rattle.rat_tree.specs.Commands.{Command, Empty, Commands, NoCommand, Clauses, NoClause, RatRoutine, RatProgram}
-use Rattle.rat_grammar.specs.Words.{is_spelled}
+use Rattle.rat_table.specs.Words.{is_spelled}
 use Rattle.rat_grammar.specs.Values.{Val, nothing, tok, formula, located, formulas, joins, names, numbers, par, pars, range, declared, declareds, area, areas, groups, preset, presets, datum, data_values, entry, entries, rest, pending, field, fields, deed, command, commands, clause, clauses, heading, routine, routines, program, Range}
 
 abbrev pub nowhere : Place

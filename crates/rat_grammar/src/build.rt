@@ -5,9 +5,9 @@ ghost use Rattle.rat_grammar.specs.Build.{build as built, integer as integer_see
 
 use crate::expressions::{self, integer, letter, truth};
 use crate::lists::{pop_value, skip};
-use crate::table::Production;
 use crate::value::Value;
 use crate::{control, declarations, formats, plain, transfers, units};
+use rat_table::Production;
 use std::alloc::{AllocError, Global};
 
 /// What a production makes of its parts.

@@ -1,14 +1,14 @@
 // Reads tokens: their places, names, numbers and signs.
 ghost use Rattle.std.specs.Prelude.{◌≡◌, ◌≤◌};
-ghost use Rattle.rat_grammar.specs.Words.{is_spelled as spells};
+ghost use Rattle.rat_table.specs.Words.{is_spelled as spells};
 ghost use Rattle.rat_grammar.specs.Values.{value};
 ghost use Rattle.rat_grammar.specs.Parts.{place_in, kind_name, name_in, kind_text, text_in, first_letter, kind_integer, integer_in, capped, number_in, count_in, octal_value as octal, kind_sign, sign_in, is_true as truth, is_minus as minus, operator_of as operator, kind_word, is_word as word_is, type_in, count_or_one, octal_if_any, name_if_any};
 
 use crate::lists::NOWHERE;
-use crate::terminals::is_spelled;
 use crate::value::Value;
 use f66_tree::{Name, Operator, TypeWord};
 use ground::{Place, Sign, Text, TokenKind};
+use rat_table::is_spelled;
 use std::alloc::Global;
 
 /// The place of a part's first token.

@@ -2,7 +2,7 @@
 
 ghost use Rattle.std.specs.Prelude.{◌≡◌, map};
 ghost use Rattle.std.specs.List.{list_all};
-ghost use Rattle.rat_grammar.specs.Words.{seen, word_terminal, reserved, terminal_in, is_spelled as spells, is_field_word as field_word, is_edit_word as edit_word, is_letter as letter, is_digit as digit, is_octal as octal, has_octal_digits as octal_digits, number_terminal, text_terminal, sign_terminal};
+ghost use Rattle.rat_table.specs.Words.{seen, word_terminal, reserved, terminal_in, is_spelled as spells, is_field_word as field_word, is_edit_word as edit_word, is_letter as letter, is_digit as digit, is_octal as octal, has_octal_digits as octal_digits, number_terminal, text_terminal, sign_terminal};
 
 use crate::table::Terminal;
 use ground::{Sign, Token, TokenKind};

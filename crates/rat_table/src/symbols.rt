@@ -1,7 +1,7 @@
 // The symbols of each production.
 
 ghost use Rattle.std.specs.Prelude.{◌≡◌, slice_get};
-ghost use Rattle.rat_grammar.specs.Table.{symbols, all_symbols, symbol_starts};
+ghost use Rattle.rat_table.specs.Table.{symbols, all_symbols, symbol_starts};
 
 use crate::table::{Nonterminal, Production, Terminal};
 use grammar::{Symbol, row};

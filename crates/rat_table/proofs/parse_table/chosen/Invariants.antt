@@ -2,8 +2,8 @@
 use Rattle.std.proofs.Common.{◌≡◌, drop}
 use denote.Enum.Bare.{sameb}
 use Rattle.grammar.specs.Rows.{found}
-use Rattle.rat_grammar.specs.contracts.table.Terminal.{the_type as terminal_type}
-use Rattle.rat_grammar.proofs.parse_table.chosen.Given as goal
+use Rattle.rat_table.specs.contracts.table.Terminal.{the_type as terminal_type}
+use Rattle.rat_table.proofs.parse_table.chosen.Given as goal
 
 abbrev pub invariant-loop-terminal : goal.invariant-loop-terminal
 invariant-loop-terminal l =

@@ -3,11 +3,11 @@ use Rattle.std.specs.Prelude.{ℕ, zero, suc, ◌-◌, Bool, true, false, ◌&&�
 use Rattle.grammar.specs.declared.language.Event.{Event}
 use Rattle.grammar.specs.declared.language.Event.TheVariants as events
 use Rattle.grammar.specs.Limits.{Meter}
-use Rattle.rat_grammar.specs.declared.counts.Counts.{Counts}
-use Rattle.rat_grammar.specs.declared.table.Terminal.{Terminal}
-use Rattle.rat_grammar.specs.declared.table.Terminal.TheVariants as terminals
-use Rattle.rat_grammar.specs.declared.table.Production.{Production}
-use Rattle.rat_grammar.specs.declared.table.Production.TheVariants as productions
+use Rattle.rat_table.specs.declared.counts.Counts.{Counts}
+use Rattle.rat_table.specs.declared.table.Terminal.{Terminal}
+use Rattle.rat_table.specs.declared.table.Terminal.TheVariants as terminals
+use Rattle.rat_table.specs.declared.table.Production.{Production}
+use Rattle.rat_table.specs.declared.table.Production.TheVariants as productions
 
 abbrev pub first : Counts
 first = record { nesting = 0; units = 0; within = false; tokens = 0; expressions = 0; nodes = 0 }

@@ -3,8 +3,8 @@
 ghost use Rattle.std.specs.Prelude.{◌≡◌};
 ghost use denote.Enum.Bare.{sameb};
 ghost use Rattle.grammar.specs.Rows.{found};
-ghost use Rattle.rat_grammar.specs.contracts.table.Terminal.{the_type as terminal_type};
-ghost use Rattle.rat_grammar.specs.ParseTable.{predict_at, entries, rest, all_entries, entry_starts, all_rests};
+ghost use Rattle.rat_table.specs.contracts.table.Terminal.{the_type as terminal_type};
+ghost use Rattle.rat_table.specs.ParseTable.{predict_at, entries, rest, all_entries, entry_starts, all_rests};
 
 use crate::table::{Nonterminal, Production, Terminal};
 use grammar::row;

@@ -7,8 +7,8 @@ use Rattle.ground.specs.declared.token.TokenKind.{TokenKind}
 use Rattle.ground.specs.declared.token.TokenKind.TheVariants as kinds
 use Rattle.ground.specs.declared.token.Sign.{Sign}
 use Rattle.ground.specs.declared.token.Sign.TheVariants as signs
-use Rattle.rat_grammar.specs.declared.table.Terminal.{Terminal}
-use Rattle.rat_grammar.specs.declared.table.Terminal.TheVariants as terminals
+use Rattle.rat_table.specs.declared.table.Terminal.{Terminal}
+use Rattle.rat_table.specs.declared.table.Terminal.TheVariants as terminals
 
 -- the reserved words in capitals
 abbrev pub reserved : List (List ℕ × Terminal)

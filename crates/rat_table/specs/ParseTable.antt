@@ -2,13 +2,13 @@
 use Rattle.std.specs.Prelude.{ℕ, Option, Some, None, List, [], ◌∷◌, map}
 use denote.Enum.Bare.{sameb}
 use Rattle.grammar.specs.Rows.{found, flat, starts_of}
-use Rattle.rat_grammar.specs.contracts.table.Terminal.{the_type as terminal_type}
-use Rattle.rat_grammar.specs.declared.table.Terminal.{Terminal}
-use Rattle.rat_grammar.specs.declared.table.Terminal.TheVariants as terminals
-use Rattle.rat_grammar.specs.declared.table.Nonterminal.{Nonterminal}
-use Rattle.rat_grammar.specs.declared.table.Nonterminal.TheVariants as nonterminals
-use Rattle.rat_grammar.specs.declared.table.Production.{Production}
-use Rattle.rat_grammar.specs.declared.table.Production.TheVariants as productions
+use Rattle.rat_table.specs.contracts.table.Terminal.{the_type as terminal_type}
+use Rattle.rat_table.specs.declared.table.Terminal.{Terminal}
+use Rattle.rat_table.specs.declared.table.Terminal.TheVariants as terminals
+use Rattle.rat_table.specs.declared.table.Nonterminal.{Nonterminal}
+use Rattle.rat_table.specs.declared.table.Nonterminal.TheVariants as nonterminals
+use Rattle.rat_table.specs.declared.table.Production.{Production}
+use Rattle.rat_table.specs.declared.table.Production.TheVariants as productions
 
 abbrev pub entries : Nonterminal → List (Terminal × Production)
 entries nonterminals.Program = (terminals.Name, productions.Whole) ∷ (terminals.FieldWord, productions.Whole) ∷ (terminals.Octal, productions.Whole) ∷ (terminals.Number, productions.Whole) ∷ (terminals.OpenBrace, productions.Whole) ∷ (terminals.Semicolon, productions.Whole) ∷ (terminals.LineEnd, productions.Whole) ∷ (terminals.TextEnd, productions.Whole) ∷ (terminals.Subroutine, productions.Whole) ∷ (terminals.Function, productions.Whole) ∷ (terminals.Block, productions.Whole) ∷ (terminals.Data, productions.Whole) ∷ (terminals.End, productions.Whole) ∷ (terminals.If, productions.Whole) ∷ (terminals.While, productions.Whole) ∷ (terminals.For, productions.Whole) ∷ (terminals.Repeat, productions.Whole) ∷ (terminals.Do, productions.Whole) ∷ (terminals.Switch, productions.Whole) ∷ (terminals.Leave, productions.Whole) ∷ (terminals.Return, productions.Whole) ∷ (terminals.Go, productions.Whole) ∷ (terminals.Goto, productions.Whole) ∷ (terminals.Call, productions.Whole) ∷ (terminals.Continue, productions.Whole) ∷ (terminals.Stop, productions.Whole) ∷ (terminals.Transfer, productions.Whole) ∷ (terminals.Format, productions.Whole) ∷ (terminals.Type, productions.Whole) ∷ (terminals.Double, productions.Whole) ∷ (terminals.Dimension, productions.Whole) ∷ (terminals.Common, productions.Whole) ∷ (terminals.Equivalence, productions.Whole) ∷ []

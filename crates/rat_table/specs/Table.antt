@@ -3,12 +3,12 @@ use Rattle.std.specs.Prelude.{ℕ, Bool, true, false, List, [], ◌∷◌, map}
 use Rattle.grammar.specs.declared.language.Symbol.{Symbol}
 use Rattle.grammar.specs.declared.language.Symbol.TheVariants.{Terminal, Nonterminal}
 use Rattle.grammar.specs.Rows.{flat, starts_of}
-use Rattle.rat_grammar.specs.declared.table.Terminal.{Terminal as ATerminal}
-use Rattle.rat_grammar.specs.declared.table.Terminal.TheVariants as terminals
-use Rattle.rat_grammar.specs.declared.table.Nonterminal.{Nonterminal as ANonterminal}
-use Rattle.rat_grammar.specs.declared.table.Nonterminal.TheVariants as nonterminals
-use Rattle.rat_grammar.specs.declared.table.Production.{Production as AProduction}
-use Rattle.rat_grammar.specs.declared.table.Production.TheVariants as productions
+use Rattle.rat_table.specs.declared.table.Terminal.{Terminal as ATerminal}
+use Rattle.rat_table.specs.declared.table.Terminal.TheVariants as terminals
+use Rattle.rat_table.specs.declared.table.Nonterminal.{Nonterminal as ANonterminal}
+use Rattle.rat_table.specs.declared.table.Nonterminal.TheVariants as nonterminals
+use Rattle.rat_table.specs.declared.table.Production.{Production as AProduction}
+use Rattle.rat_table.specs.declared.table.Production.TheVariants as productions
 
 abbrev pub symbols : AProduction → List (Symbol ATerminal ANonterminal)
 symbols productions.Whole = Nonterminal nonterminals.Units ∷ Terminal terminals.TextEnd ∷ []

@@ -3,14 +3,14 @@ use Rattle.std.proofs.Common.{◌≡◌, refl, true}
 use Rattle.std.specs.Prelude.{nat_lt, length, slice_get, Some}
 use denote.Enum.Declared.{tag_of}
 use Rattle.grammar.specs.Rows.{has_row, row_of}
-use Rattle.rat_grammar.specs.declared.table.Nonterminal.{Nonterminal}
-use Rattle.rat_grammar.specs.declared.table.Nonterminal.TheVariants as nonterminals
-use Rattle.rat_grammar.specs.declared.table.Production.{Production}
-use Rattle.rat_grammar.specs.declared.table.Production.TheVariants as productions
-use Rattle.rat_grammar.specs.contracts.table.Nonterminal.{the_type as nonterminal_type}
-use Rattle.rat_grammar.specs.contracts.table.Production.{the_type as production_type}
-use Rattle.rat_grammar.specs.Table.{symbols, all_symbols, symbol_starts}
-use Rattle.rat_grammar.specs.ParseTable.{entries, rest, all_entries, entry_starts, all_rests}
+use Rattle.rat_table.specs.declared.table.Nonterminal.{Nonterminal}
+use Rattle.rat_table.specs.declared.table.Nonterminal.TheVariants as nonterminals
+use Rattle.rat_table.specs.declared.table.Production.{Production}
+use Rattle.rat_table.specs.declared.table.Production.TheVariants as productions
+use Rattle.rat_table.specs.contracts.table.Nonterminal.{the_type as nonterminal_type}
+use Rattle.rat_table.specs.contracts.table.Production.{the_type as production_type}
+use Rattle.rat_table.specs.Table.{symbols, all_symbols, symbol_starts}
+use Rattle.rat_table.specs.ParseTable.{entries, rest, all_entries, entry_starts, all_rests}
 
 pub symbols_stand : (p : Production) → has_row all_symbols symbol_starts (tag_of production_type p) ≡ true
 symbols_stand productions.Whole = refl

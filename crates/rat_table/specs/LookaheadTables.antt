@@ -1,12 +1,12 @@
 -- FIRST and FOLLOW of each nonterminal, and the other tables that show the grammar sound.
 use Rattle.std.specs.Prelude.{ℕ, Bool, true, false, List, [], ◌∷◌}
 use Rattle.grammar.specs.Certificate.{Nullable, Never, Before, Always}
-use Rattle.rat_grammar.specs.declared.table.Terminal.{Terminal}
-use Rattle.rat_grammar.specs.declared.table.Terminal.TheVariants as terminals
-use Rattle.rat_grammar.specs.declared.table.Nonterminal.{Nonterminal}
-use Rattle.rat_grammar.specs.declared.table.Nonterminal.TheVariants as nonterminals
-use Rattle.rat_grammar.specs.declared.table.Production.{Production}
-use Rattle.rat_grammar.specs.declared.table.Production.TheVariants as productions
+use Rattle.rat_table.specs.declared.table.Terminal.{Terminal}
+use Rattle.rat_table.specs.declared.table.Terminal.TheVariants as terminals
+use Rattle.rat_table.specs.declared.table.Nonterminal.{Nonterminal}
+use Rattle.rat_table.specs.declared.table.Nonterminal.TheVariants as nonterminals
+use Rattle.rat_table.specs.declared.table.Production.{Production}
+use Rattle.rat_table.specs.declared.table.Production.TheVariants as productions
 
 abbrev pub all_terminals : List Terminal
 all_terminals = terminals.Name ∷ terminals.FieldWord ∷ terminals.Octal ∷ terminals.Number ∷ terminals.Letter ∷ terminals.Chars ∷ terminals.Adding ∷ terminals.Star ∷ terminals.Slash ∷ terminals.Power ∷ terminals.Open ∷ terminals.Close ∷ terminals.Comma ∷ terminals.OpenBrace ∷ terminals.CloseBrace ∷ terminals.Colon ∷ terminals.Relation ∷ terminals.And ∷ terminals.Or ∷ terminals.Not ∷ terminals.Truth ∷ terminals.Assign ∷ terminals.Semicolon ∷ terminals.LineEnd ∷ terminals.TextEnd ∷ terminals.Subroutine ∷ terminals.Function ∷ terminals.Block ∷ terminals.Data ∷ terminals.End ∷ terminals.If ∷ terminals.Else ∷ terminals.While ∷ terminals.For ∷ terminals.Repeat ∷ terminals.Until ∷ terminals.Do ∷ terminals.Switch ∷ terminals.Case ∷ terminals.Default ∷ terminals.Leave ∷ terminals.Return ∷ terminals.Go ∷ terminals.Goto ∷ terminals.To ∷ terminals.Call ∷ terminals.Continue ∷ terminals.Stop ∷ terminals.Transfer ∷ terminals.Format ∷ terminals.Type ∷ terminals.Double ∷ terminals.Precision ∷ terminals.Dimension ∷ terminals.Common ∷ terminals.Equivalence ∷ terminals.Other ∷ []
@@ -341,7 +341,6 @@ closing _ = []
 
 -- the production of that text
 abbrev pub shortest : Nonterminal → Production
-shortest nonterminals.Program = productions.Whole
 shortest nonterminals.Units = productions.NoUnit
 shortest nonterminals.Unit = productions.OneUnit
 shortest nonterminals.UnitText = productions.EmptyMain
@@ -368,6 +367,7 @@ shortest nonterminals.Outcome = productions.NoOutcome
 shortest nonterminals.Lines = productions.NoLine
 shortest nonterminals.Clauses = productions.NoClause
 shortest nonterminals.Clause = productions.DefaultClause
+shortest nonterminals.Plain = productions.ContinuePlain
 shortest nonterminals.Simple = productions.Invocation
 shortest nonterminals.GoWords = productions.GotoWord
 shortest nonterminals.Target = productions.OneTarget
@@ -432,7 +432,7 @@ shortest nonterminals.Subscripts = productions.Subscripts
 shortest nonterminals.ExprMore = productions.NoMoreExpr
 shortest nonterminals.AnyName = productions.PlainName
 shortest nonterminals.AnyNumber = productions.OctalNumber
-shortest _ = productions.ContinuePlain
+shortest _ = productions.Whole
 
 -- how deep that text is
 abbrev pub height : Nonterminal → ℕ

@@ -1,6 +1,6 @@
 // What is counted against the limits.
 ghost use Rattle.std.specs.Prelude.{◌≡◌, suc, IfOk};
-ghost use Rattle.rat_grammar.specs.Limits.{next, first, passed as passed_by, opened, begun, taken, nodes_with, nesting_with, closed, is_node as node};
+ghost use Rattle.rat_table.specs.Limits.{next, first, passed as passed_by, opened, begun, taken, nodes_with, nesting_with, closed, is_node as node};
 
 use crate::table::{Production, Terminal};
 use grammar::Event;
