@@ -7,7 +7,7 @@ use Rattle.rat_table.specs.declared.table.Terminal.{Terminal}
 use Rattle.rat_table.specs.declared.table.Nonterminal.{Nonterminal}
 use Rattle.rat_table.specs.declared.table.Production.{Production}
 use Rattle.rat_table.specs.Ratfor.{grammar_with}
-use Rattle.rat_grammar.specs.Values.{Val, tok, program}
+use Rattle.rat_parts.specs.Values.{Val, tok, program}
 use Rattle.rat_grammar.specs.Build.{build}
 
 abbrev pub grammar : Grammar Token Terminal Nonterminal Production Val

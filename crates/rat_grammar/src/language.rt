@@ -5,18 +5,17 @@ ghost use Rattle.grammar.specs.Grammar.{EndsWith};
 ghost use Rattle.grammar.specs.Answers.{Answers};
 ghost use Rattle.grammar.specs.Stack.{piled};
 ghost use Rattle.rat_tree.specs.Views.{program_of};
-ghost use Rattle.rat_grammar.specs.Values.{value};
-ghost use Rattle.rat_grammar.specs.Parts.{as_program};
+ghost use Rattle.rat_parts.specs.Values.{value};
+ghost use Rattle.rat_parts.specs.Parts.{as_program};
 ghost use Rattle.rat_grammar.specs.Build.{build as built};
 ghost use Rattle.rat_table.specs.Limits.{meter, next};
 ghost use Rattle.rat_table.specs.Ratfor.{certificate};
 ghost use Rattle.rat_grammar.specs.Ratfor.{grammar as ratfor, whole};
 
 use crate::build;
-use crate::lists::NOWHERE;
-use crate::value::Value;
 use grammar::{Event, Language, Symbol};
 use ground::{List, Refusal, Token};
+use rat_parts::{NOWHERE, UnitValue, Value};
 use rat_table::{
     Counts, Nonterminal, Production, Terminal, first_counts, next_counts, passed, predict,
     symbol_at, terminal_at,
@@ -29,7 +28,7 @@ pub struct Ratfor;
 
 impl Language for Ratfor {
     ghost use Rattle.rat_table.specs.RatforSound.{sound as table_sound};
-    ghost use Rattle.rat_grammar.specs.Values.{Val, tok};
+    ghost use Rattle.rat_parts.specs.Values.{Val, tok};
 
     type Terminal = Terminal;
 
@@ -102,7 +101,7 @@ fn into_program(alloc: Global, part: Value) -> RatProgram
     ensures { program_of result ≡ as_program (value part) }
 {
     match part {
-        Value::Program(program) => program,
+        Value::Unit(UnitValue::Program(program)) => program,
         other => {
             drop(other);
             RatProgram {
