@@ -6,9 +6,10 @@ mod value;
 mod words;
 
 pub use lists::{
-    NOWHERE, into_expr, into_expr_if_any, into_exprs, into_joins, into_names, into_numbers,
-    into_par, into_pars, into_range, into_step, more_exprs, more_names, more_numbers, more_pars,
-    ordered_exprs, ordered_names, ordered_numbers, ordered_pars, pop_value, skip,
+    NOWHERE, into_act, into_act_if_any, into_declareds, into_entries, into_expr, into_expr_if_any,
+    into_exprs, into_fields, into_joins, into_names, into_numbers, into_par, into_pars, into_range,
+    into_step, more_exprs, more_names, more_numbers, more_pars, ordered_declareds, ordered_entries,
+    ordered_exprs, ordered_fields, ordered_names, ordered_numbers, ordered_pars, pop_value, skip,
 };
 pub use value::{
     DeclarationValue, ExpressionValue, LoopRest, ParameterValue, Range, StatementValue,

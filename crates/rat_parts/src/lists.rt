@@ -1,12 +1,14 @@
-// Takes values apart: expressions, names, numbers and parameters.
+// Takes values apart: expressions, names, numbers, parameters, and what several layers above read.
 ghost use Rattle.std.specs.Prelude.{◌≡◌, ◌∷◌, [], reverse, map, IfOk};
-ghost use Rattle.f66_tree.specs.Views.{formula_of, par_of};
-ghost use Rattle.rat_tree.specs.Views.{formula_if_any as formula_if};
+ghost use Rattle.f66_tree.specs.Views.{formula_of, par_of, declared_of, entry_of, fields_of, act_of};
+ghost use Rattle.rat_tree.specs.Views.{formula_if_any as formula_if, act_if_any as act_if};
 ghost use Rattle.rat_parts.specs.Values.{value, values, pars, names, numbers, join_of, range_of, last_of, others, formulas};
-ghost use Rattle.rat_parts.specs.Parts.{as_formula, as_par, as_range, step_or_one, formula_if_any, as_exprs, as_joins, as_names, as_numbers, as_pars};
+ghost use Rattle.rat_parts.specs.Parts.{as_formula, as_par, as_range, step_or_one, formula_if_any, as_exprs, as_joins, as_names, as_numbers, as_pars, as_declareds, as_entries, as_fields, as_act, act_if_any};
 
-use crate::value::{ExpressionValue, ParameterValue, Range, Value};
-use f66_tree::{Expr, Name, Operator, Par};
+use crate::value::{
+    DeclarationValue, ExpressionValue, ParameterValue, Range, StatementValue, TransferValue, Value,
+};
+use f66_tree::{Declared, Entry, Expr, Field, Name, Operator, Par, StmtKind};
 use ground::{List, Place};
 use std::alloc::{AllocError, Global};
 
@@ -222,4 +224,91 @@ pub fn more_numbers(alloc: Global, first: u32, rest: Value) -> Result<Value, All
     let mut list = into_numbers(alloc, rest);
     list.push(first)?;
     Ok(Value::Parameter(ParameterValue::Numbers(list)))
+}
+
+pub fn into_entries(alloc: Global, part: Value) -> Vec<Entry>
+    ensures { map entry_of (reverse result.items) ≡ as_entries (value part) }
+{
+    match part {
+        Value::Transfer(TransferValue::Entries(list)) => list,
+        other => {
+            drop(other);
+            Vec::new(alloc)
+        }
+    }
+}
+
+pub fn into_fields(alloc: Global, part: Value) -> Vec<Field>
+    ensures { fields_of (reverse result.items) ≡ as_fields (value part) }
+{
+    match part {
+        Value::Transfer(TransferValue::Fields(list)) => list,
+        other => {
+            drop(other);
+            Vec::new(alloc)
+        }
+    }
+}
+
+/// In order.
+pub fn ordered_entries(alloc: Global, part: Value) -> List<Entry>
+    ensures { map entry_of result.items ≡ as_entries (value part) }
+{
+    let mut list = into_entries(alloc, part);
+    list.reverse();
+    list
+}
+
+/// In order.
+pub fn ordered_fields(alloc: Global, part: Value) -> List<Field>
+    ensures { fields_of result.items ≡ as_fields (value part) }
+{
+    let mut list = into_fields(alloc, part);
+    list.reverse();
+    list
+}
+
+pub fn into_declareds(alloc: Global, part: Value) -> Vec<Declared>
+    ensures { map declared_of (reverse result.items) ≡ as_declareds (value part) }
+{
+    match part {
+        Value::Declaration(DeclarationValue::Declareds(list)) => list,
+        other => {
+            drop(other);
+            Vec::new(alloc)
+        }
+    }
+}
+
+/// In order.
+pub fn ordered_declareds(alloc: Global, part: Value) -> List<Declared>
+    ensures { map declared_of result.items ≡ as_declareds (value part) }
+{
+    let mut list = into_declareds(alloc, part);
+    list.reverse();
+    list
+}
+
+pub fn into_act(part: Value) -> StmtKind
+    ensures { act_of result ≡ as_act (value part) }
+{
+    match part {
+        Value::Statement(StatementValue::Deed(_, kind)) => kind,
+        other => {
+            drop(other);
+            StmtKind::Continue
+        }
+    }
+}
+
+pub fn into_act_if_any(part: Value) -> Option<StmtKind>
+    ensures { act_if result ≡ act_if_any (value part) }
+{
+    match part {
+        Value::Statement(StatementValue::Deed(_, kind)) => Some(kind),
+        other => {
+            drop(other);
+            None
+        }
+    }
 }

@@ -7,9 +7,11 @@ ghost use Rattle.rat_parts.specs.Values.{value, values, at, field, fields};
 ghost use Rattle.rat_parts.specs.Parts.{as_fields, with_field, name_in, text_in, count_in};
 ghost use Rattle.rat_phrases.specs.Phrases.{width as width_of, lettered as lettered_so, worded, counted_field as counted};
 
-use crate::lists::{into_fields, more_fields};
+use crate::lists::more_fields;
 use f66_tree::{Field, Name};
-use rat_parts::{TransferValue, Value, into_name, into_text, pop_value, skip, take_count};
+use rat_parts::{
+    TransferValue, Value, into_fields, into_name, into_text, pop_value, skip, take_count,
+};
 use std::alloc::{AllocError, Global};
 
 /// The value of digits, at most 65,535.

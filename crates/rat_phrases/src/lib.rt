@@ -5,7 +5,3 @@ pub mod expressions;
 pub mod formats;
 mod lists;
 pub mod transfers;
-
-pub use lists::{
-    into_entries, into_fields, more_entries, more_fields, ordered_entries, ordered_fields,
-};

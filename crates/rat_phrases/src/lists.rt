@@ -1,55 +1,10 @@
-// Lists of READ, WRITE and formats, taken apart and made longer.
-ghost use Rattle.std.specs.Prelude.{◌≡◌, [], reverse, map, IfOk};
-ghost use Rattle.f66_tree.specs.Views.{entry_of, fields_of};
+// Lists of READ, WRITE and formats, made longer.
+ghost use Rattle.std.specs.Prelude.{◌≡◌, IfOk};
 ghost use Rattle.rat_parts.specs.Values.{value, entries, fields};
 ghost use Rattle.rat_parts.specs.Parts.{with_entry, with_field, as_entries, as_fields};
 
-use f66_tree::{Entry, Field};
-use ground::List;
-use rat_parts::{TransferValue, Value};
+use rat_parts::{TransferValue, Value, into_entries, into_fields};
 use std::alloc::{AllocError, Global};
-
-pub fn into_entries(alloc: Global, part: Value) -> Vec<Entry>
-    ensures { map entry_of (reverse result.items) ≡ as_entries (value part) }
-{
-    match part {
-        Value::Transfer(TransferValue::Entries(list)) => list,
-        other => {
-            drop(other);
-            Vec::new(alloc)
-        }
-    }
-}
-
-pub fn into_fields(alloc: Global, part: Value) -> Vec<Field>
-    ensures { fields_of (reverse result.items) ≡ as_fields (value part) }
-{
-    match part {
-        Value::Transfer(TransferValue::Fields(list)) => list,
-        other => {
-            drop(other);
-            Vec::new(alloc)
-        }
-    }
-}
-
-/// In order.
-pub fn ordered_entries(alloc: Global, part: Value) -> List<Entry>
-    ensures { map entry_of result.items ≡ as_entries (value part) }
-{
-    let mut list = into_entries(alloc, part);
-    list.reverse();
-    list
-}
-
-/// In order.
-pub fn ordered_fields(alloc: Global, part: Value) -> List<Field>
-    ensures { fields_of result.items ≡ as_fields (value part) }
-{
-    let mut list = into_fields(alloc, part);
-    list.reverse();
-    list
-}
 
 /// A list with one more in front.
 pub fn more_entries(alloc: Global, first: Value, rest: Value) -> Result<Value, AllocError>

@@ -6,12 +6,12 @@ ghost use Rattle.rat_parts.specs.Values.{value, values, at, entry, entries, rest
 ghost use Rattle.rat_parts.specs.Parts.{as_formula, as_exprs, as_entries, with_entry, name_in};
 ghost use Rattle.rat_phrases.specs.Phrases.{applied_if, looped, lengthened, pended, begun};
 
-use crate::lists::{into_entries, more_entries, ordered_entries};
+use crate::lists::more_entries;
 use f66_tree::{Entry, Expr, Name};
 use ground::List;
 use rat_parts::{
-    LoopRest, ParameterValue, Range, TransferValue, Value, into_expr, into_name, ordered_exprs,
-    pop_value, skip,
+    LoopRest, ParameterValue, Range, TransferValue, Value, into_entries, into_expr, into_name,
+    ordered_entries, ordered_exprs, pop_value, skip,
 };
 use std::alloc::{AllocError, Global};
 

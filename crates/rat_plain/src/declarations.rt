@@ -7,13 +7,13 @@ ghost use Rattle.rat_plain.specs.Plain.{counted};
 
 use crate::lists::{
     more_areas, more_data, more_declareds, more_groups, more_presets, ordered_data,
-    ordered_declareds,
 };
 use f66_tree::{Area, Declared, Expr, Par, PresetPart};
 use rat_parts::{
     DeclarationValue, ExpressionValue, ParameterValue, Range, Value, integer_of, into_expr,
     into_name, into_name_if_any, into_par, into_step, more_exprs, more_names, more_numbers,
-    more_pars, number_of, ordered_exprs, ordered_pars, pop_value, skip, take_integer, take_number,
+    more_pars, number_of, ordered_declareds, ordered_exprs, ordered_pars, pop_value, skip,
+    take_integer, take_number,
 };
 use std::alloc::{AllocError, Global};
 

@@ -1,26 +1,13 @@
-// Lists of declarations, taken apart and made longer, and statements of FORTRAN.
+// Lists of declarations, taken apart and made longer.
 ghost use Rattle.std.specs.Prelude.{◌≡◌, ◌∷◌, [], reverse, map, IfOk};
-ghost use Rattle.f66_tree.specs.Views.{formula_of, declared_of, area_of, preset_of, initial_of, act_of};
-ghost use Rattle.rat_tree.specs.Views.{act_if_any as act_if};
+ghost use Rattle.f66_tree.specs.Views.{formula_of, area_of, preset_of, initial_of};
 ghost use Rattle.rat_parts.specs.Values.{value, groups, declareds, areas, presets, data_values};
-ghost use Rattle.rat_parts.specs.Parts.{as_act, act_if_any, with_declared, with_area, with_preset, with_datum, as_exprs, as_declareds, as_areas, as_groups, as_presets, as_data};
+ghost use Rattle.rat_parts.specs.Parts.{with_declared, with_area, with_preset, with_datum, as_exprs, as_declareds, as_areas, as_groups, as_presets, as_data};
 
-use f66_tree::{Area, Declared, Expr, PresetPart, StmtKind};
+use f66_tree::{Area, Expr, PresetPart};
 use ground::List;
-use rat_parts::{DeclarationValue, StatementValue, Value, ordered_exprs};
+use rat_parts::{DeclarationValue, Value, into_declareds, ordered_exprs};
 use std::alloc::{AllocError, Global};
-
-pub fn into_declareds(alloc: Global, part: Value) -> Vec<Declared>
-    ensures { map declared_of (reverse result.items) ≡ as_declareds (value part) }
-{
-    match part {
-        Value::Declaration(DeclarationValue::Declareds(list)) => list,
-        other => {
-            drop(other);
-            Vec::new(alloc)
-        }
-    }
-}
 
 pub fn into_areas(alloc: Global, part: Value) -> Vec<Area>
     ensures { map area_of (reverse result.items) ≡ as_areas (value part) }
@@ -68,15 +55,6 @@ pub fn into_data(alloc: Global, part: Value) -> Vec<(u32, Expr)>
             Vec::new(alloc)
         }
     }
-}
-
-/// In order.
-pub fn ordered_declareds(alloc: Global, part: Value) -> List<Declared>
-    ensures { map declared_of result.items ≡ as_declareds (value part) }
-{
-    let mut list = into_declareds(alloc, part);
-    list.reverse();
-    list
 }
 
 /// In order.
@@ -179,30 +157,6 @@ pub fn more_data(alloc: Global, first: Value, rest: Value) -> Result<Value, Allo
         other => {
             drop(other);
             Ok(Value::Declaration(DeclarationValue::Data(list)))
-        }
-    }
-}
-
-pub fn into_act(part: Value) -> StmtKind
-    ensures { act_of result ≡ as_act (value part) }
-{
-    match part {
-        Value::Statement(StatementValue::Deed(_, kind)) => kind,
-        other => {
-            drop(other);
-            StmtKind::Continue
-        }
-    }
-}
-
-pub fn into_act_if_any(part: Value) -> Option<StmtKind>
-    ensures { act_if result ≡ act_if_any (value part) }
-{
-    match part {
-        Value::Statement(StatementValue::Deed(_, kind)) => Some(kind),
-        other => {
-            drop(other);
-            None
         }
     }
 }

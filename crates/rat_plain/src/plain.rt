@@ -7,16 +7,15 @@ ghost use Rattle.rat_parts.specs.Parts.{place_in, name_in, number_in, octal_if_a
 ghost use Rattle.rat_plain.specs.Plain.{transfer as transferred};
 
 use crate::lists::{
-    into_act, more_areas, more_groups, more_presets, ordered_areas, ordered_declareds,
-    ordered_groups, ordered_presets,
+    more_areas, more_groups, more_presets, ordered_areas, ordered_groups, ordered_presets,
 };
 use f66_tree::{Entry, Par, StmtKind};
 use ground::{List, Place};
 use rat_parts::{
-    StatementValue, Value, into_expr, into_name, into_par, is_word, more_numbers, ordered_exprs,
-    ordered_numbers, place_of, pop_value, skip, take_number, take_octal, take_place,
+    StatementValue, Value, into_act, into_expr, into_name, into_par, is_word, more_numbers,
+    ordered_declareds, ordered_entries, ordered_exprs, ordered_fields, ordered_numbers, place_of,
+    pop_value, skip, take_number, take_octal, take_place,
 };
-use rat_phrases::{ordered_entries, ordered_fields};
 use std::alloc::{AllocError, Global};
 
 fn deed(place: Place, kind: StmtKind) -> Value

@@ -15,11 +15,10 @@ use crate::lists::{
 use f66_tree::{Expr, Name, StmtKind};
 use ground::{List, Place};
 use rat_parts::{
-    ExpressionValue, Range, StatementValue, Value, into_expr, into_expr_if_any, into_name,
-    into_range, is_word, more_exprs, ordered_exprs, place_of, pop_value, skip, take_count_or_one,
-    take_number, take_place, type_of,
+    ExpressionValue, Range, StatementValue, Value, into_act, into_act_if_any, into_expr,
+    into_expr_if_any, into_name, into_range, is_word, more_exprs, ordered_declareds, ordered_exprs,
+    place_of, pop_value, skip, take_count_or_one, take_number, take_place, type_of,
 };
-use rat_plain::{into_act, into_act_if_any, ordered_declareds};
 use rat_tree::{RatCase, RatKind, RatStmt};
 use std::alloc::{AllocError, Global};
 
