@@ -7,8 +7,9 @@ GRAMMAR is a text: a line `terminals: A B C`, a line `end: TextEnd`, and a line 
 `Nonterminal.Production = Symbol Symbol ..`; the first production is the start. A production that may stand before some
 terminals alone has `only A B` behind its symbols, and one that may not stand before some `except A B`. `#` begins a comment.
 It writes below FOLDER src/table.rt, symbols.rt and parse_table.rt, specs/Table.antt, ParseTable.antt, LookaheadTables.antt and
-NAMESound.antt, and proofs/TableLemmas.antt and parse_table/, over a file specs/NAME.antt that defines `grammar` and `certificate` of these
-tables, and says where the productions need more than one token of lookahead. `rt fmt` and `rt tidy` lay the files out.
+NAMESound.antt, and proofs/TableLemmas.antt and parse_table/, over a file specs/NAME.antt that defines `certificate` of these tables and
+`grammar_with`, their grammar with the values of a token and of each production, and says where the productions need more than one token
+of lookahead. `rt fmt` and `rt tidy` lay the files out.
 """
 import os
 import sys
@@ -229,7 +230,7 @@ def entries(grammar, nonterminal):
 def clauses(name, rows, rest=None):
     """Clauses of a function; the most frequent value is that of the last clause."""
     values = [value for _, value in rows]
-    common = rest if rest is not None else max(set(values), key=values.count)
+    common = rest if rest is not None else max(dict.fromkeys(values), key=values.count)
     out = [f'{name} {key} = {value}' for key, value in rows if value != common]
     return out + ([f'{name} _ = {common}'] if len(out) < len(rows) or rest is not None else [])
 
@@ -509,12 +510,12 @@ def write_certificate(grammar, crate):
 LAWS = (
     ('terminals', 'Terminal', 'member certificate k all_terminals'),
     ('first', 'Production', 'subset certificate (first_symbols certificate (symbols p)) (first (nonterminal_of p))'),
-    ('nullable', 'Production', 'covers grammar certificate p (nullable_symbols certificate (symbols p)) (nullable (nonterminal_of p))'),
+    ('nullable', 'Production', 'covers (grammar_with value build) certificate p (nullable_symbols certificate (symbols p)) (nullable (nonterminal_of p))'),
     ('predicts_first', 'Production', 'predicts certificate (nonterminal_of p) p (first_symbols certificate (symbols p))'),
-    ('predicts_empty', 'Production', 'predicts_allowed grammar certificate (nonterminal_of p) p '
+    ('predicts_empty', 'Production', 'predicts_allowed (grammar_with value build) certificate (nonterminal_of p) p '
         '(through certificate (nullable_symbols certificate (symbols p)) (follow (nonterminal_of p)))'),
     ('follow', 'Production', 'follows certificate (nonterminal_of p) (symbols p)'),
-    ('offers', 'Nonterminal', 'all_offered grammar certificate n all_terminals'),
+    ('offers', 'Nonterminal', 'all_offered (grammar_with value build) certificate n all_terminals'),
     ('cost', 'Production', 'nat_lt (suc (opening_cost certificate (symbols p))) (cost (nonterminal_of p))'),
     ('closing', 'Nonterminal', 'same_list certificate (closing n) (closings certificate (symbols (shortest n)))'),
     ('height', 'Nonterminal', 'is_below certificate (height n) (symbols (shortest n))'),
@@ -527,26 +528,36 @@ LAWS = (
 def write_laws(grammar, crate, language):
     firsts = {'Terminal': ('k', grammar.terminals[0]), 'Nonterminal': ('n', grammar.nonterminals[0]), 'Production': ('p', grammar.productions[0])}
     out = [
-        '-- The tables are sound: each test computes to true, for each terminal, nonterminal and production.',
+        '-- The tables are sound whatever a grammar makes of a text: each test computes to true, for each terminal, nonterminal and production.',
         'use Rattle.std.specs.Prelude.{◌≡◌, Bool, true, false, suc, nat_lt, List, refl}',
+        'use Rattle.ground.specs.declared.token.Token.{Token}',
     ] + uses(crate, *TYPES) + [
         'use Rattle.grammar.specs.Lookahead.{implies}',
         'use Rattle.grammar.specs.Certificate.{IsSound, member, subset, nullable_symbols, through, first_symbols, predicts, predicts_allowed, follows, '
         'opening_cost, same_list, closings, is_below, begins_by, can_close, all_inner, covers, all_offered}',
         'use denote.Enum.Bare.{same_true, true_same}',
     ] + [use_type(crate, name) for name in TYPES] + [
-        f'use Rattle.{crate}.specs.{language}.{{grammar, certificate}}',
+        f'use Rattle.{crate}.specs.{language}.{{grammar_with, certificate}}',
         f'use Rattle.{crate}.specs.Table.{{symbols, nonterminal_of}}',
         f'use Rattle.{crate}.specs.LookaheadTables.{{all_terminals, first, follow, nullable, cost, closing, shortest, height, before, inner}}',
     ]
-    for name, kind, test in LAWS:
-        letter, first = firsts[kind]
-        out += by_cases(f'{name}_law', kind, letter, f'{test} ≡ true', first)
-    out += by_cases('example_law', 'Terminal', 'k', 'grammar.terminal_of (certificate.example k) ≡ k', grammar.terminals[0])
-    out += ['', 'pub sound : IsSound grammar certificate', 'sound = record {']
-    out += [f'    same_{x} = record {{ is = same_true {x}_type tt; own = λ a. true_same {x}_type a a refl }};' for x in map(str.lower, TYPES)]
-    out += [f'    {name} = {name}_law;' for name in [law[0] for law in LAWS] + ['example']]
-    return out + ['    start_fits = refl;', '    ends = refl;', '}']
+    laws = [(f'{name}_law', kind, f'{test} ≡ true') for name, kind, test in LAWS]
+    laws.append(('example_law', 'Terminal', '(grammar_with value build).terminal_of (certificate.example k) ≡ k'))
+    for name, kind, statement in laws:
+        if 'grammar_with' not in statement:
+            letter, first = firsts[kind]
+            out += by_cases(name, kind, letter, statement, first)
+    out += ['', 'module _ {V : Type 0} (value : Token → V) (build : Production → List V → V) where']
+    inner = []
+    for name, kind, statement in laws:
+        if 'grammar_with' in statement:
+            letter, first = firsts[kind]
+            inner += by_cases(name, kind, letter, statement, first)
+    inner += ['', 'pub sound : IsSound (grammar_with value build) certificate', 'sound = record {']
+    inner += [f'    same_{x} = record {{ is = same_true {x}_type tt; own = λ a. true_same {x}_type a a refl }};' for x in map(str.lower, TYPES)]
+    inner += [f'    {name.removesuffix("_law")} = {name};' for name, _, _ in laws]
+    inner += ['    start_fits = refl;', '    ends = refl;', '}']
+    return out + [f'  {line}' if line else line for line in inner[1:]]
 
 
 def main():

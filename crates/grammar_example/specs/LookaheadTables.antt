@@ -13,11 +13,11 @@ all_terminals = terminals.Name ∷ terminals.Then ∷ terminals.Else ∷ termina
 
 -- what may begin it
 abbrev pub first : Nonterminal → List Terminal
-first nonterminals.Outline = terminals.Name ∷ terminals.Then ∷ terminals.OpenBrace ∷ terminals.LineEnd ∷ terminals.TextEnd ∷ []
 first nonterminals.Items = terminals.Name ∷ terminals.Then ∷ terminals.OpenBrace ∷ terminals.LineEnd ∷ []
 first nonterminals.Item = terminals.Name ∷ terminals.Then ∷ terminals.OpenBrace ∷ []
+first nonterminals.ElsePart = terminals.Else ∷ []
 first nonterminals.Stop = terminals.Semicolon ∷ terminals.LineEnd ∷ []
-first _ = terminals.Else ∷ []
+first _ = terminals.Name ∷ terminals.Then ∷ terminals.OpenBrace ∷ terminals.LineEnd ∷ terminals.TextEnd ∷ []
 
 -- what may follow it
 abbrev pub follow : Nonterminal → List Terminal
@@ -40,19 +40,19 @@ cost _ = 3
 
 -- a short text of it
 abbrev pub closing : Nonterminal → List Terminal
-closing nonterminals.Outline = terminals.TextEnd ∷ []
 closing nonterminals.Items = []
 closing nonterminals.Item = terminals.OpenBrace ∷ terminals.CloseBrace ∷ []
+closing nonterminals.ElsePart = terminals.Else ∷ terminals.OpenBrace ∷ terminals.CloseBrace ∷ []
 closing nonterminals.Stop = terminals.LineEnd ∷ []
-closing _ = terminals.Else ∷ terminals.OpenBrace ∷ terminals.CloseBrace ∷ []
+closing _ = terminals.TextEnd ∷ []
 
 -- the production of that text
 abbrev pub shortest : Nonterminal → Production
-shortest nonterminals.Outline = productions.Whole
 shortest nonterminals.Items = productions.Done
 shortest nonterminals.Item = productions.Braces
+shortest nonterminals.ElsePart = productions.Otherwise
 shortest nonterminals.Stop = productions.StopLine
-shortest _ = productions.Otherwise
+shortest _ = productions.Whole
 
 -- how deep that text is
 abbrev pub height : Nonterminal → ℕ

@@ -53,16 +53,23 @@ abbrev pub written : Production → List (List ℕ) → List ℕ
 written productions.Choice vs = (40 ∷ joined vs) ++ 41 ∷ []
 written _ vs = joined vs
 
-abbrev pub grammar : Grammar Token Terminal Nonterminal Production (List ℕ)
-grammar = record {
+-- the grammar, whatever it makes of a token and of a production
+abbrev pub grammar_with : {V : Type 0} → (Token → V) → (Production → List V → V) → Grammar Token Terminal Nonterminal Production V
+grammar_with value build = record {
   terminal_of = seen;
   symbols = symbols;
   nonterminal_of = nonterminal_of;
   allows = allows;
   start = productions.Whole;
-  value = λ t. kind_text t.kind;
-  build = written;
+  value = value;
+  build = build;
 }
+
+abbrev pub token_text : Token → List ℕ
+token_text t = kind_text t.kind
+
+abbrev pub grammar : Grammar Token Terminal Nonterminal Production (List ℕ)
+grammar = grammar_with token_text written
 
 -- Braces and choices nest at most three deep, and there are at most five names.
 abbrev pub next : Event Terminal Production → Counts → Counts

@@ -3,7 +3,7 @@
 ghost use Rattle.std.specs.Prelude.{◌≡◌, ◌++◌, [], suc, IfOk, OnOk};
 ghost use Rattle.grammar.specs.Grammar.{EndsWith};
 ghost use Rattle.grammar.specs.Answers.{Answers};
-ghost use Rattle.grammar_example.specs.Outline.{grammar as outlines, text_of, meter, certificate, seen, joined, written};
+ghost use Rattle.grammar_example.specs.Outline.{grammar as outlines, text_of, token_text, meter, certificate, seen, joined, written};
 ghost use Rattle.grammar.specs.Stack.{piled};
 
 use crate::parse_table::predict;
@@ -90,7 +90,7 @@ impl Language for Outline {
 
     ghost certificate = { certificate };
 
-    ghost sound = { sound };
+    ghost sound = { sound token_text written };
 
     fn start() -> Production {
         Production::Whole

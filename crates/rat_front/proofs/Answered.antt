@@ -10,8 +10,9 @@ use Rattle.rat_tree.specs.declared.program.RatProgram as memory
 use Rattle.rat_tree.specs.declared.program.RatUnit.{RatUnit}
 use Rattle.rat_tree.specs.Views.{commands, routine_of, program_of}
 use Rattle.grammar.specs.Grammar.{EndsWith}
-use Rattle.rat_grammar.specs.Words.{kind_terminal}
-use Rattle.rat_grammar.specs.Ratfor.{grammar, certificate}
+use Rattle.rat_table.specs.Words.{kind_terminal}
+use Rattle.rat_table.specs.Ratfor.{certificate}
+use Rattle.rat_grammar.specs.Ratfor.{grammar}
 use Rattle.rat_check.specs.FirstFault.{or_else}
 use Rattle.rat_lower.specs.Lowered.{lower_fault}
 use Rattle.rat_front.specs.Verdict.{Checked, Main, unless, checked, IsParsed, in_files, IsVerdictOf, Becomes}

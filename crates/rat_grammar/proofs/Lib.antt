@@ -1,3 +1,1 @@
-pub mod FieldLemmas
-pub mod TreeLemmas
-pub mod TableLemmas
+pub mod WholeLemmas

@@ -1,133 +1,16 @@
 -- What each production makes of its parts.
-use Rattle.std.specs.Prelude.{ℕ, ◌+◌, ◌-◌, ◌*◌, ◌==◌, nat_le, Bool, true, false, pos, Option, None, Some, List, [], ◌∷◌, codes, if◌then◌else◌}
-use Rattle.ground.specs.declared.place.Place.{Place}
-use Rattle.ground.specs.declared.token.Sign.{Sign}
-use Rattle.f66_tree.specs.declared.editing.EditKind.TheVariants as edits
-use Rattle.f66_tree.specs.declared.declaration.TypeWord.{TypeWord}
-use Rattle.f66_tree.specs.declared.expression.Operator.{Operator}
-use Rattle.f66_tree.specs.Fields.{Fields, NoField, Single, Group, Takes, Blanks, Chars, Slash}
-use Rattle.f66_tree.specs.Forms.{Text, Formula, Number, Fact, Letter, Variable, Applied, Grouped, Positive, Negative, Negated, Joined, Par, Constant, Named, Header, MainUnit, SubUnit, FuncUnit, DataUnit, Entry, One, Many, Entries, Act, Assigns, Goes, Selects, Invokes, Passes, Stops, Reads, Writes, Formats, Types, Dimensions, Commons, Equivalences, Presets, Nought}
+use Rattle.std.specs.Prelude.{◌-◌, true, false, None, Some, List, [], ◌∷◌}
+use Rattle.f66_tree.specs.Fields.{NoField, Single, Group, Chars, Slash}
+use Rattle.f66_tree.specs.Forms.{Number, Grouped, Negated, Constant, Named, SubUnit, FuncUnit, DataUnit, One, Assigns, Goes, Selects, Invokes, Passes, Stops, Formats, Dimensions, Commons, Equivalences, Presets, Nought}
 use Rattle.f66_tree.specs.Views.{chained, listed}
-use Rattle.rat_tree.specs.Commands.{Command, Empty, Together, When, Either, Whilst, Through, Repeats, Until, Counts, Switches, Leaves, Turns, GivesBack, Plainly, Marked, Commands, NoCommand, AndCommand, Clauses, NoClause, AndClause, RatRoutine}
-use Rattle.rat_grammar.specs.declared.table.Production.{Production}
-use Rattle.rat_grammar.specs.declared.table.Production.TheVariants as productions
-use Rattle.rat_grammar.specs.Values.{Val, nothing, tok, formula, located, formulas, joins, names, numbers, par, pars, range, declared, declareds, area, areas, groups, preset, presets, datum, data_values, entry, entries, rest, pending, field, fields, deed, command, commands, clause, clauses, heading, routine, routines, program, Range, LoopRest, last_of, at}
-use Rattle.rat_grammar.specs.Parts.{place_in, name_in, text_in, first_letter, integer_in, number_in, count_in, sign_in, is_true, is_minus, operator_of, is_word, type_in, as_exprs, as_joins, as_names, as_numbers, as_pars, as_declareds, as_areas, as_groups, as_presets, as_data, as_entries, as_fields, as_statements, as_clauses, as_units, with_declared, with_area, with_preset, with_entry, with_field, with_clause, with_routine, with_datum, as_formula, as_par, as_act, as_command, as_header, as_range, formula_if_any, act_if_any, name_if_any, count_or_one, octal_if_any, step_or_one}
-
--- operators group to the left
-abbrev pub joined : Formula → List (Operator × Formula) → Formula
-joined f [] = f
-joined f (j ∷ js) = joined (Joined j.0 f j.1) js
-
-abbrev pub signed : Val → Formula → Formula
-signed v f = if is_minus (sign_in v) then Negative f else Positive f
-
--- a name alone, or with arguments
-abbrev pub applied : Text → Val → Formula
-applied x (formulas fs) = Applied x (chained fs)
-applied x _ = Variable x
-
-abbrev pub integer : Val → Val
-integer v = formula (Number (integer_in v))
-
-abbrev pub truth : Val → Val
-truth v = formula (Fact (is_true (sign_in v)))
-
-abbrev pub letter : Val → Val
-letter v = formula (Letter (first_letter (text_in v)))
-
--- a constant of DATA, with its count
-abbrev pub counted : Val → Val → Val
-counted n (formula f) = datum (number_in n) f
-counted n _ = datum 1 (Number (integer_in n))
-
--- entries of an implied DO
-abbrev pub looped : Val → Val → Val
-looped v (rest r) = entry (Many (listed (with_entry v r.list)) r.variable r.range.first r.range.last r.range.step)
-looped v _ = nothing
-
-abbrev pub lengthened : Val → Val → Val
-lengthened v (rest r) = rest (record { list = with_entry v r.list; variable = r.variable; range = r.range })
-lengthened v _ = nothing
-
-abbrev pub pended : Option (List Formula) → Val → Val
-pended args (rest r) = pending args r
-pended args _ = nothing
-
-abbrev pub applied_if : Text → Option (List Formula) → Formula
-applied_if x None = Variable x
-applied_if x (Some fs) = Applied x (chained fs)
-
-abbrev pub begun : Text → Val → Val
-begun x (range r) = rest (record { list = []; variable = x; range = r })
-begun x (pending args r) = rest (record { list = One (applied_if x args) ∷ r.list; variable = r.variable; range = r.range })
-begun x _ = nothing
-
--- a width is kept as 65,535 where it is above
-abbrev pub decimal : ℕ → List ℕ → ℕ
-decimal n [] = n
-decimal n (d ∷ ds) = decimal (n * 10 + (d - 48)) ds
-
-abbrev pub width : List ℕ → ℕ
-width ds = if nat_le (decimal 0 ds) 65535 then decimal 0 ds else 65535
-
-abbrev pub lettered : ℕ → ℕ → ℕ → (Fields → Fields)
-lettered c n w =
-    if c == 73 then Single n (Takes edits.Whole w)
-    else (if c == 76 then Single n (Takes edits.Truth w) else (if c == 88 then Single 1 (Blanks n) else Single n (Takes edits.Letter 1)))
-
--- the field of a format that a word is, with its count
-abbrev pub worded : ℕ → Text → (Fields → Fields)
-worded n [] = Single n (Takes edits.Letter 1)
-worded n (c ∷ ds) = lettered c n (width ds)
-
-abbrev pub counted_field : ℕ → Val → (Fields → Fields)
-counted_field n (fields fs) = Group n fs
-counted_field n v = worded n (name_in v)
-
--- statements
-abbrev pub conditional : Place → Formula → Command → Val → Command
-conditional p f c (command q d) = Either p f c d
-conditional p f c _ = When p f c
-
-abbrev pub repetition : Place → Command → Val → Command
-repetition p c (located q f) = Until p c f q
-repetition p c _ = Repeats p c
-
--- a statement has one label at most
-abbrev pub marked : ℕ → Place → Command → Command
-marked n p (Plainly None q a) = Plainly (Some n) q a
-marked n p (Plainly (Some m) q a) = Plainly (Some m) q a
-marked n p (Marked m q c) = Marked m q c
-marked n p c = Marked n p c
-
-abbrev pub with_label : ℕ → Val → Val
-with_label n (command p c) = command p (marked n p c)
-with_label n v = v
-
-abbrev pub left : Val → Place → ℕ → Command
-left v p n = if is_word (codes "NEXT") v then Turns p n else Leaves p n
-
-abbrev pub transfer : Val → Par → ℕ → Entries → Act
-transfer v u n es = if is_word (codes "READ") v then Reads u n es else Writes u n es
-
-abbrev pub declares : Val → Val → Command
-declares w v = Plainly None (place_in w) (Types (type_in w) (as_declareds v))
-
-abbrev pub typed : TypeWord → Header → Header
-typed t (FuncUnit o x xs) = FuncUnit (Some t) x xs
-typed t h = h
-
--- a unit that begins with a type: a function, or a main
-abbrev pub typed_unit : Val → Val → Commands → RatRoutine
-typed_unit w (heading p h) body = record { header = typed (type_in w) h; body = body; place = place_in w }
-typed_unit w v body = record { header = MainUnit; body = AndCommand (declares w v) body; place = place_in w }
-
-abbrev pub main : Place → Commands → RatRoutine
-main p body = record { header = MainUnit; body = body; place = p }
-
-abbrev pub placed : Place → (Place → Command) → Val
-placed p c = command p (c p)
+use Rattle.rat_tree.specs.Commands.{Empty, Together, Whilst, Through, Counts, Switches, GivesBack, Plainly, NoCommand, AndCommand, NoClause, AndClause}
+use Rattle.rat_table.specs.declared.table.Production.{Production}
+use Rattle.rat_table.specs.declared.table.Production.TheVariants as productions
+use Rattle.rat_parts.specs.Values.{Val, formula, located, formulas, joins, names, numbers, par, pars, range, declared, declareds, area, areas, groups, preset, presets, datum, data_values, entry, entries, field, fields, deed, command, commands, clause, clauses, heading, routine, routines, program, last_of, at}
+use Rattle.rat_parts.specs.Parts.{place_in, name_in, text_in, integer_in, number_in, count_in, sign_in, operator_of, as_exprs, as_joins, as_names, as_numbers, as_pars, as_declareds, as_areas, as_groups, as_presets, as_data, as_entries, as_fields, as_statements, as_clauses, as_units, with_declared, with_area, with_preset, with_entry, with_field, with_clause, with_routine, with_datum, as_formula, as_par, as_act, as_command, as_header, as_range, formula_if_any, act_if_any, name_if_any, count_or_one, octal_if_any, step_or_one}
+use Rattle.rat_phrases.specs.Phrases.{joined, signed, applied, integer, truth, letter, looped, lengthened, pended, begun, worded, counted_field}
+use Rattle.rat_plain.specs.Plain.{counted, transfer}
+use Rattle.rat_statements.specs.Statements.{conditional, repetition, with_label, left, declares, typed_unit, main, placed}
 
 -- Parts are counted from the last one, from 0. A production that is not listed gives what its last part does.
 abbrev pub build : Production → List Val → Val

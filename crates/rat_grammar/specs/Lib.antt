@@ -1,11 +1,2 @@
-pub mod Table
-pub mod ParseTable
-pub mod LookaheadTables
-pub mod Words
-pub mod Values
-pub mod Parts
 pub mod Build
-pub mod Choices
-pub mod Limits
 pub mod Ratfor
-pub mod RatforSound

@@ -1,13 +1,18 @@
 // What each production makes of its parts.
 ghost use Rattle.std.specs.Prelude.{◌≡◌, IfOk};
-ghost use Rattle.rat_grammar.specs.Values.{value, values, last_of, at};
-ghost use Rattle.rat_grammar.specs.Build.{build as built, integer as integer_seen, truth as truth_seen, letter as letter_seen};
+ghost use Rattle.rat_parts.specs.Values.{value, values, last_of, at};
+ghost use Rattle.rat_grammar.specs.Build.{build as built};
+ghost use Rattle.rat_phrases.specs.Phrases.{integer as integer_seen, truth as truth_seen, letter as letter_seen};
 
-use crate::expressions::{self, integer, letter, truth};
-use crate::lists::{pop_value, skip};
-use crate::table::Production;
-use crate::value::Value;
-use crate::{control, declarations, formats, plain, transfers, units};
+use rat_parts::{
+    DeclarationValue, ExpressionValue, ParameterValue, StatementValue, TransferValue, UnitValue,
+    Value, pop_value, skip,
+};
+use rat_phrases::expressions::{integer, letter, truth};
+use rat_phrases::{expressions, formats, transfers};
+use rat_plain::{declarations, plain};
+use rat_statements::{control, units};
+use rat_table::Production;
 use std::alloc::{AllocError, Global};
 
 /// What a production makes of its parts.
@@ -17,7 +22,7 @@ pub fn build(alloc: Global, production: Production, parts: Vec<Value>) -> Result
     match production {
         Production::Whole => Ok(units::program_by(alloc, parts)),
         Production::MoreUnits => units::more_units_by(alloc, parts),
-        Production::NoUnit => Ok(Value::Units(Vec::new(alloc))),
+        Production::NoUnit => Ok(Value::Unit(UnitValue::Units(Vec::new(alloc)))),
         Production::HeadedUnit => Ok(units::headed_by(alloc, parts)),
         Production::TypedUnit => units::typed_unit_by(alloc, parts),
         Production::MarkedMain => units::marked_main_by(alloc, parts),
@@ -33,13 +38,17 @@ pub fn build(alloc: Global, production: Production, parts: Vec<Value>) -> Result
         | Production::GoToWords
         | Production::LoopRange
         | Production::CountedGroup => Ok(second_part(parts)),
-        Production::NoFormals | Production::NoMoreFormal => Ok(Value::Names(Vec::new(alloc))),
+        Production::NoFormals | Production::NoMoreFormal => Ok(Value::Parameter(
+            ParameterValue::Names(Vec::new(alloc)),
+        )),
         Production::FormalList => declarations::listed_names_by(alloc, parts),
         Production::MoreFormal => declarations::more_names_by(alloc, parts),
         Production::BodyMore | Production::StatementsMore => control::more_statements_by(
             alloc, parts,
         ),
-        Production::BodyEnd | Production::StatementsDone => Ok(Value::Statements(Vec::new(alloc))),
+        Production::BodyEnd | Production::StatementsDone => Ok(Value::Statement(
+            StatementValue::Statements(Vec::new(alloc)),
+        )),
         Production::Marked => Ok(control::marked_by(parts)),
         Production::TypedBare => Ok(control::typed_by(alloc, parts)),
         Production::Empty => Ok(control::empty_by(parts)),
@@ -55,7 +64,7 @@ pub fn build(alloc: Global, production: Production, parts: Vec<Value>) -> Result
         Production::PlainStatement => Ok(control::plain_by(parts)),
         Production::UntilTest => Ok(control::until_by(parts)),
         Production::MoreClauses => control::more_clauses_by(alloc, parts),
-        Production::NoClause => Ok(Value::Clauses(Vec::new(alloc))),
+        Production::NoClause => Ok(Value::Statement(StatementValue::Clauses(Vec::new(alloc)))),
         Production::CaseClause => control::case_by(alloc, parts),
         Production::DefaultClause => Ok(control::default_by(alloc, parts)),
         Production::GoPlain => Ok(plain::go_by(parts)),
@@ -72,12 +81,12 @@ pub fn build(alloc: Global, production: Production, parts: Vec<Value>) -> Result
         Production::OneTarget => Ok(plain::one_target_by(parts)),
         Production::ComputedTarget => plain::computed_target_by(alloc, parts),
         Production::MoreNumber => declarations::more_numbers_by(alloc, parts),
-        Production::NoMoreNumber => Ok(Value::Numbers(Vec::new(alloc))),
+        Production::NoMoreNumber => Ok(Value::Parameter(ParameterValue::Numbers(Vec::new(alloc)))),
         Production::SomeActuals | Production::Subscripts => expressions::listed_by(alloc, parts),
         Production::NoActuals
         | Production::NoMoreActual
         | Production::NoMoreRef
-        | Production::NoMoreExpr => Ok(Value::Exprs(Vec::new(alloc))),
+        | Production::NoMoreExpr => Ok(Value::Expression(ExpressionValue::Exprs(Vec::new(alloc)))),
         Production::LetterActual | Production::LetterConstant => Ok(letter_by(alloc, parts)),
         Production::MoreActual | Production::MoreRef | Production::MoreExpr =>
             expressions::more_exprs_by(alloc, parts),
@@ -85,7 +94,9 @@ pub fn build(alloc: Global, production: Production, parts: Vec<Value>) -> Result
         Production::NamePar => Ok(declarations::name_par_by(alloc, parts)),
         Production::Range => Ok(declarations::range_by(parts)),
         Production::SomeEntries | Production::MoreEntry => transfers::more_entries_by(alloc, parts),
-        Production::NoEntries | Production::NoMoreEntry => Ok(Value::Entries(Vec::new(alloc))),
+        Production::NoEntries | Production::NoMoreEntry => Ok(Value::Transfer(
+            TransferValue::Entries(Vec::new(alloc)),
+        )),
         Production::ItemEntry => Ok(transfers::item_entry_by(parts)),
         Production::Loop => transfers::loop_by(alloc, parts),
         Production::LoopLoop => transfers::loop_loop_by(alloc, parts),
@@ -95,25 +106,33 @@ pub fn build(alloc: Global, production: Production, parts: Vec<Value>) -> Result
         Production::DeclaredList | Production::MoreDeclared => declarations::more_declareds_by(
             alloc, parts,
         ),
-        Production::NoMoreDeclared => Ok(Value::Declareds(Vec::new(alloc))),
+        Production::NoMoreDeclared => Ok(Value::Declaration(DeclarationValue::Declareds(Vec::new(
+            alloc,
+        )))),
         Production::Declared => Ok(declarations::declared_by(alloc, parts)),
         Production::SomeSizes => declarations::listed_pars_by(alloc, parts),
-        Production::NoSizes | Production::NoMorePar => Ok(Value::Pars(Vec::new(alloc))),
+        Production::NoSizes | Production::NoMorePar => Ok(Value::Parameter(ParameterValue::Pars(
+            Vec::new(alloc),
+        ))),
         Production::MorePar => declarations::more_pars_by(alloc, parts),
         Production::BlankFirst => Ok(declarations::blank_area_by(alloc, parts)),
         Production::Area => Ok(declarations::area_by(alloc, parts)),
         Production::MoreArea => declarations::more_areas_by(alloc, parts),
-        Production::NoMoreArea => Ok(Value::Areas(Vec::new(alloc))),
+        Production::NoMoreArea => Ok(Value::Declaration(DeclarationValue::Areas(Vec::new(alloc)))),
         Production::Alias => declarations::alias_by(alloc, parts),
         Production::MoreAlias => declarations::more_groups_by(alloc, parts),
-        Production::NoMoreAlias => Ok(Value::Groups(Vec::new(alloc))),
+        Production::NoMoreAlias => Ok(Value::Declaration(DeclarationValue::Groups(Vec::new(
+            alloc,
+        )))),
         Production::Preset => declarations::preset_by(alloc, parts),
         Production::MorePreset => declarations::more_presets_by(alloc, parts),
-        Production::NoMorePreset => Ok(Value::Presets(Vec::new(alloc))),
+        Production::NoMorePreset => Ok(Value::Declaration(DeclarationValue::Presets(Vec::new(
+            alloc,
+        )))),
         Production::NumberDatum => Ok(declarations::number_datum_by(parts)),
         Production::OtherDatum => Ok(declarations::other_datum_by(parts)),
         Production::MoreDatum => declarations::more_data_by(alloc, parts),
-        Production::NoMoreDatum => Ok(Value::Data(Vec::new(alloc))),
+        Production::NoMoreDatum => Ok(Value::Declaration(DeclarationValue::Data(Vec::new(alloc)))),
         Production::NumberConstant | Production::NumberPrime => Ok(integer_by(parts)),
         Production::SignedNumber => expressions::signed_number_by(alloc, parts),
         Production::TruthConstant | Production::TruthPrime => Ok(truth_by(parts)),
@@ -123,8 +142,8 @@ pub fn build(alloc: Global, production: Production, parts: Vec<Value>) -> Result
         | Production::EditSlash
         | Production::NextSlash
         | Production::SlashSlash => formats::slash_by(alloc, parts),
-        Production::NoFields | Production::EditDone | Production::SlashDone => Ok(Value::Fields(
-            Vec::new(alloc),
+        Production::NoFields | Production::EditDone | Production::SlashDone => Ok(Value::Transfer(
+            TransferValue::Fields(Vec::new(alloc)),
         )),
         Production::CountedEdit => Ok(formats::counted_edit_by(alloc, parts)),
         Production::WordEdit => Ok(formats::word_edit_by(alloc, parts)),
@@ -146,7 +165,7 @@ pub fn build(alloc: Global, production: Production, parts: Vec<Value>) -> Result
         | Production::NotCompared
         | Production::SumDone
         | Production::TermDone
-        | Production::NotRaised => Ok(Value::Joins(Vec::new(alloc))),
+        | Production::NotRaised => Ok(Value::Expression(ExpressionValue::Joins(Vec::new(alloc)))),
         Production::Negated => expressions::negated_by(alloc, parts),
         Production::Compared | Production::Raised => expressions::one_join_by(alloc, parts),
         Production::SignedTerm => expressions::signed_by(alloc, parts),

@@ -5,22 +5,21 @@ ghost use Rattle.grammar.specs.Grammar.{EndsWith};
 ghost use Rattle.grammar.specs.Answers.{Answers};
 ghost use Rattle.grammar.specs.Stack.{piled};
 ghost use Rattle.rat_tree.specs.Views.{program_of};
-ghost use Rattle.rat_grammar.specs.Values.{value};
-ghost use Rattle.rat_grammar.specs.Parts.{as_program};
+ghost use Rattle.rat_parts.specs.Values.{value};
+ghost use Rattle.rat_parts.specs.Parts.{as_program};
 ghost use Rattle.rat_grammar.specs.Build.{build as built};
-ghost use Rattle.rat_grammar.specs.Limits.{meter, next};
-ghost use Rattle.rat_grammar.specs.Ratfor.{grammar as ratfor, certificate, whole};
+ghost use Rattle.rat_table.specs.Limits.{meter, next};
+ghost use Rattle.rat_table.specs.Ratfor.{certificate};
+ghost use Rattle.rat_grammar.specs.Ratfor.{grammar as ratfor, whole};
 
 use crate::build;
-use crate::counts::{self, Counts};
-use crate::lists::NOWHERE;
-use crate::parse_table::predict;
-use crate::symbols::symbol_at;
-use crate::table::{Nonterminal, Production, Terminal};
-use crate::terminals::terminal_at;
-use crate::value::Value;
 use grammar::{Event, Language, Symbol};
 use ground::{List, Refusal, Token};
+use rat_parts::{NOWHERE, UnitValue, Value};
+use rat_table::{
+    Counts, Nonterminal, Production, Terminal, first_counts, next_counts, passed, predict,
+    symbol_at, terminal_at,
+};
 use rat_tree::RatProgram;
 use std::alloc::{AllocError, Global};
 
@@ -28,8 +27,8 @@ use std::alloc::{AllocError, Global};
 pub struct Ratfor;
 
 impl Language for Ratfor {
-    ghost use Rattle.rat_grammar.specs.RatforSound.{sound};
-    ghost use Rattle.rat_grammar.specs.Values.{Val};
+    ghost use Rattle.rat_table.specs.RatforSound.{sound as table_sound};
+    ghost use Rattle.rat_parts.specs.Values.{Val, tok};
 
     type Terminal = Terminal;
 
@@ -51,7 +50,7 @@ impl Language for Ratfor {
 
     ghost certificate = { certificate };
 
-    ghost sound = { sound };
+    ghost sound = { table_sound (λ t. tok t) built };
 
     fn start() -> Production {
         Production::Whole
@@ -84,17 +83,17 @@ impl Language for Ratfor {
     }
 
     fn first_meters() -> Counts {
-        counts::first_counts()
+        first_counts()
     }
 
     fn next_meters(meters: Counts, event: Event<Terminal, Production>) -> Result<Counts, AllocError>
         ensures { IfOk result (λ m. m ≡ meter.next event meters) }
     {
-        counts::next_counts(meters, event)
+        next_counts(meters, event)
     }
 
     fn passed(meters: Counts) -> Option<u64> {
-        counts::passed(meters)
+        passed(meters)
     }
 }
 
@@ -102,7 +101,7 @@ fn into_program(alloc: Global, part: Value) -> RatProgram
     ensures { program_of result ≡ as_program (value part) }
 {
     match part {
-        Value::Program(program) => program,
+        Value::Unit(UnitValue::Program(program)) => program,
         other => {
             drop(other);
             RatProgram {

@@ -2,24 +2,6 @@
 #![tactic(auto)]
 
 mod build;
-mod control;
-mod counts;
-mod declarations;
-mod expressions;
-mod formats;
 mod language;
-mod lists;
-mod parse_table;
-mod plain;
-mod symbols;
-mod table;
-mod terminals;
-mod transfers;
-mod units;
-mod value;
-mod words;
 
-pub use counts::Counts;
 pub use language::{Ratfor, parse};
-pub use table::{Nonterminal, Production, Terminal};
-pub use value::{LoopRest, Range, Value};

@@ -3,7 +3,8 @@
 
 ghost use Rattle.std.specs.Prelude.{IfOk};
 ghost use Rattle.grammar.specs.Grammar.{EndsWith};
-ghost use Rattle.rat_grammar.specs.Ratfor.{grammar as ratfor, certificate};
+ghost use Rattle.rat_table.specs.Ratfor.{certificate};
+ghost use Rattle.rat_grammar.specs.Ratfor.{grammar as ratfor};
 
 use free_scan::scan;
 use ground::{Dialect, Place, Refusal, Token, TokenKind};

@@ -1,10 +1,10 @@
 use Rattle.std.proofs.Common.{◌≡◌, ap, sym, subst, ◌∙◌}
 use Rattle.grammar.specs.Answers.{Answers}
 use Rattle.grammar.specs.Limits.{IsAccepted}
-use Rattle.rat_grammar.specs.Values.{value, program}
-use Rattle.rat_grammar.specs.Limits.{meter}
+use Rattle.rat_parts.specs.Values.{value, program}
+use Rattle.rat_table.specs.Limits.{meter}
 use Rattle.rat_grammar.specs.Ratfor.{grammar}
-use Rattle.rat_grammar.proofs.TreeLemmas.{whole_again}
+use Rattle.rat_grammar.proofs.WholeLemmas.{whole_again}
 use Rattle.rat_grammar.proofs.language.parse_all.Goals as goal
 
 pub returns-in-Ok : goal.returns-in-Ok

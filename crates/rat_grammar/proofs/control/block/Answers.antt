@@ -1,7 +1,0 @@
-use Rattle.std.proofs.Common.{None, ap, ◌∙◌}
-use Rattle.rat_tree.proofs.Rows.{block_commands}
-use Rattle.rat_grammar.specs.Values.{command}
-use Rattle.rat_grammar.proofs.control.block.Goals as goal
-
-pub returns : goal.returns
-returns c = c.stated.ensures ∙ ap (command c.args.place) (block_commands None c.args.place c.args.list)

@@ -1,7 +1,0 @@
-use Rattle.std.proofs.Common.{ap}
-use Rattle.rat_grammar.specs.Values.{clause}
-use Rattle.rat_grammar.proofs.TreeLemmas.{whole_clause}
-use Rattle.rat_grammar.proofs.control.clause.Goals as goal
-
-pub returns : goal.returns
-returns c = ap clause (whole_clause c.args.tests c.args.fallback c.args.body c.args.place)

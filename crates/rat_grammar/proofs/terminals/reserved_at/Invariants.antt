@@ -1,7 +1,0 @@
-use Rattle.std.proofs.Common.{◌≡◌, drop}
-use Rattle.std.specs.Prelude.{map}
-use Rattle.rat_grammar.specs.Words.{reserved, terminal_in}
-use Rattle.rat_grammar.proofs.terminals.reserved_at.Given as goal
-
-abbrev pub invariant-loop-spelling : goal.invariant-loop-spelling
-invariant-loop-spelling l = terminal_in reserved l.word ≡ terminal_in (map (λ w. (w.0.now, w.1)) (drop l.spelling-index l.spelling-items)) l.word

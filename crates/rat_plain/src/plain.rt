@@ -1,0 +1,171 @@
+// What the productions of FORTRAN statements make.
+ghost use Rattle.std.specs.Prelude.{◌≡◌, ◌∷◌, [], Some, None, true, false, pos, map, IfOk};
+ghost use Rattle.f66_tree.specs.Forms.{Passes, Stops, Formats, Dimensions, Commons, Equivalences, Presets, Assigns, Invokes, Goes, Selects};
+ghost use Rattle.f66_tree.specs.Views.{act_of, par_of, entries_of, chained, listed};
+ghost use Rattle.rat_parts.specs.Values.{value, values, at, deed as deed_val};
+ghost use Rattle.rat_parts.specs.Parts.{place_in, name_in, number_in, octal_if_any, as_act, as_formula, as_exprs, as_par, as_entries, as_fields, as_declareds, as_areas, as_groups, as_presets, as_numbers, with_area, with_preset};
+ghost use Rattle.rat_plain.specs.Plain.{transfer as transferred};
+
+use crate::lists::{
+    more_areas, more_groups, more_presets, ordered_areas, ordered_groups, ordered_presets,
+};
+use f66_tree::{Entry, Par, StmtKind};
+use ground::{List, Place};
+use rat_parts::{
+    StatementValue, Value, into_act, into_expr, into_name, into_par, is_word, more_numbers,
+    ordered_declareds, ordered_entries, ordered_exprs, ordered_fields, ordered_numbers, place_of,
+    pop_value, skip, take_number, take_octal, take_place,
+};
+use std::alloc::{AllocError, Global};
+
+fn deed(place: Place, kind: StmtKind) -> Value
+    ensures { value result ≡ deed_val place (act_of kind) }
+{
+    Value::Statement(StatementValue::Deed(place, kind))
+}
+
+pub fn go_by(mut parts: Vec<Value>) -> Value
+    ensures { value result ≡ deed_val (place_in (at 1 (values parts.items))) (as_act (at 0 (values parts.items))) }
+{
+    let last = into_act(pop_value(&mut parts));
+    let second = take_place(pop_value(&mut parts));
+    deed(second, last)
+}
+
+pub fn continue_by(mut parts: Vec<Value>) -> Value
+    ensures { value result ≡ deed_val (place_in (at 0 (values parts.items))) Passes }
+{
+    deed(take_place(pop_value(&mut parts)), StmtKind::Continue)
+}
+
+pub fn stop_by(mut parts: Vec<Value>) -> Value
+    ensures { value result ≡ deed_val (place_in (at 1 (values parts.items))) (Stops (octal_if_any (at 0 (values parts.items)))) }
+{
+    let last = take_octal(pop_value(&mut parts));
+    let second = take_place(pop_value(&mut parts));
+    deed(second, StmtKind::Stop(last))
+}
+
+fn transfer(word: &Value, unit: Par, format: u32, list: List<Entry>) -> StmtKind
+    ensures { act_of result ≡ transferred (value word.now) (par_of unit) format (entries_of list.items) }
+{
+    if is_word(b"READ", word) {
+        StmtKind::Read(unit, format, list)
+    } else {
+        StmtKind::Write(unit, format, list)
+    }
+}
+
+pub fn transfer_by(alloc: Global, mut parts: Vec<Value>) -> Value
+    ensures { value result ≡ deed_val (place_in (at 6 (values parts.items))) (transferred (at 6 (values parts.items)) (as_par (at 4 (values parts.items))) (number_in (at 2 (values parts.items))) (listed (as_entries (at 0 (values parts.items))))) }
+{
+    let list = pop_value(&mut parts);
+    skip(&mut parts);
+    let format = take_number(pop_value(&mut parts));
+    skip(&mut parts);
+    let unit = into_par(pop_value(&mut parts));
+    skip(&mut parts);
+    let word = pop_value(&mut parts);
+    let list = ordered_entries(alloc, list);
+    let kind = transfer(&word, unit, format, list);
+    let place = place_of(&word);
+    drop(word);
+    deed(place, kind)
+}
+
+pub fn format_by(alloc: Global, mut parts: Vec<Value>) -> Value
+    ensures { value result ≡ deed_val (place_in (at 3 (values parts.items))) (Formats (as_fields (at 1 (values parts.items)))) }
+{
+    skip(&mut parts);
+    let second = ordered_fields(alloc, pop_value(&mut parts));
+    skip(&mut parts);
+    let fourth = take_place(pop_value(&mut parts));
+    let fields = second;
+    deed(fourth, StmtKind::Format(fields))
+}
+
+pub fn dimension_by(alloc: Global, mut parts: Vec<Value>) -> Value
+    ensures { value result ≡ deed_val (place_in (at 1 (values parts.items))) (Dimensions (as_declareds (at 0 (values parts.items)))) }
+{
+    let last = ordered_declareds(alloc, pop_value(&mut parts));
+    let second = take_place(pop_value(&mut parts));
+    let list = last;
+    deed(second, StmtKind::Dimension(list))
+}
+
+pub fn common_by(alloc: Global, mut parts: Vec<Value>) -> Result<Value, AllocError>
+    ensures { IfOk result (λ v. value v ≡ deed_val (place_in (at 2 (values parts.items))) (Commons (with_area (at 1 (values parts.items)) (as_areas (at 0 (values parts.items)))))) }
+{
+    let last = pop_value(&mut parts);
+    let second = pop_value(&mut parts);
+    let third = take_place(pop_value(&mut parts));
+    let areas = more_areas(alloc, second, last)?;
+    let list = ordered_areas(alloc, areas);
+    Ok(deed(third, StmtKind::Common(list)))
+}
+
+pub fn equivalence_by(alloc: Global, mut parts: Vec<Value>) -> Result<Value, AllocError>
+    ensures { IfOk result (λ v. value v ≡ deed_val (place_in (at 2 (values parts.items))) (Equivalences (as_exprs (at 1 (values parts.items)) ∷ as_groups (at 0 (values parts.items))))) }
+{
+    let last = pop_value(&mut parts);
+    let second = pop_value(&mut parts);
+    let third = take_place(pop_value(&mut parts));
+    let groups = more_groups(alloc, second, last)?;
+    let list = ordered_groups(alloc, groups);
+    Ok(deed(third, StmtKind::Equivalence(list)))
+}
+
+pub fn data_by(alloc: Global, mut parts: Vec<Value>) -> Result<Value, AllocError>
+    ensures { IfOk result (λ v. value v ≡ deed_val (place_in (at 2 (values parts.items))) (Presets (with_preset (at 1 (values parts.items)) (as_presets (at 0 (values parts.items)))))) }
+{
+    let last = pop_value(&mut parts);
+    let second = pop_value(&mut parts);
+    let third = take_place(pop_value(&mut parts));
+    let presets = more_presets(alloc, second, last)?;
+    let list = ordered_presets(alloc, presets);
+    Ok(deed(third, StmtKind::Preset(list)))
+}
+
+pub fn assignment_by(mut parts: Vec<Value>) -> Value
+    ensures { value result ≡ deed_val (place_in (at 2 (values parts.items))) (Assigns (as_formula (at 2 (values parts.items))) (as_formula (at 0 (values parts.items)))) }
+{
+    let last = into_expr(pop_value(&mut parts));
+    skip(&mut parts);
+    let third = pop_value(&mut parts);
+    let place = place_of(&third);
+    deed(place, StmtKind::Assign(into_expr(third), last))
+}
+
+pub fn invocation_by(alloc: Global, mut parts: Vec<Value>) -> Value
+    ensures { value result ≡ deed_val (place_in (at 2 (values parts.items))) (Invokes (name_in (at 1 (values parts.items))) (chained (as_exprs (at 0 (values parts.items))))) }
+{
+    let last = ordered_exprs(alloc, pop_value(&mut parts));
+    let second = into_name(alloc, pop_value(&mut parts));
+    let third = take_place(pop_value(&mut parts));
+    let list = last;
+    let name = second;
+    deed(third, StmtKind::Invoke(name, list))
+}
+
+pub fn one_target_by(mut parts: Vec<Value>) -> Value
+    ensures { value result ≡ deed_val (place_in (at 0 (values parts.items))) (Goes (number_in (at 0 (values parts.items)))) }
+{
+    let target = pop_value(&mut parts);
+    let place = place_of(&target);
+    let label = take_number(target);
+    deed(place, StmtKind::Goto(label))
+}
+
+pub fn computed_target_by(alloc: Global, mut parts: Vec<Value>) -> Result<Value, AllocError>
+    ensures { IfOk result (λ v. value v ≡ deed_val (place_in (at 5 (values parts.items))) (Selects (number_in (at 4 (values parts.items)) ∷ as_numbers (at 3 (values parts.items))) (name_in (at 0 (values parts.items))))) }
+{
+    let index = into_name(alloc, pop_value(&mut parts));
+    skip(&mut parts);
+    skip(&mut parts);
+    let labels = pop_value(&mut parts);
+    let label = take_number(pop_value(&mut parts));
+    let open = take_place(pop_value(&mut parts));
+    let labels = more_numbers(alloc, label, labels)?;
+    let labels = ordered_numbers(alloc, labels);
+    Ok(deed(open, StmtKind::Computed(labels, index)))
+}

@@ -1,0 +1,7 @@
+pub mod Table
+pub mod ParseTable
+pub mod LookaheadTables
+pub mod Words
+pub mod Limits
+pub mod Ratfor
+pub mod RatforSound
