@@ -7,3 +7,4 @@ pub mod NameRules
 pub mod StoreRules
 pub mod BuiltActs
 pub mod Rules
+pub mod UseViews

@@ -2,5 +2,7 @@
 #![tactic(auto)]
 
 mod name_form;
+mod shapes;
+mod uses;
 
 pub use name_form::{Arity, Class, Manner, NameForm};
