@@ -1,2 +1,4 @@
 mod Examples
 pub mod FormulaLemmas
+pub mod TableLemmas
+pub mod ContextLemmas

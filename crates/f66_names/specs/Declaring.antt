@@ -48,9 +48,14 @@ abbrev pub type_given : Text → Act → Option TypeWord
 type_given q (Types t ds) = if list_any (names q) ds then Some t else None
 type_given q _ = None
 
+-- the number of dimensions, where there are some
+abbrev pub counted : List Par → Option ℕ
+counted [] = None
+counted (n ∷ ns) = Some (length (n ∷ ns))
+
 -- the number of dimensions that a declaration gives a name
 abbrev pub count_by : Text → Declared → Option ℕ
-count_by q d = if names q d then (if is_sized d then Some (length d.sizes) else None) else None
+count_by q d = if names q d then counted d.sizes else None
 
 -- all names that a statement lists, those in common blocks among them
 abbrev pub listed_in : Act → List Declared

@@ -8,3 +8,5 @@ pub mod StoreRules
 pub mod BuiltActs
 pub mod Rules
 pub mod UseViews
+pub mod ActViews
+pub mod DeclarationViews
