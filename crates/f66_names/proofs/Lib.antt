@@ -2,3 +2,6 @@ mod Examples
 pub mod FormulaLemmas
 pub mod TableLemmas
 pub mod ContextLemmas
+pub mod SizeLemmas
+pub mod DeclaredLemmas
+pub mod BuiltLemmas

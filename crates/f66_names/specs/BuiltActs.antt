@@ -1,8 +1,7 @@
 -- Which statements are built so far.
 use Rattle.std.specs.Prelude.{Bool, true, false, not, ◌&&◌, nat_eq, List}
 use Rattle.std.specs.List.{list_any}
-use Rattle.f66_tree.specs.declared.editing.EditKind.TheVariants as edits
-use Rattle.f66_tree.specs.Fields.{Takes, Fields, NoField, Single}
+use Rattle.rule_table.specs.Words.{is_some_and}
 use Rattle.f66_tree.specs.Forms.{Formula, Variable, Applied, Entry, One, Entries, NoEntry, AndEntry, Act, Invokes, Returns, Reads, Writes, Formats, Commons, Equivalences, Presets, Chooses}
 use Rattle.f66_tree.specs.Units.{Context}
 use Rattle.f66_tree.specs.Built.{is_printer}
@@ -11,12 +10,8 @@ use Rattle.f66_names.specs.declared.name_form.NameForm.TheVariants as forms
 use Rattle.f66_names.specs.declared.name_form.Manner.{Manner}
 use Rattle.f66_names.specs.declared.name_form.Manner.TheVariants.{Alone, With, Stored}
 use Rattle.f66_names.specs.Sorts.{form_of, is_array}
+use Rattle.f66_names.specs.StoreRules.{one_field}
 use Rattle.f66_names.specs.Uses.{Usage, uses_in}
-
--- one integer field with the count 1
-abbrev pub is_one_field : Fields → Bool
-is_one_field (Single n (Takes edits.Whole w) NoField) = nat_eq n 1
-is_one_field _ = false
 
 -- a variable or a name with parentheses, and no whole array
 abbrev pub is_one_place : Context → Formula → Bool
@@ -34,7 +29,7 @@ is_last _ = false
 
 abbrev pub is_one_item : Context → Entries → Bool
 is_one_item c NoEntry = false
-is_one_item c (AndEntry e es) = is_one_entry c e && is_last es
+is_one_item c (AndEntry e es) = is_last es && is_one_entry c e
 
 -- a reference to a function that is no intrinsic one
 abbrev pub is_function_by : NameForm → Manner → Bool
@@ -51,7 +46,7 @@ is_built_form c (Reads u l es) = false
 is_built_form c (Commons areas) = false
 is_built_form c (Equivalences es) = false
 is_built_form c (Presets ps) = false
-is_built_form c (Formats f) = is_one_field f
+is_built_form c (Formats f) = is_some_and (λ field. nat_eq field.0 1) (one_field f)
 is_built_form c (Writes u l es) = is_printer u && is_one_item c es
 is_built_form c (Chooses e a) = is_built_form c a
 is_built_form c _ = true

@@ -59,11 +59,16 @@ miscounts c u = miscounts_by (form_of c u.name) u.manner
 abbrev pub has_wrong_count : Context → Act → Bool
 has_wrong_count c a = has_wrong_sizes a || list_any (miscounts c) (uses_in a)
 
--- a name gets its type, or its dimensions, from an earlier statement too, or twice from this one
+-- names get their types from an earlier statement too, or twice from this list
+abbrev pub retypes : List Act → ℕ → List Declared → Bool
+retypes acts i ds = list_any (λ d. is_below i (first_place (types d.name) acts)) ds || repeats (map (λ d. d.name) ds)
+
+-- names get their dimensions from an earlier statement too, or twice from this list
+abbrev pub resizes : List Act → ℕ → List Declared → Bool
+resizes acts i ds = list_any (λ d. is_below i (first_place (sizes d.name) acts)) ds || repeats (map (λ d. d.name) ds)
+
 abbrev pub redeclares : List Act → ℕ → Act → Bool
-redeclares acts i a =
-    (list_any (λ d. is_below i (first_place (types d.name) acts)) (typed_in a) || repeats (map (λ d. d.name) (typed_in a)))
-    || (list_any (λ d. is_below i (first_place (sizes d.name) acts)) (sized_in a) || repeats (map (λ d. d.name) (sized_in a)))
+redeclares acts i a = retypes acts i (typed_in a) || resizes acts i (sized_in a)
 
 -- the class that a name is used in
 abbrev pub class_by : NameForm → Manner → Option Class
