@@ -5,3 +5,5 @@ pub mod ContextLemmas
 pub mod SizeLemmas
 pub mod DeclaredLemmas
 pub mod BuiltLemmas
+pub mod ConditionLemmas
+pub mod ExpressionLemmas

@@ -3,13 +3,12 @@ use Rattle.std.specs.Prelude.{ℕ, Bool, false, not, List}
 use Rattle.ground.specs.declared.fault.FaultKind.{FaultKind}
 use Rattle.ground.specs.declared.fault.FaultKind.TheVariants.{Syntax, NameTooLong, OutOfProfileType, TypeClash, WrongCount, DuplicateName, BadConstant, BadFormat, NotAssignable, Limit}
 use Rattle.std.specs.List.{list_any}
-use Rattle.ground.specs.declared.value.Kind.{Kind}
 use Rattle.f66_tree.specs.Forms.{Act, Formula}
 use Rattle.f66_tree.specs.Units.{Context}
 use Rattle.f66_names.specs.Shapes.{has_shape, stands}
 use Rattle.f66_names.specs.Sorts.{type_of}
 use Rattle.f66_names.specs.Uses.{uses_of}
-use Rattle.f66_names.specs.Kinds.{clashes, is_kind, kind_in}
+use Rattle.f66_names.specs.Kinds.{clashes}
 use Rattle.f66_names.specs.NameRules.{has_name, is_long, is_other, has_other_type, miscounts, has_wrong_count, misuses, is_duplicate}
 use Rattle.f66_names.specs.StoreRules.{has_bad_constant, has_bad_format, stores_wrong, has_large_array}
 
@@ -27,12 +26,12 @@ breaks_name c acts i a NotAssignable = stores_wrong c a
 breaks_name c acts i a Limit = has_large_array a
 breaks_name c acts i a _ = false
 
--- what an expression breaks of which a type is asked, as a condition or a value
-abbrev pub breaks_expression : Context → List Act → Kind → Formula → FaultKind → Bool
-breaks_expression c acts k e Syntax = not (stands 0 e)
-breaks_expression c acts k e NameTooLong = list_any (λ u. is_long u.name) (uses_of e)
-breaks_expression c acts k e OutOfProfileType = list_any (λ u. is_other (type_of c u.name)) (uses_of e)
-breaks_expression c acts k e TypeClash = not (is_kind k (kind_in c e))
-breaks_expression c acts k e WrongCount = list_any (miscounts c) (uses_of e)
-breaks_expression c acts k e DuplicateName = list_any (misuses c acts) (uses_of e)
-breaks_expression c acts k e _ = false
+-- what an expression breaks of which a type is asked, as a condition or a value: the clash is that it has another
+abbrev pub breaks_expression : Context → List Act → Bool → Formula → FaultKind → Bool
+breaks_expression c acts clash e Syntax = not (stands 0 e)
+breaks_expression c acts clash e NameTooLong = list_any (λ u. is_long u.name) (uses_of e)
+breaks_expression c acts clash e OutOfProfileType = list_any (λ u. is_other (type_of c u.name)) (uses_of e)
+breaks_expression c acts clash e TypeClash = clash
+breaks_expression c acts clash e WrongCount = list_any (miscounts c) (uses_of e)
+breaks_expression c acts clash e DuplicateName = list_any (misuses c acts) (uses_of e)
+breaks_expression c acts clash e _ = false

@@ -23,9 +23,9 @@ pub fn clashes(declarations: &Declarations, kind: &StmtKind) -> bool
     match kind {
         StmtKind::Assign(target, value) => !takes_value(declarations, target, value),
         StmtKind::Computed(_, index) => !is_counter(declarations, index),
-        StmtKind::Sign(e, _, _, _) => !is_kind(Kind::Integer, kind_in(declarations, e)),
+        StmtKind::Sign(e, _, _, _) => !has_kind(declarations, Kind::Integer, e),
         StmtKind::When(test, inner) => {
-            !is_kind(Kind::Logical, kind_in(declarations, test)) || clashes(declarations, inner)
+            !has_kind(declarations, Kind::Logical, test) || clashes(declarations, inner)
         }
         StmtKind::Loop(_, variable, first, last, step) => {
             !counts_integers(declarations, variable, first, last, step)
@@ -56,7 +56,7 @@ pub fn counts_integers(
 
 /// The type of an expression, or None where its operands clash (sections 6 and 8.2).
 #[cycle(kind_in)]
-pub fn kind_in(declarations: &Declarations, e: &Expr) -> Option<Kind>
+fn kind_in(declarations: &Declarations, e: &Expr) -> Option<Kind>
     ensures { result ≡ kind_in (context_in declarations.now) (formula_of e.now) }
 {
     match e {
@@ -108,8 +108,15 @@ fn are_integers(declarations: &Declarations, list: &[Expr]) -> bool
     true
 }
 
+/// Whether an expression has this type.
+pub fn has_kind(declarations: &Declarations, kind: Kind, e: &Expr) -> bool
+    ensures { result ≡ is_kind kind (kind_in (context_in declarations.now) (formula_of e.now)) }
+{
+    is_kind(kind, kind_in(declarations, e))
+}
+
 /// Whether there is a type, and it is this one.
-pub fn is_kind(kind: Kind, found: Option<Kind>) -> bool
+fn is_kind(kind: Kind, found: Option<Kind>) -> bool
     ensures { result ≡ is_kind kind found }
 {
     match found {

@@ -9,10 +9,14 @@ mod name_form;
 mod name_rules;
 mod names;
 mod repeats;
+mod rules;
 mod shapes;
 mod sorts;
 mod store_rules;
 mod tables;
 mod uses;
 
+pub use built::is_built;
 pub use name_form::{Arity, Class, Manner, NameForm};
+pub use names::{Names, names_of};
+pub use rules::{broken_rule, condition_rule, counting_rule, value_rule};

@@ -113,20 +113,14 @@ fn repeats_sized(alloc: Global, list: &[Declared]) -> Result<bool, AllocError>
 fn was_typed(declarations: &Declarations, i: usize, declared: &Declared) -> bool
     ensures { result ≡ is_below i (first_place (types declared.now.name) (acts_in declarations.now)) }
 {
-    is_below(
-        i,
-        declarations.typed.get(declared.name.as_bytes()).copied(),
-    )
+    is_below(i, declarations.typed.get(declared.name.as_bytes()).copied())
 }
 
 fn was_sized(declarations: &Declarations, i: usize, declared: &Declared) -> bool
     ensures { result ≡ (is_sized (declared_of declared.now) && is_below i (first_place (sizes declared.now.name) (acts_in declarations.now))) }
 {
     !declared.sizes.is_empty()
-        && is_below(
-            i,
-            declarations.sized.get(declared.name.as_bytes()).copied(),
-        )
+        && is_below(i, declarations.sized.get(declared.name.as_bytes()).copied())
 }
 
 fn are_some_typed(declarations: &Declarations, i: usize, list: &[Declared]) -> bool

@@ -187,10 +187,7 @@ fn note_counts<'a>(
     Ok(())
 }
 
-fn note_areas<'a>(
-    table: &mut HashMap<&'a [u8], usize>,
-    areas: &'a [Area],
-) -> Result<(), AllocError>
+fn note_areas<'a>(table: &mut HashMap<&'a [u8], usize>, areas: &'a [Area]) -> Result<(), AllocError>
     ensures { OnOk result
         ((q : List ℕ) → get_by (λ k. bytes_eq q k.now) table.new
         ≡ option_or (get_by (λ k. bytes_eq q k.now) table.old) (find_map (count_by q) (flat_map (λ a. a.list) (map area_of areas.now)))) }

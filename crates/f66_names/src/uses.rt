@@ -34,6 +34,23 @@ pub fn uses_of_expression<'a>(alloc: Global, e: &'a Expr) -> Result<Vec<Use<'a>>
     Ok(uses)
 }
 
+/// The variable and the parameters of a DO.
+pub fn uses_of_counting<'a>(
+    alloc: Global,
+    variable: &'a Name,
+    first: &'a Par,
+    last: &'a Par,
+    step: &'a Par,
+) -> Result<Vec<Use<'a>>, AllocError>
+    ensures { IfOk result
+        (λ v. map use_of v.items
+        ≡ usage variable.now Manner.Alone ∷ (uses_of_par (par_of first.now) ++ (uses_of_par (par_of last.now) ++ uses_of_par (par_of step.now)))) }
+{
+    let mut uses = Vec::new(alloc);
+    collect_counting(variable, first, last, step, &mut uses)?;
+    Ok(uses)
+}
+
 /// Adds the names that a statement uses.
 pub fn collect_in<'a>(kind: &'a StmtKind, uses: &mut Vec<Use<'a>>) -> Result<(), AllocError>
     ensures { OnOk result (map use_of uses.new.items ≡ map use_of uses.old.items ++ uses_in (act_of kind.now)) }
@@ -63,7 +80,7 @@ pub fn collect_in<'a>(kind: &'a StmtKind, uses: &mut Vec<Use<'a>>) -> Result<(),
 }
 
 /// Adds the variable and the parameters of a DO.
-pub fn collect_counting<'a>(
+fn collect_counting<'a>(
     variable: &'a Name,
     first: &'a Par,
     last: &'a Par,
