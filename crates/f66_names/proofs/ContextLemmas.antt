@@ -1,0 +1,80 @@
+-- The types and dimensions of a context's names, by the statements that give them.
+use Rattle.std.proofs.Common.{◌≡◌, ℕ, Bool, true, false, cond, List, [], ◌∷◌, ◌++◌, ◌||◌, Option, Some, None, unwrap_or, refl, ap, sym, ◌∙◌, arith}
+use Rattle.std.specs.Prelude.{if◌then◌else◌}
+use Rattle.std.specs.List.{list_any, flat_map}
+use Rattle.std.specs.Option.{option_or}
+use Rattle.std.specs.Str.{bytes_eq}
+use Rattle.rule_table.specs.Words.{find_map}
+use Rattle.f66_tree.specs.declared.declaration.TypeWord.{TypeWord}
+use Rattle.f66_tree.specs.Forms.{Text, Par, Declared, Area, Act, Assigns, Goes, Selects, Signs, Chooses, Loops, Invokes, Passes, Stops, Returns, Reads, Writes, Formats, Types, Dimensions, Commons, Equivalences, Presets}
+use Rattle.f66_tree.specs.Units.{lists, typed_by, type_in, if_any, sizes_in, sizes_in_areas, sizes_by, sizes_of}
+use Rattle.f66_tree.specs.Evaluation.{known, intrinsics, array_or}
+use Rattle.f66_names.specs.declared.name_form.NameForm.{NameForm}
+use Rattle.f66_names.specs.declared.name_form.NameForm.TheVariants as forms
+use Rattle.f66_names.specs.Declaring.{noted, names, type_given, counted, count_by, count_in}
+use Rattle.f66_names.specs.Sorts.{form_by}
+use Rattle.f66_names.proofs.TableLemmas.{find_map-append, option_or-assoc}
+
+-- ---- types ----
+
+lists-any : (q : Text) (ds : List Declared) → lists q ds ≡ list_any (names q) ds
+lists-any q [] = refl
+lists-any q (d ∷ ds) = ap (λ b. bytes_eq q d.name || b) (lists-any q ds)
+
+typed_or : (b : Bool) (t unsaid : TypeWord) (later : Option TypeWord) → (if b then t else unwrap_or later unsaid) ≡ unwrap_or (option_or (if b then Some t else None) later) unsaid
+typed_or true t unsaid later = refl
+typed_or false t unsaid later = refl
+
+pub type_in-given : (q : Text) (acts : List Act) (unsaid : TypeWord) → type_in q (noted acts) unsaid ≡ unwrap_or (find_map (type_given q) acts) unsaid
+type_in-given q [] unsaid = refl
+type_in-given q (Types t ds ∷ rest) unsaid =
+    ap (λ b. if b then t else type_in q (noted rest) unsaid) (lists-any q ds)
+    ∙ ap (λ w. if list_any (names q) ds then t else w) (type_in-given q rest unsaid)
+    ∙ typed_or (list_any (names q) ds) t unsaid (find_map (type_given q) rest)
+type_in-given q (a ∷ rest) unsaid = type_in-given q rest unsaid
+
+-- ---- dimensions ----
+
+if_any-counted : (ns others : List Par) → counted (if_any ns others) ≡ option_or (counted ns) (counted others)
+if_any-counted [] others = refl
+if_any-counted (n ∷ ns) others = refl
+
+sized_or : (b : Bool) (ns later : List Par) (o : Option ℕ) → counted later ≡ o → counted (if b then if_any ns later else later) ≡ option_or (if b then counted ns else None) o
+sized_or true ns later o e = if_any-counted ns later ∙ ap (option_or (counted ns)) e
+sized_or false ns later o e = e
+
+sizes_in-counted : (q : Text) (ds : List Declared) (others : List Par) → counted (sizes_in q ds others) ≡ option_or (find_map (count_by q) ds) (counted others)
+sizes_in-counted q [] others = refl
+sizes_in-counted q (d ∷ ds) others =
+    sized_or (bytes_eq q d.name) d.sizes (sizes_in q ds others) (option_or (find_map (count_by q) ds) (counted others)) (sizes_in-counted q ds others)
+    ∙ sym (option_or-assoc (count_by q d) (find_map (count_by q) ds) (counted others))
+
+sizes_in_areas-counted : (q : Text) (areas : List Area) (others : List Par) →
+    counted (sizes_in_areas q areas others) ≡ option_or (find_map (count_by q) (flat_map (λ a. a.list) areas)) (counted others)
+sizes_in_areas-counted q [] others = refl
+sizes_in_areas-counted q (a ∷ areas) others =
+    sizes_in-counted q a.list (sizes_in_areas q areas others)
+    ∙ ap (option_or (find_map (count_by q) a.list)) (sizes_in_areas-counted q areas others)
+    ∙ sym (option_or-assoc (find_map (count_by q) a.list) (find_map (count_by q) (flat_map (λ b. b.list) areas)) (counted others))
+    ∙ ap (λ o. option_or o (counted others)) (sym (find_map-append (count_by q) a.list (flat_map (λ b. b.list) areas)))
+
+pub sizes_of-counted : (q : Text) (acts : List Act) → counted (sizes_of q (noted acts)) ≡ find_map (count_in q) acts
+sizes_of-counted q [] = refl
+sizes_of-counted q (Types t ds ∷ rest) = sizes_in-counted q ds (sizes_of q (noted rest)) ∙ ap (option_or (find_map (count_by q) ds)) (sizes_of-counted q rest)
+sizes_of-counted q (Dimensions ds ∷ rest) = sizes_in-counted q ds (sizes_of q (noted rest)) ∙ ap (option_or (find_map (count_by q) ds)) (sizes_of-counted q rest)
+sizes_of-counted q (Commons areas ∷ rest) =
+    sizes_in_areas-counted q areas (sizes_of q (noted rest)) ∙ ap (option_or (count_in q (Commons areas))) (sizes_of-counted q rest)
+sizes_of-counted q (a ∷ rest) = sizes_of-counted q rest
+
+-- ---- forms ----
+
+abbrev form_counted : Option ℕ → Text → NameForm
+form_counted (Some n) x = forms.Array n
+form_counted None x = form_by (known intrinsics x)
+
+form_by-counted : (ns : List Par) (x : Text) → form_by (array_or ns x) ≡ form_counted (counted ns) x
+form_by-counted [] x = refl
+form_by-counted (n ∷ ns) x = refl
+
+pub form_of-counted : (x : Text) (acts : List Act) (o : Option ℕ) → o ≡ find_map (count_in x) acts → form_by (array_or (sizes_of x (noted acts)) x) ≡ form_counted o x
+form_of-counted x acts o e = form_by-counted (sizes_of x (noted acts)) x ∙ ap (λ n. form_counted n x) (sizes_of-counted x acts ∙ sym e)

@@ -1,0 +1,10 @@
+-- The uses of the statements before.
+use Rattle.std.proofs.Common.{◌≡◌, take, map}
+use Rattle.std.specs.List.{flat_map}
+use Rattle.f66_names.specs.Uses.{uses_in}
+use Rattle.f66_names.specs.UseViews.{use_of}
+use Rattle.f66_names.specs.ActViews.{acts_of}
+use Rattle.f66_names.proofs.classes.uses_of_acts.Given as goal
+
+abbrev pub invariant-loop-kind : goal.invariant-loop-kind
+invariant-loop-kind l = map use_of l.uses.items ≡ flat_map uses_in (acts_of (take l.kind-index l.acts))

@@ -1,0 +1,66 @@
+-- The names that a statement uses, and how each stands there (X3.9-1966, sections 5.1.3, 6 and 7.1).
+use Rattle.std.specs.Prelude.{ℕ, ◌+◌, Bool, true, false, not, ◌==◌, List, [], ◌∷◌, ◌++◌, Option, Some, None, if◌then◌else◌}
+use Rattle.std.specs.List.{flat_map}
+use Rattle.std.specs.Str.{bytes_eq}
+use Rattle.f66_tree.specs.Forms.{Text, Formula, Number, Fact, Letter, Variable, Applied, Grouped, Positive, Negative, Negated, Joined, Formulas, Nought, Also, Par, Constant, Named, Declared, Entry, One, Many, Entries, NoEntry, AndEntry, Act, Assigns, Selects, Signs, Chooses, Loops, Writes, Types, Dimensions}
+use Rattle.f66_names.specs.declared.name_form.Manner.{Manner}
+use Rattle.f66_names.specs.declared.name_form.Manner.TheVariants.{Alone, With, Stored}
+
+pub record Usage : Type 0 where
+  pub name : Text
+  pub manner : Manner
+
+abbrev pub usage : Text → Manner → Usage
+usage x m = record { name = x; manner = m }
+
+abbrev pub many : Formulas → ℕ
+many Nought = 0
+many (Also e es) = many es + 1
+
+abbrev mutual
+  pub uses_of : Formula → List Usage
+  uses_of (Variable x) = usage x Alone ∷ []
+  uses_of (Applied x es) = usage x (With (many es)) ∷ uses_of_all es
+  uses_of (Grouped a) = uses_of a
+  uses_of (Positive a) = uses_of a
+  uses_of (Negative a) = uses_of a
+  uses_of (Negated a) = uses_of a
+  uses_of (Joined op a b) = uses_of a ++ uses_of b
+  uses_of _ = []
+
+  pub uses_of_all : Formulas → List Usage
+  uses_of_all Nought = []
+  uses_of_all (Also e es) = uses_of e ++ uses_of_all es
+
+-- of a target with parentheses the name itself is stored into
+abbrev pub uses_of_target : Formula → List Usage
+uses_of_target (Applied x es) = usage x (Stored (many es)) ∷ uses_of_all es
+uses_of_target e = uses_of e
+
+abbrev pub uses_of_par : Par → List Usage
+uses_of_par (Constant z) = []
+uses_of_par (Named x) = usage x Alone ∷ []
+
+-- an implied DO is not built
+abbrev pub uses_of_entry : Entry → List Usage
+uses_of_entry (One e) = uses_of e
+uses_of_entry (Many es x a b c) = []
+
+abbrev pub uses_of_entries : Entries → List Usage
+uses_of_entries NoEntry = []
+uses_of_entries (AndEntry e es) = uses_of_entry e ++ uses_of_entries es
+
+-- the names in dimensions
+abbrev pub uses_of_sizes : List Declared → List Usage
+uses_of_sizes ds = flat_map (λ d. flat_map uses_of_par d.sizes) ds
+
+abbrev pub uses_in : Act → List Usage
+uses_in (Assigns x e) = uses_of_target x ++ uses_of e
+uses_in (Selects ls x) = usage x Alone ∷ []
+uses_in (Signs e l m k) = uses_of e
+uses_in (Chooses e a) = uses_of e ++ uses_in a
+uses_in (Loops l x a b c) = usage x Alone ∷ (uses_of_par a ++ (uses_of_par b ++ uses_of_par c))
+uses_in (Writes u l es) = uses_of_par u ++ uses_of_entries es
+uses_in (Types t ds) = uses_of_sizes ds
+uses_in (Dimensions ds) = uses_of_sizes ds
+uses_in _ = []

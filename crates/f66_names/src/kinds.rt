@@ -1,0 +1,330 @@
+// The types of expressions, and where statements have others than they ask for.
+ghost use Rattle.std.specs.Prelude.{◌≡◌, ◌&&◌};
+ghost use Rattle.rule_table.specs.Words.{is_some_and};
+ghost use Rattle.f66_tree.specs.Views.{formula_of, formulas_of, par_of, entry_of, entries_of, act_of};
+ghost use Rattle.f66_tree.specs.Forms.{Applied};
+ghost use Rattle.f66_tree.specs.Built.{is_arithmetic};
+ghost use Rattle.f66_names.specs.Sorts.{is_integer};
+ghost use Rattle.f66_names.specs.Kinds.{is_number, is_index, is_times, is_plus_or_minus, is_multiple, is_shifted, is_subscript, are_subscripts, same_kind, is_kind, is_connective, operand, outcome, when, kind_applied, kind_in, are_integers, takes_kind, is_counting, is_listed, is_entry, are_entries, clashes};
+ghost use Rattle.f66_tree.specs.Units.{kind_of};
+ghost use Rattle.f66_names.specs.DeclarationViews.{context_in};
+
+use crate::NameForm;
+use crate::declarations::Declarations;
+use crate::sorts::{form_of, is_array, is_counter, is_integer, kind_of};
+use f66_tree::{Entry, Expr, Name, Operator, Par, StmtKind};
+use ground::Kind;
+
+/// Whether a statement has an operand, a subscript, an argument or a value of another type than it asks for
+/// (X3.9-1966, sections 5.1.3.3, 6, 7.1 and 8.2).
+pub fn clashes(declarations: &Declarations, kind: &StmtKind) -> bool
+    ensures { result ≡ clashes (context_in declarations.now) (act_of kind.now) }
+{
+    match kind {
+        StmtKind::Assign(target, value) => !takes_value(declarations, target, value),
+        StmtKind::Computed(_, index) => !is_counter(declarations, index),
+        StmtKind::Sign(e, _, _, _) => !has_kind(declarations, Kind::Integer, e),
+        StmtKind::When(test, inner) => {
+            !has_kind(declarations, Kind::Logical, test) || clashes(declarations, inner)
+        }
+        StmtKind::Loop(_, variable, first, last, step) => {
+            !counts_integers(declarations, variable, first, last, step)
+        }
+        StmtKind::Write(unit, _, list) => {
+            !(is_counting(declarations, unit) && are_entries(declarations, list))
+        }
+        _ => false,
+    }
+}
+
+/// Whether the variable and the parameters of a DO are integers (section 7.1.2.8).
+pub fn counts_integers(
+    declarations: &Declarations,
+    variable: &Name,
+    first: &Par,
+    last: &Par,
+    step: &Par,
+) -> bool
+    ensures { result
+        ≡ (is_integer (kind_of (context_in declarations.now) variable.now)
+        && (is_counting (context_in declarations.now) (par_of first.now) && (is_counting (context_in declarations.now) (par_of last.now) && is_counting (context_in declarations.now) (par_of step.now)))) }
+{
+    is_integer(kind_of(declarations, variable))
+        && (is_counting(declarations, first)
+            && (is_counting(declarations, last) && is_counting(declarations, step)))
+}
+
+/// The type of an expression, or None where its operands clash (sections 6 and 8.2).
+#[cycle(kind_in)]
+fn kind_in(declarations: &Declarations, e: &Expr) -> Option<Kind>
+    ensures { result ≡ kind_in (context_in declarations.now) (formula_of e.now) }
+{
+    match e {
+        Expr::Int(_) => Some(Kind::Integer),
+        Expr::Truth(_) => Some(Kind::Logical),
+        Expr::Letter(_) => None,
+        Expr::Ref(name) => when(!is_array(declarations, name), kind_of(declarations, name)),
+        Expr::Item(name, list) => kind_of_item(declarations, name, list),
+        Expr::Group(a) => kind_in(declarations, a),
+        Expr::Plus(a) => when(
+            is_kind(Kind::Integer, kind_in(declarations, a)),
+            Kind::Integer,
+        ),
+        Expr::Minus(a) => when(
+            is_kind(Kind::Integer, kind_in(declarations, a)),
+            Kind::Integer,
+        ),
+        Expr::Not(a) => when(
+            is_kind(Kind::Logical, kind_in(declarations, a)),
+            Kind::Logical,
+        ),
+        Expr::Pair(operator, a, b) => {
+            let left = is_kind(operand(*operator), kind_in(declarations, a));
+            let right = is_kind(operand(*operator), kind_in(declarations, b));
+            when(left && right, outcome(*operator))
+        }
+    }
+}
+
+#[cycle(kind_in)]
+fn kind_of_item(declarations: &Declarations, name: &Name, list: &[Expr]) -> Option<Kind>
+    ensures { result ≡ kind_in (context_in declarations.now) (Applied name.now (formulas_of list.now)) }
+{
+    let fit = are_subscripts(declarations, list);
+    let whole = are_integers(declarations, list);
+    let kind = kind_of(declarations, name);
+    kind_applied(form_of(declarations, name), kind, fit, whole)
+}
+
+#[cycle(kind_in)]
+fn are_integers(declarations: &Declarations, list: &[Expr]) -> bool
+    ensures { result ≡ are_integers (context_in declarations.now) (formulas_of list.now) }
+{
+    for e in list {
+        if !is_kind(Kind::Integer, kind_in(declarations, e)) {
+            return false;
+        }
+    }
+    true
+}
+
+/// Whether an expression has this type.
+pub fn has_kind(declarations: &Declarations, kind: Kind, e: &Expr) -> bool
+    ensures { result ≡ is_kind kind (kind_in (context_in declarations.now) (formula_of e.now)) }
+{
+    is_kind(kind, kind_in(declarations, e))
+}
+
+/// Whether there is a type, and it is this one.
+fn is_kind(kind: Kind, found: Option<Kind>) -> bool
+    ensures { result ≡ is_kind kind found }
+{
+    match found {
+        Some(other) => same_kind(kind, other),
+        None => false,
+    }
+}
+
+fn same_kind(a: Kind, b: Kind) -> bool
+    ensures { result ≡ same_kind a b }
+{
+    match (a, b) {
+        (Kind::Integer, Kind::Integer) | (Kind::Logical, Kind::Logical) => true,
+        (Kind::Integer, Kind::Logical) | (Kind::Logical, Kind::Integer) => false,
+    }
+}
+
+fn when(holds: bool, kind: Kind) -> Option<Kind>
+    ensures { result ≡ when holds kind }
+{
+    if holds { Some(kind) } else { None }
+}
+
+/// The type of an element with fit subscripts, or of a value of an intrinsic function.
+fn kind_applied(form: NameForm, kind: Kind, fit: bool, whole: bool) -> Option<Kind>
+    ensures { result ≡ kind_applied form kind fit whole }
+{
+    match form {
+        NameForm::Array(_) => when(fit, kind),
+        NameForm::Intrinsic(_) => when(is_integer(kind) && whole, Kind::Integer),
+        NameForm::Plain => None,
+    }
+}
+
+fn is_connective(operator: Operator) -> bool
+    ensures { result ≡ is_connective operator }
+{
+    matches!(operator, Operator::And | Operator::Or)
+}
+
+fn is_arithmetic(operator: Operator) -> bool
+    ensures { result ≡ is_arithmetic operator }
+{
+    matches!(
+        operator,
+        Operator::Add | Operator::Sub | Operator::Mul | Operator::Div | Operator::Power
+    )
+}
+
+fn operand(operator: Operator) -> Kind
+    ensures { result ≡ operand operator }
+{
+    if is_connective(operator) {
+        Kind::Logical
+    } else {
+        Kind::Integer
+    }
+}
+
+fn outcome(operator: Operator) -> Kind
+    ensures { result ≡ outcome operator }
+{
+    if is_arithmetic(operator) {
+        Kind::Integer
+    } else {
+        Kind::Logical
+    }
+}
+
+fn is_number(e: &Expr) -> bool
+    ensures { result ≡ is_number (formula_of e.now) }
+{
+    matches!(e, Expr::Int(_))
+}
+
+fn is_index(declarations: &Declarations, e: &Expr) -> bool
+    ensures { result ≡ is_index (context_in declarations.now) (formula_of e.now) }
+{
+    match e {
+        Expr::Ref(name) => is_counter(declarations, name),
+        _ => false,
+    }
+}
+
+fn is_times(operator: Operator) -> bool
+    ensures { result ≡ is_times operator }
+{
+    matches!(operator, Operator::Mul)
+}
+
+fn is_plus_or_minus(operator: Operator) -> bool
+    ensures { result ≡ is_plus_or_minus operator }
+{
+    matches!(operator, Operator::Add | Operator::Sub)
+}
+
+/// Whether it is `v` or `c*v`.
+fn is_multiple(declarations: &Declarations, e: &Expr) -> bool
+    ensures { result ≡ is_multiple (context_in declarations.now) (formula_of e.now) }
+{
+    match e {
+        Expr::Ref(name) => is_counter(declarations, name),
+        Expr::Pair(operator, a, b) => {
+            is_times(*operator) && (is_number(a) && is_index(declarations, b))
+        }
+        _ => false,
+    }
+}
+
+/// Whether it is `v` or `c*v` with a constant added or taken off.
+fn is_shifted(declarations: &Declarations, e: &Expr) -> bool
+    ensures { result ≡ is_shifted (context_in declarations.now) (formula_of e.now) }
+{
+    match e {
+        Expr::Pair(operator, a, b) => {
+            is_plus_or_minus(*operator) && (is_multiple(declarations, a) && is_number(b))
+        }
+        _ => false,
+    }
+}
+
+/// Whether it has one of the seven forms of a subscript (section 5.1.3.3).
+fn is_subscript(declarations: &Declarations, e: &Expr) -> bool
+    ensures { result ≡ is_subscript (context_in declarations.now) (formula_of e.now) }
+{
+    is_number(e) || (is_multiple(declarations, e) || is_shifted(declarations, e))
+}
+
+fn are_subscripts(declarations: &Declarations, list: &[Expr]) -> bool
+    ensures { result ≡ are_subscripts (context_in declarations.now) (formulas_of list.now) }
+{
+    for e in list {
+        if !is_subscript(declarations, e) {
+            return false;
+        }
+    }
+    true
+}
+
+fn takes_value(declarations: &Declarations, target: &Expr, value: &Expr) -> bool
+    ensures { result ≡ is_some_and (takes_kind (context_in declarations.now) (formula_of target.now)) (kind_in (context_in declarations.now) (formula_of value.now)) }
+{
+    match kind_in(declarations, value) {
+        Some(kind) => takes_kind(declarations, target, kind),
+        None => false,
+    }
+}
+
+/// Whether a target takes a value of this type, or is none.
+fn takes_kind(declarations: &Declarations, target: &Expr, kind: Kind) -> bool
+    ensures { result ≡ takes_kind (context_in declarations.now) (formula_of target.now) kind }
+{
+    match target {
+        Expr::Ref(name) => {
+            is_array(declarations, name) || same_kind(kind_of(declarations, name), kind)
+        }
+        Expr::Item(name, list) => takes_element(declarations, name, list, kind),
+        _ => true,
+    }
+}
+
+fn takes_element(declarations: &Declarations, name: &Name, list: &[Expr], kind: Kind) -> bool
+    ensures { result ≡ takes_kind (context_in declarations.now) (Applied name.now (formulas_of list.now)) kind }
+{
+    !is_array(declarations, name)
+        || (are_subscripts(declarations, list) && same_kind(kind_of(declarations, name), kind))
+}
+
+fn is_counting(declarations: &Declarations, par: &Par) -> bool
+    ensures { result ≡ is_counting (context_in declarations.now) (par_of par.now) }
+{
+    match par {
+        Par::Number(_) => true,
+        Par::Variable(name) => is_counter(declarations, name),
+    }
+}
+
+fn is_listed(declarations: &Declarations, e: &Expr) -> bool
+    ensures { result ≡ is_listed (context_in declarations.now) (formula_of e.now) }
+{
+    match e {
+        Expr::Item(name, list) => is_listed_element(declarations, name, list),
+        _ => true,
+    }
+}
+
+fn is_listed_element(declarations: &Declarations, name: &Name, list: &[Expr]) -> bool
+    ensures { result ≡ is_listed (context_in declarations.now) (Applied name.now (formulas_of list.now)) }
+{
+    is_array(declarations, name) && are_subscripts(declarations, list)
+}
+
+fn is_entry(declarations: &Declarations, entry: &Entry) -> bool
+    ensures { result ≡ is_entry (context_in declarations.now) (entry_of entry.now) }
+{
+    match entry {
+        Entry::Item(e) => is_listed(declarations, e),
+        Entry::Many(_, _, _, _, _) => true,
+    }
+}
+
+fn are_entries(declarations: &Declarations, list: &[Entry]) -> bool
+    ensures { result ≡ are_entries (context_in declarations.now) (entries_of list.now) }
+{
+    for entry in list {
+        if !is_entry(declarations, entry) {
+            return false;
+        }
+    }
+    true
+}

@@ -1,0 +1,22 @@
+//! The rules of names, types, counts, constants and stores in one unit of FORTRAN 66, statement by statement.
+#![tactic(auto)]
+
+mod built;
+mod classes;
+mod declarations;
+mod kinds;
+mod name_form;
+mod name_rules;
+mod names;
+mod repeats;
+mod rules;
+mod shapes;
+mod sorts;
+mod store_rules;
+mod tables;
+mod uses;
+
+pub use built::is_built;
+pub use name_form::{Arity, Class, Manner, NameForm};
+pub use names::{Names, names_of};
+pub use rules::{broken_rule, condition_rule, counting_rule, value_rule};

@@ -1,0 +1,201 @@
+// The rules of names: their lengths, types, counts and classes.
+ghost use Rattle.std.specs.Prelude.{◌≡◌, ◌||◌, not, map};
+ghost use Rattle.std.specs.List.{list_any};
+ghost use Rattle.f66_tree.specs.Views.{declared_of, act_of};
+ghost use Rattle.f66_names.specs.Declaring.{is_sized};
+ghost use Rattle.f66_names.specs.Uses.{uses_in};
+ghost use Rattle.f66_names.specs.UseViews.{use_of};
+ghost use Rattle.f66_names.specs.Sorts.{type_of};
+ghost use Rattle.f66_names.specs.NameRules.{has_name, is_long, is_other, gives_other, has_other_type, has_many_sizes, has_wrong_sizes, miscounts_by, miscounts, has_wrong_count, misuses};
+ghost use Rattle.f66_names.specs.DeclarationViews.{context_in, acts_in};
+
+use crate::classes::{class_used, has_other_class};
+use crate::declarations::Declarations;
+use crate::names::Names;
+use crate::sorts::{form_of, takes, type_of};
+use crate::tables::declared_in;
+use crate::uses::Use;
+use crate::{Manner, NameForm};
+use f66_tree::{Declared, Name, StmtKind, TypeWord};
+
+/// Whether a name of a statement has more than six characters (X3.9-1966, section 3.5).
+#[tactic(auto, using(rule_table::proofs::WordLemmas::list_any_map))]
+pub fn has_long_name(kind: &StmtKind, uses: &[Use]) -> bool
+    requires { map use_of uses.now ≡ uses_in (act_of kind.now) }
+    ensures { result ≡ has_name is_long (act_of kind.now) }
+{
+    has_long_declaration(declared_in(kind)) || has_long_use(uses)
+}
+
+/// Whether a statement gives a type outside the profile, or has a name of one (section 5.3).
+#[tactic(auto, using(rule_table::proofs::WordLemmas::list_any_map))]
+pub fn has_other_type(declarations: &Declarations, kind: &StmtKind, uses: &[Use]) -> bool
+    requires { map use_of uses.now ≡ uses_in (act_of kind.now) }
+    ensures { result ≡ has_other_type (context_in declarations.now) (act_of kind.now) }
+{
+    gives_other(kind)
+        || (has_other_declaration(declarations, declared_in(kind))
+            || has_other_use(declarations, uses))
+}
+
+/// Whether a statement has too many or too few dimensions, subscripts or arguments (sections 5.1.3.1 and 8.2).
+#[tactic(auto, using(rule_table::proofs::WordLemmas::list_any_map))]
+pub fn has_wrong_count(declarations: &Declarations, kind: &StmtKind, uses: &[Use]) -> bool
+    requires { map use_of uses.now ≡ uses_in (act_of kind.now) }
+    ensures { result ≡ has_wrong_count (context_in declarations.now) (act_of kind.now) }
+{
+    has_wrong_sizes(kind) || has_wrong_use(declarations, uses)
+}
+
+fn is_long(name: &Name) -> bool
+    ensures { result ≡ is_long name.now }
+{
+    name.as_bytes().len() > 6
+}
+
+#[tactic(auto, using(rule_table::proofs::WordLemmas::list_any_map))]
+pub fn has_long_use(uses: &[Use]) -> bool
+    ensures { result ≡ list_any (λ u. is_long u.name) (map use_of uses.now) }
+{
+    are_some_long(uses)
+}
+
+fn are_some_long(uses: &[Use]) -> bool
+    ensures { result ≡ list_any (λ u. is_long u.name.now) uses.now }
+{
+    uses.iter().any(|u| is_long(u.name))
+}
+
+fn has_long_declaration(list: &[Declared]) -> bool
+    ensures { result ≡ list_any (λ d. is_long d.name) list.now }
+{
+    list.iter().any(|d| is_long(&d.name))
+}
+
+fn is_other(word: TypeWord) -> bool
+    ensures { result ≡ is_other word }
+{
+    matches!(word, TypeWord::Other)
+}
+
+fn gives_other(kind: &StmtKind) -> bool
+    ensures { result ≡ gives_other (act_of kind.now) }
+{
+    match kind {
+        StmtKind::Typed(word, _) => is_other(*word),
+        _ => false,
+    }
+}
+
+fn is_foreign(declarations: &Declarations, name: &Name) -> bool
+    ensures { result ≡ is_other (type_of (context_in declarations.now) name.now) }
+{
+    is_other(type_of(declarations, name))
+}
+
+#[tactic(auto, using(rule_table::proofs::WordLemmas::list_any_map))]
+pub fn has_other_use(declarations: &Declarations, uses: &[Use]) -> bool
+    ensures { result ≡ list_any (λ u. is_other (type_of (context_in declarations.now) u.name)) (map use_of uses.now) }
+{
+    are_some_other(declarations, uses)
+}
+
+fn are_some_other(declarations: &Declarations, uses: &[Use]) -> bool
+    ensures { result ≡ list_any (λ u. is_other (type_of (context_in declarations.now) u.name.now)) uses.now }
+{
+    uses.iter().any(|u| is_foreign(declarations, u.name))
+}
+
+fn has_other_declaration(declarations: &Declarations, list: &[Declared]) -> bool
+    ensures { result ≡ list_any (λ d. is_other (type_of (context_in declarations.now) d.name)) list.now }
+{
+    list.iter().any(|d| is_foreign(declarations, &d.name))
+}
+
+fn has_many_sizes(declared: &Declared) -> bool
+    ensures { result ≡ has_many_sizes (declared_of declared.now) }
+{
+    declared.sizes.len() > 3
+}
+
+fn has_unfit_sizes(declared: &Declared) -> bool
+    ensures { result ≡ (not (is_sized (declared_of declared.now)) || has_many_sizes (declared_of declared.now)) }
+{
+    declared.sizes.is_empty() || has_many_sizes(declared)
+}
+
+fn are_some_many(list: &[Declared]) -> bool
+    ensures { result ≡ list_any (λ d. has_many_sizes (declared_of d)) list.now }
+{
+    list.iter().any(|d| has_many_sizes(d))
+}
+
+fn are_some_unfit(list: &[Declared]) -> bool
+    ensures { result ≡ list_any (λ d. not (is_sized (declared_of d)) || has_many_sizes (declared_of d)) list.now }
+{
+    list.iter().any(|d| has_unfit_sizes(d))
+}
+
+#[tactic(auto, using(rule_table::proofs::WordLemmas::list_any_map))]
+fn has_wrong_sizes(kind: &StmtKind) -> bool
+    ensures { result ≡ has_wrong_sizes (act_of kind.now) }
+{
+    match kind {
+        StmtKind::Typed(_, list) => are_some_many(list),
+        StmtKind::Dimension(list) => are_some_unfit(list),
+        _ => false,
+    }
+}
+
+fn miscounts_by(form: NameForm, manner: Manner) -> bool
+    ensures { result ≡ miscounts_by form manner }
+{
+    match manner {
+        Manner::Alone => false,
+        Manner::With(count) => !takes(form, count),
+        Manner::Stored(count) => match form {
+            NameForm::Array(_) => !takes(form, count),
+            NameForm::Intrinsic(_) | NameForm::Plain => false,
+        },
+    }
+}
+
+fn miscounts(declarations: &Declarations, used: &Use) -> bool
+    ensures { result ≡ miscounts (context_in declarations.now) (use_of used.now) }
+{
+    miscounts_by(form_of(declarations, used.name), used.manner)
+}
+
+#[tactic(auto, using(rule_table::proofs::WordLemmas::list_any_map))]
+pub fn has_wrong_use(declarations: &Declarations, uses: &[Use]) -> bool
+    ensures { result ≡ list_any (miscounts (context_in declarations.now)) (map use_of uses.now) }
+{
+    are_some_wrong(declarations, uses)
+}
+
+fn are_some_wrong(declarations: &Declarations, uses: &[Use]) -> bool
+    ensures { result ≡ list_any (λ u. miscounts (context_in declarations.now) (use_of u)) uses.now }
+{
+    uses.iter().any(|u| miscounts(declarations, u))
+}
+
+fn misuses(names: &Names, used: &Use) -> bool
+    ensures { result ≡ misuses (context_in names.now.declarations) (acts_in names.now.declarations) (use_of used.now) }
+{
+    let first = names.classes.get(used.name.as_bytes()).copied();
+    has_other_class(class_used(&names.declarations, used), first)
+}
+
+/// Whether a name is used in another class than its first one (section 10.1).
+#[tactic(auto, using(rule_table::proofs::WordLemmas::list_any_map))]
+pub fn has_misuse(names: &Names, uses: &[Use]) -> bool
+    ensures { result ≡ list_any (misuses (context_in names.now.declarations) (acts_in names.now.declarations)) (map use_of uses.now) }
+{
+    are_some_misused(names, uses)
+}
+
+fn are_some_misused(names: &Names, uses: &[Use]) -> bool
+    ensures { result ≡ list_any (λ u. misuses (context_in names.now.declarations) (acts_in names.now.declarations) (use_of u)) uses.now }
+{
+    uses.iter().any(|u| misuses(names, u))
+}

@@ -1,0 +1,133 @@
+// What names are in a unit: their types and forms.
+ghost use Rattle.std.specs.Prelude.{◌≡◌};
+ghost use Rattle.std.specs.Str.{bytes_eq};
+ghost use Rattle.f66_tree.specs.Units.{by_header, by_letter, kind_by, kind_of};
+ghost use Rattle.f66_tree.specs.Views.{header_of};
+ghost use Rattle.f66_tree.specs.Evaluation.{known, intrinsics};
+ghost use Rattle.f66_names.specs.Sorts.{form_by, form_of, is_array, type_of, takes_many, takes, is_integer, is_counter};
+ghost use Rattle.f66_names.specs.DeclarationViews.{context_in};
+
+use crate::declarations::Declarations;
+use crate::{Arity, NameForm};
+use f66_tree::{Header, Name, TypeWord};
+use ground::Kind;
+
+/// What a name is: an array, an intrinsic function, or something else.
+pub fn form_of(declarations: &Declarations, name: &Name) -> NameForm
+    ensures { result ≡ form_of (context_in declarations.now) name.now }
+{
+    match declarations.counts.get(name.as_bytes()) {
+        Some(count) => NameForm::Array(*count),
+        None => intrinsic_form(name),
+    }
+}
+
+pub fn is_array(declarations: &Declarations, name: &Name) -> bool
+    ensures { result ≡ is_array (context_in declarations.now) name.now }
+{
+    matches!(form_of(declarations, name), NameForm::Array(_))
+}
+
+/// The type of a name (X3.9-1966, section 5.3).
+pub fn type_of(declarations: &Declarations, name: &Name) -> TypeWord
+    ensures { result ≡ type_of (context_in declarations.now) name.now }
+{
+    match declarations.words.get(name.as_bytes()) {
+        Some(word) => *word,
+        None => by_header(declarations.header, name),
+    }
+}
+
+pub fn kind_of(declarations: &Declarations, name: &Name) -> Kind
+    ensures { result ≡ kind_of (context_in declarations.now) name.now }
+{
+    match type_of(declarations, name) {
+        TypeWord::Logical => Kind::Logical,
+        TypeWord::Integer | TypeWord::Other => Kind::Integer,
+    }
+}
+
+pub fn is_integer(kind: Kind) -> bool
+    ensures { result ≡ is_integer kind }
+{
+    matches!(kind, Kind::Integer)
+}
+
+/// Whether a name is an integer variable.
+pub fn is_counter(declarations: &Declarations, name: &Name) -> bool
+    ensures { result ≡ is_counter (context_in declarations.now) name.now }
+{
+    !is_array(declarations, name) && is_integer(kind_of(declarations, name))
+}
+
+/// Whether an array has so many dimensions, or an intrinsic function takes so many arguments.
+pub fn takes(form: NameForm, count: usize) -> bool
+    ensures { result ≡ takes form count }
+{
+    match form {
+        NameForm::Array(dimensions) => count == dimensions,
+        NameForm::Intrinsic(arity) => takes_many(arity, count),
+        NameForm::Plain => true,
+    }
+}
+
+fn takes_many(arity: Arity, count: usize) -> bool
+    ensures { result ≡ takes_many arity count }
+{
+    match arity {
+        Arity::One => count == 1,
+        Arity::Two => count == 2,
+        Arity::More => count >= 2,
+    }
+}
+
+fn is_text(name: &Name, text: &[u8]) -> bool
+    ensures { result ≡ bytes_eq text.now name.now }
+{
+    text == name.as_bytes()
+}
+
+fn intrinsic_form(name: &Name) -> NameForm
+    ensures { result ≡ form_by (known intrinsics name.now) }
+{
+    if is_text(name, b"IABS") {
+        NameForm::Intrinsic(Arity::One)
+    } else if is_text(name, b"MOD") || is_text(name, b"ISIGN") || is_text(name, b"IDIM") {
+        NameForm::Intrinsic(Arity::Two)
+    } else if is_text(name, b"MAX0") || is_text(name, b"MIN0") {
+        NameForm::Intrinsic(Arity::More)
+    } else {
+        NameForm::Plain
+    }
+}
+
+/// The type of a name that no statement declares.
+fn by_header(header: &Header, name: &Name) -> TypeWord
+    ensures { result ≡ by_header name.now (header_of header.now) }
+{
+    match header {
+        Header::Func(Some(word), own, _) => {
+            if name.is_same(own) {
+                *word
+            } else {
+                by_letter(name)
+            }
+        }
+        _ => by_letter(name),
+    }
+}
+
+fn by_letter(name: &Name) -> TypeWord
+    ensures { result ≡ by_letter name.now }
+{
+    match name.as_bytes() {
+        [first, ..] => {
+            if b'I' <= *first && *first <= b'N' {
+                TypeWord::Integer
+            } else {
+                TypeWord::Other
+            }
+        }
+        [] => TypeWord::Other,
+    }
+}

@@ -1,0 +1,216 @@
+// Tables of what the statements of a unit declare.
+ghost use Rattle.std.specs.Prelude.{◌≡◌, List, ℕ, IfOk, OnOk, Some, None, if◌then◌else◌, ◌&&◌, map, filter};
+ghost use Rattle.std.specs.HashMap.{get_by};
+ghost use Rattle.std.specs.List.{list_any, flat_map};
+ghost use Rattle.std.specs.Option.{option_or};
+ghost use Rattle.std.specs.Str.{bytes_eq};
+ghost use Rattle.rule_table.specs.Words.{first_place, find_map};
+ghost use Rattle.f66_tree.specs.Views.{declared_of, area_of, act_of};
+ghost use Rattle.f66_names.specs.ActViews.{acts_of};
+ghost use Rattle.f66_names.specs.Declaring.{names, is_sized, typed_in, declared_in, sized_in, types, sizes, type_given, count_by, count_in};
+
+use f66_tree::{Area, Declared, StmtKind, TypeWord};
+use rule_table::note;
+use std::alloc::{AllocError, Global};
+use std::collections::HashMap;
+
+/// The declared type of each name.
+pub fn word_table<'a>(
+    alloc: Global,
+    acts: &'a [&'a StmtKind],
+) -> Result<HashMap<&'a [u8], TypeWord>, AllocError>
+    ensures { IfOk result
+        (λ m. (q : List ℕ) → get_by (λ k. bytes_eq q k.now) m ≡ find_map (type_given q) (acts_of acts.now)) }
+{
+    let mut table = HashMap::new(alloc);
+    for kind in acts {
+        note_word(&mut table, *kind)?;
+    }
+    Ok(table)
+}
+
+/// The number of dimensions of each name that has some.
+pub fn count_table<'a>(
+    alloc: Global,
+    acts: &'a [&'a StmtKind],
+) -> Result<HashMap<&'a [u8], usize>, AllocError>
+    ensures { IfOk result
+        (λ m. (q : List ℕ) → get_by (λ k. bytes_eq q k.now) m ≡ find_map (count_in q) (acts_of acts.now)) }
+{
+    let mut table = HashMap::new(alloc);
+    for kind in acts {
+        note_counts_in(&mut table, *kind)?;
+    }
+    Ok(table)
+}
+
+/// The first statement that gives a name its type, for each name.
+pub fn typed_table<'a>(
+    alloc: Global,
+    acts: &'a [&'a StmtKind],
+) -> Result<HashMap<&'a [u8], usize>, AllocError>
+    ensures { IfOk result
+        (λ m. (q : List ℕ) → get_by (λ k. bytes_eq q k.now) m ≡ first_place (types q) (acts_of acts.now)) }
+{
+    let mut table = HashMap::new(alloc);
+    for (i, kind) in acts.iter().enumerate() {
+        note_all(&mut table, typed_in(*kind), i)?;
+    }
+    Ok(table)
+}
+
+/// The first type statement or DIMENSION that gives a name its dimensions, for each name.
+pub fn sized_table<'a>(
+    alloc: Global,
+    acts: &'a [&'a StmtKind],
+) -> Result<HashMap<&'a [u8], usize>, AllocError>
+    ensures { IfOk result
+        (λ m. (q : List ℕ) → get_by (λ k. bytes_eq q k.now) m ≡ first_place (sizes q) (acts_of acts.now)) }
+{
+    let mut table = HashMap::new(alloc);
+    for (i, kind) in acts.iter().enumerate() {
+        note_all_sized(&mut table, declared_in(*kind), i)?;
+    }
+    Ok(table)
+}
+
+/// The names whose type a statement gives (X3.9-1966, section 7.2.1.6).
+pub fn typed_in(kind: &StmtKind) -> &[Declared]
+    ensures { map declared_of result.now ≡ typed_in (act_of kind.now) }
+{
+    match kind {
+        StmtKind::Typed(_, list) => list.as_slice(),
+        _ => &[],
+    }
+}
+
+/// The names that a type statement or DIMENSION lists (section 7.2.1).
+pub fn declared_in(kind: &StmtKind) -> &[Declared]
+    ensures { map declared_of result.now ≡ declared_in (act_of kind.now) }
+{
+    match kind {
+        StmtKind::Typed(_, list) => list.as_slice(),
+        StmtKind::Dimension(list) => list.as_slice(),
+        _ => &[],
+    }
+}
+
+fn note_word<'a>(
+    table: &mut HashMap<&'a [u8], TypeWord>,
+    kind: &'a StmtKind,
+) -> Result<(), AllocError>
+    ensures { OnOk result
+        ((q : List ℕ) → get_by (λ k. bytes_eq q k.now) table.new
+        ≡ option_or (get_by (λ k. bytes_eq q k.now) table.old) (type_given q (act_of kind.now))) }
+{
+    match kind {
+        StmtKind::Typed(word, list) => note_all(table, list.as_slice(), *word),
+        _ => Ok(()),
+    }
+}
+
+/// Notes one value of each name.
+fn note_all<'a, V: Copy>(
+    table: &mut HashMap<&'a [u8], V>,
+    list: &'a [Declared],
+    value: V,
+) -> Result<(), AllocError>
+    ensures { OnOk result
+        ((q : List ℕ) → get_by (λ k. bytes_eq q k.now) table.new
+        ≡ option_or (get_by (λ k. bytes_eq q k.now) table.old) (if list_any (names q) (map declared_of list.now) then Some value else None)) }
+{
+    for declared in list {
+        note(table, declared.name.as_bytes(), value)?;
+    }
+    Ok(())
+}
+
+/// Notes a place of a name that has dimensions.
+fn note_sized<'a>(
+    table: &mut HashMap<&'a [u8], usize>,
+    declared: &'a Declared,
+    place: usize,
+) -> Result<(), AllocError>
+    ensures { OnOk result
+        ((q : List ℕ) → get_by (λ k. bytes_eq q k.now) table.new
+        ≡ option_or (get_by (λ k. bytes_eq q k.now) table.old)
+        (if is_sized (declared_of declared.now) && names q (declared_of declared.now) then Some place else None)) }
+{
+    if declared.sizes.is_empty() {
+        return Ok(());
+    }
+    note(table, declared.name.as_bytes(), place)
+}
+
+fn note_all_sized<'a>(
+    table: &mut HashMap<&'a [u8], usize>,
+    list: &'a [Declared],
+    place: usize,
+) -> Result<(), AllocError>
+    ensures { OnOk result
+        ((q : List ℕ) → get_by (λ k. bytes_eq q k.now) table.new
+        ≡ option_or (get_by (λ k. bytes_eq q k.now) table.old)
+        (if list_any (names q) (filter is_sized (map declared_of list.now)) then Some place else None)) }
+{
+    for declared in list {
+        note_sized(table, declared, place)?;
+    }
+    Ok(())
+}
+
+/// Notes the number of dimensions of a name that has some.
+fn note_count<'a>(
+    table: &mut HashMap<&'a [u8], usize>,
+    declared: &'a Declared,
+) -> Result<(), AllocError>
+    ensures { OnOk result
+        ((q : List ℕ) → get_by (λ k. bytes_eq q k.now) table.new
+        ≡ option_or (get_by (λ k. bytes_eq q k.now) table.old) (count_by q (declared_of declared.now))) }
+{
+    if declared.sizes.is_empty() {
+        return Ok(());
+    }
+    note(table, declared.name.as_bytes(), declared.sizes.len())
+}
+
+fn note_counts<'a>(
+    table: &mut HashMap<&'a [u8], usize>,
+    list: &'a [Declared],
+) -> Result<(), AllocError>
+    ensures { OnOk result
+        ((q : List ℕ) → get_by (λ k. bytes_eq q k.now) table.new
+        ≡ option_or (get_by (λ k. bytes_eq q k.now) table.old) (find_map (count_by q) (map declared_of list.now))) }
+{
+    for declared in list {
+        note_count(table, declared)?;
+    }
+    Ok(())
+}
+
+fn note_areas<'a>(table: &mut HashMap<&'a [u8], usize>, areas: &'a [Area]) -> Result<(), AllocError>
+    ensures { OnOk result
+        ((q : List ℕ) → get_by (λ k. bytes_eq q k.now) table.new
+        ≡ option_or (get_by (λ k. bytes_eq q k.now) table.old) (find_map (count_by q) (flat_map (λ a. a.list) (map area_of areas.now)))) }
+{
+    for area in areas {
+        note_counts(table, &area.list)?;
+    }
+    Ok(())
+}
+
+/// Notes the numbers of dimensions that a statement gives.
+fn note_counts_in<'a>(
+    table: &mut HashMap<&'a [u8], usize>,
+    kind: &'a StmtKind,
+) -> Result<(), AllocError>
+    ensures { OnOk result
+        ((q : List ℕ) → get_by (λ k. bytes_eq q k.now) table.new
+        ≡ option_or (get_by (λ k. bytes_eq q k.now) table.old) (count_in q (act_of kind.now))) }
+{
+    match kind {
+        StmtKind::Typed(_, list) => note_counts(table, list),
+        StmtKind::Dimension(list) => note_counts(table, list),
+        StmtKind::Common(areas) => note_areas(table, areas),
+        _ => Ok(()),
+    }
+}
