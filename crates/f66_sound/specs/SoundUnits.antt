@@ -1,0 +1,34 @@
+-- Which main units the rules of names let pass, and the law of them: no run of one ends Wrong.
+use Rattle.std.specs.Prelude.{◌≡◌, ◌≢◌, ℕ, Bool, true, false, List, map, Option, Some, is_some, slice_get}
+use Rattle.ground.specs.declared.fault.FaultKind.{FaultKind}
+use Rattle.f66_tree.specs.Forms.{MainUnit, Act, Chooses, Writes, Line}
+use Rattle.f66_tree.specs.World.{Record, Wrong, Ended}
+use Rattle.f66_tree.specs.Units.{Note, Context, notes_of, format_of}
+use Rattle.f66_tree.specs.OneUnit.{executed}
+use Rattle.f66_names.specs.BuiltActs.{is_built}
+use Rattle.f66_names.specs.Rules.{breaks_name}
+
+-- what the statements of a unit say
+abbrev pub acts_of : List Line → List Act
+acts_of code = map (λ s. s.act) code
+
+-- what names mean in a main unit of these statements
+abbrev pub main_context : List Line → Context
+main_context code = record { header = MainUnit; notes = notes_of code }
+
+-- the FORMAT of a WRITE is there
+abbrev pub finds_format : List Note → Act → Bool
+finds_format notes (Writes u l es) = is_some (format_of l notes)
+finds_format notes (Chooses e a) = finds_format notes a
+finds_format notes _ = true
+
+-- Each statement is built, and breaks no rule of names, types, counts, constants and stores; each WRITE finds its FORMAT.
+-- Nothing is asked of labels otherwise, nor of the order of the statements or the nesting of DO loops.
+pub record IsSoundMain (code : List Line) : Type 0 where
+  pub built : (i : ℕ) (a : Act) → slice_get (acts_of code) i ≡ Some a → is_built (main_context code) a ≡ true
+  pub clean : (i : ℕ) (a : Act) → slice_get (acts_of code) i ≡ Some a → (k : FaultKind) → breaks_name (main_context code) (acts_of code) i a k ≡ false
+  pub formats : (i : ℕ) (a : Act) → slice_get (acts_of code) i ≡ Some a → finds_format (notes_of code) a ≡ true
+
+-- a sound main unit never goes wrong, on any input and at any bound
+abbrev pub SoundNeverWrong : Type 0
+SoundNeverWrong = (code : List Line) → IsSoundMain code → (input : List Record) (n : ℕ) → (executed code input n).end ≢ Ended Wrong
