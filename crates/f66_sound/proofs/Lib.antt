@@ -1,1 +1,2 @@
 pub mod RightlyLemmas
+pub mod KindLemmas
