@@ -1,2 +1,4 @@
 pub mod RightlyLemmas
 pub mod KindLemmas
+pub mod ContentLemmas
+pub mod ValueLemmas
