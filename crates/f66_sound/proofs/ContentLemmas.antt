@@ -1,6 +1,6 @@
 -- Operations on contents of the types that they ask for do not fail.
 use Rattle.std.proofs.Common.{◌≡◌, ◌+◌, ◌==◌, ℕ, zero, suc, Bool, true, false, List, [], ◌∷◌, length, Option, Some, None, Result, Ok, Err, refl, sym, ◌∙◌, arith}
-use Rattle.std.specs.Prelude.{ℤ, ◌≤◌, int_le, nat_lt, unsigned_abs, ◌-ℤ◌, pos, ◌*◌, ◌&&◌, if◌then◌else◌, ⊤}
+use Rattle.std.specs.Prelude.{ℤ, ◌≤◌, int_le, int_lt, nat_lt, unsigned_abs, ◌-ℤ◌, pos, ◌*◌, ◌&&◌, if◌then◌else◌, ⊤}
 use Rattle.std.proofs.lemmas.Bool.{eqb-true, leb-true}
 use Rattle.ground.specs.declared.trap.Trap.{Trap}
 use Rattle.ground.specs.declared.trap.Trap.TheVariants.{Subscript}
@@ -16,7 +16,7 @@ use Rattle.f66_tree.specs.Evaluation.{whole, on_whole, on_truth, operate, same_w
 use Rattle.f66_names.specs.Sorts.{arity, takes_many}
 use Rattle.f66_names.specs.Kinds.{is_connective, operand, outcome}
 use Rattle.f66_sound.specs.Rightly.{TriesRightly}
-use Rattle.f66_sound.proofs.RightlyLemmas.{then_rightly, if_rightly}
+use Rattle.f66_sound.proofs.RightlyLemmas.{then_rightly, if_both}
 
 -- a content of a type
 abbrev pub IsOfKind : Kind → Content → Type 0
@@ -89,11 +89,11 @@ truth_rightly _ h = absurd h
 
 farthest_rightly : (beats : ℤ → ℤ → Bool) (a : ℤ) (vs : List Content) → AllWhole vs → TriesRightly (IsOfKind Integer) (farthest beats a vs)
 farthest_rightly beats a [] h = tt
-farthest_rightly beats a (Whole b ∷ bs) h = if_rightly (IsOfKind Integer) (beats b a) (farthest beats b bs) (farthest beats a bs) (farthest_rightly beats b bs h.1) (farthest_rightly beats a bs h.1)
+farthest_rightly beats a (Whole b ∷ bs) h = if_both (TriesRightly (IsOfKind Integer)) (beats b a) (farthest beats b bs) (farthest beats a bs) (farthest_rightly beats b bs h.1) (farthest_rightly beats a bs h.1)
 farthest_rightly beats a (v ∷ vs) h = absurd h.0
 
 excess_rightly : (a b : ℤ) → TriesRightly (IsOfKind Integer) (excess a b)
-excess_rightly a b = if_rightly (IsOfKind Integer) _ (whole (difference a b)) (Yields (Whole (pos 0))) (whole_rightly (difference a b)) tt
+excess_rightly a b = if_both (TriesRightly (IsOfKind Integer)) (int_lt b a) (whole (difference a b)) (Yields (Whole (pos 0))) (whole_rightly (difference a b)) tt
 
 one_rightly : (vs : List Content) → length vs ≡ 1 → AllWhole vs → TriesRightly (IsOfKind Integer) (intrinsic Iabs vs)
 one_rightly [] e h = absurd (omega arith)
@@ -140,12 +140,12 @@ distance_rightly m [] [] e h k = tt
 distance_rightly m [] (d ∷ ds) e h k = absurd (omega arith)
 distance_rightly m (i ∷ is') [] e h k = absurd (omega arith)
 distance_rightly m (Whole i ∷ is') (Whole d ∷ ds) e h k =
-    if_rightly (λ n. ⊤) (int_le (pos 1) i && int_le i d) (then_try (distance (m * unsigned_abs d) is' ds) (λ n. Yields (unsigned_abs (i -ℤ pos 1) * m + n))) (Traps Subscript)
+    if_both (TriesRightly (λ n. ⊤)) (int_le (pos 1) i && int_le i d) (then_try (distance (m * unsigned_abs d) is' ds) (λ n. Yields (unsigned_abs (i -ℤ pos 1) * m + n))) (Traps Subscript)
     (then_rightly (λ n. ⊤) (λ n. ⊤) (distance (m * unsigned_abs d) is' ds) (λ n. Yields (unsigned_abs (i -ℤ pos 1) * m + n)) (distance_rightly (m * unsigned_abs d) is' ds (omega arith) h.1 k.1) (λ n _. tt)) tt
 distance_rightly m (Whole i ∷ is') (d ∷ ds) e h k = absurd k.0
 distance_rightly m (i ∷ is') (d ∷ ds) e h k = absurd h.0
 
 pub moved_rightly : (l : Linkage) (p : Spot) (n : ℕ) → TriesRightly (λ q. ⊤) (moved l p n)
-moved_rightly l (Held u x o) n = if_rightly (λ q. ⊤) (nat_lt (o + n) (places_of (sizes_of x (l.context u).notes))) (Yields (Held u x (o + n))) (Traps Subscript) tt tt
+moved_rightly l (Held u x o) n = if_both (TriesRightly (λ q. ⊤)) (nat_lt (o + n) (places_of (sizes_of x (l.context u).notes))) (Yields (Held u x (o + n))) (Traps Subscript) tt tt
 moved_rightly l (Lent c) zero = tt
 moved_rightly l (Lent c) (suc n) = tt

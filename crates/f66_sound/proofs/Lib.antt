@@ -2,3 +2,4 @@ pub mod RightlyLemmas
 pub mod KindLemmas
 pub mod ContentLemmas
 pub mod ValueLemmas
+pub mod StatementLemmas

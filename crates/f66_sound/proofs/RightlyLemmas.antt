@@ -34,6 +34,6 @@ pub choose_rightly : {A : Type 0} (P : A → World → Type 0) (b : Bool) (x y :
 choose_rightly P true x y h k = h
 choose_rightly P false x y h k = k
 
-pub if_rightly : {A : Type 0} (P : A → Type 0) (b : Bool) (x y : Try A) → TriesRightly P x → TriesRightly P y → TriesRightly P (if b then x else y)
-if_rightly P true x y h k = h
-if_rightly P false x y h k = k
+pub if_both : {X : Type 0} (P : X → Type 0) (b : Bool) (x y : X) → P x → P y → P (if b then x else y)
+if_both P true x y h k = h
+if_both P false x y h k = k

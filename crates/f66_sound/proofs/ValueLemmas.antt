@@ -7,7 +7,7 @@ use Rattle.std.proofs.lemmas.Bool.{and_parts, or_parts, not-false, eqb-true}
 use Rattle.ground.specs.declared.value.Kind.{Kind}
 use Rattle.ground.specs.declared.value.Kind.TheVariants.{Integer, Logical}
 use Rattle.ground.specs.Content.{Content, Nothing, Whole, Truth}
-use Rattle.f66_tree.specs.Forms.{Text, Formula, Number, Fact, Letter, Variable, Applied, Grouped, Positive, Negative, Negated, Joined, Formulas, Nought, Also, Par, Constant, Named, MainUnit}
+use Rattle.f66_tree.specs.Forms.{Text, Formula, Number, Fact, Letter, Variable, Applied, Grouped, Positive, Negative, Negated, Joined, Formulas, Nought, Also, Par, Constant, Named}
 use Rattle.f66_tree.specs.World.{World, Out, Gives, Halts, bind, Try, settle}
 use Rattle.f66_tree.specs.Units.{Note, Context, kind_of, sizes_of, Spot, Held, Setting, Frame}
 use Rattle.f66_tree.specs.OneUnit.{one_unit}
@@ -18,6 +18,7 @@ use Rattle.f66_names.specs.Uses.{Usage, many, uses_of, uses_of_all}
 use Rattle.f66_names.specs.Kinds.{is_kind, operand, outcome, kind_in, kind_applied, are_subscripts, are_integers}
 use Rattle.f66_names.specs.NameRules.{miscounts, miscounts_by}
 use Rattle.f66_names.specs.StoreRules.{is_bad_size}
+use Rattle.f66_sound.specs.SoundUnits.{in_main}
 use Rattle.f66_sound.specs.Rightly.{Rightly, NeverWrong, TriesRightly}
 use Rattle.f66_sound.proofs.RightlyLemmas.{bind_rightly, bind_any, settle_rightly}
 use Rattle.f66_sound.proofs.KindLemmas.{no_some, some_same, when_parts, is_kind_some, none_of_both, subscripts_whole}
@@ -39,7 +40,7 @@ known_fit (e ∷ es) x = by_name _ (known_fit es x)
     by_name true h = tt
     by_name false h = h
 
-array_fit : (ns : List Par) (x : Text) → FitSizes ns → FitSort (array_or ns x)
+pub array_fit : (ns : List Par) (x : Text) → FitSizes ns → FitSort (array_or ns x)
 array_fit [] x h = known_fit intrinsics x
 array_fit (n ∷ ns) x h = h
 
@@ -49,19 +50,28 @@ no_integers = record { number = refl; whole = tt }
 pub one_more : (n : ℕ) (v : Content) (vs : List Content) → IsOfKind Integer v → AreWhole n vs → AreWhole (n + 1) (v ∷ vs)
 one_more n v vs h k = let q = k.number in record { number = omega arith; whole = (h, k.whole) }
 
--- a main unit whose arrays have constant dimensions
-module _ (notes : List Note) (sizes_fit : (x : Text) → FitSizes (sizes_of x notes)) (call : ℕ → List Spot → World → Out ⊤) (begin : World → Out ⊤) (most : ℕ) (tick : ℕ → ℕ) where
-  abbrev pub main_setting : Setting
-  main_setting = record { linked = one_unit notes; call = call; begin = begin; most = most; tick = tick }
+-- a main unit whose arrays have constant dimensions, and the run around its statements
+pub record Main : Type 0 where
+  pub notes : List Note
+  pub sizes : (x : Text) → FitSizes (sizes_of x notes)
+  pub call : ℕ → List Spot → World → Out ⊤
+  pub begin : World → Out ⊤
+  pub most : ℕ
+  pub tick : ℕ → ℕ
 
+abbrev pub setting_of : Main → Setting
+setting_of m = record { linked = one_unit m.notes; call = m.call; begin = m.begin; most = m.most; tick = m.tick }
+
+-- subscripts and arguments are as many as their names take
+abbrev pub FitCounts : List Note → List Usage → Type 0
+FitCounts notes us = list_any (miscounts (in_main notes)) us ≡ false
+
+module _ (m : Main) where
   abbrev s : Setting
-  s = main_setting
+  s = setting_of m
 
   abbrev c : Context
-  c = record { header = MainUnit; notes = notes }
-
-  abbrev pub FitCounts : List Usage → Type 0
-  FitCounts us = list_any (miscounts c) us ≡ false
+  c = in_main m.notes
 
   pub load_rightly : (f : Frame) (k : Kind) (p : Spot) (w : World) → Rightly (λ v _. IsOfKind k v) (load s f k p w)
   load_rightly f k p w = settle_rightly (IsOfKind k) f.place (asked k (held s.linked p w.state.store)) w (asked_rightly k (held s.linked p w.state.store))
@@ -76,7 +86,7 @@ module _ (notes : List Note) (sizes_fit : (x : Text) → FitSizes (sizes_of x no
       (λ vs w1 k. subst (λ n. AreWhole n (Whole z ∷ vs)) (omega arith) (one_more (length ns) (Whole z) vs tt k))
   pars_rightly f (Named x ∷ ns) h w = let q : ⊥ = cc in absurd q
 
-  element_rightly : (f : Frame) (x : Text) (ns : List Par) → FitSizes ns → (vals : World → Out (List Content)) → ((w : World) → Rightly (λ vs _. AreWhole (length ns) vs) (vals w)) → (w : World) → NeverWrong (element s f x ns vals w)
+  pub element_rightly : (f : Frame) (x : Text) (ns : List Par) → FitSizes ns → (vals : World → Out (List Content)) → ((w : World) → Rightly (λ vs _. AreWhole (length ns) vs) (vals w)) → (w : World) → NeverWrong (element s f x ns vals w)
   element_rightly f x ns fit vals h w =
       bind_rightly (λ vs _. AreWhole (length ns) vs) (λ _ _. ⊤) (vals w) _ (h w) (λ is' w1 i.
       bind_rightly (λ vs _. AreWhole (length ns) vs) (λ _ _. ⊤) (pars_in s f ns w1) _ (pars_rightly f ns fit w1) (λ ds w2 d.
@@ -106,14 +116,14 @@ module _ (notes : List Note) (sizes_fit : (x : Text) → FitSizes (sizes_of x no
       (bind_rightly (λ v _. IsOfKind j v) (λ v _. IsOfKind j v) o _ a (λ v w q. settle_rightly (IsOfKind j) f.place (op v) w (h v q)))
 
   mutual
-    pub value_rightly : (f : Frame) (e : Formula) (k : Kind) → kind_in c e ≡ Some k → FitCounts (uses_of e) → (w : World) → Rightly (λ v _. IsOfKind k v) (value_of s f e w)
+    pub value_rightly : (f : Frame) (e : Formula) (k : Kind) → kind_in c e ≡ Some k → FitCounts m.notes (uses_of e) → (w : World) → Rightly (λ v _. IsOfKind k v) (value_of s f e w)
     value_rightly f (Number z) k e u w = subst (λ j. IsOfKind j (Whole z)) (some_same e) tt
     value_rightly f (Fact b) k e u w = subst (λ j. IsOfKind j (Truth b)) (some_same e) tt
     value_rightly f (Letter l) k e u w = no_some _ e
     value_rightly f (Variable x) k e u w = subst (λ j. Rightly (λ v _. IsOfKind j v) (variable_in s f x (ticked s w))) (when_parts _ _ _ e).1 (variable_rightly f x (ticked s w))
     value_rightly f (Applied x es) k e u w =
         let p = or_parts _ _ u in
-        applied_rightly f x es (sort_of c x) (array_fit (sizes_of x notes) x (sizes_fit x)) k e p.0 (values_of s f es) (λ whole. values_rightly f es whole p.1) (spots_of s f es) (ticked s w)
+        applied_rightly f x es (sort_of c x) (array_fit (sizes_of x m.notes) x (m.sizes x)) k e p.0 (values_of s f es) (λ whole. values_rightly f es whole p.1) (spots_of s f es) (ticked s w)
     value_rightly f (Grouped a) k e u w = value_rightly f a k e u (ticked s w)
     value_rightly f (Positive a) k e u w =
         let p = when_parts _ _ _ e in
@@ -132,7 +142,7 @@ module _ (notes : List Note) (sizes_fit : (x : Text) → FitSizes (sizes_of x no
         bind_rightly (λ v _. IsOfKind (operand op) v) (λ v _. IsOfKind k v) (value_of s f b w1) _ (value_rightly f b (operand op) (is_kind_some (operand op) _ both.1) counts.1 w1) (λ y w2 g.
         settle_rightly (IsOfKind k) f.place (operate op x y) w2 (subst (λ j. TriesRightly (IsOfKind j) (operate op x y)) p.1 (operate_rightly op x y h g))))
 
-    pub values_rightly : (f : Frame) (es : Formulas) → are_integers c es ≡ true → FitCounts (uses_of_all es) → (w : World) → Rightly (λ vs _. AreWhole (many es) vs) (values_of s f es w)
+    pub values_rightly : (f : Frame) (es : Formulas) → are_integers c es ≡ true → FitCounts m.notes (uses_of_all es) → (w : World) → Rightly (λ vs _. AreWhole (many es) vs) (values_of s f es w)
     values_rightly f Nought e u w = no_integers
     values_rightly f (Also a es) e u w =
         let both = and_parts (is_kind Integer (kind_in c a)) _ e in
@@ -141,6 +151,6 @@ module _ (notes : List Note) (sizes_fit : (x : Text) → FitSizes (sizes_of x no
         bind_rightly (λ vs _. AreWhole (many es) vs) (λ vs _. AreWhole (many es + 1) vs) (values_of s f es w1) _ (values_rightly f es both.1 counts.1 w1) (λ vs w2 g. one_more (many es) v vs h g))
 
   -- a condition
-  pub asks_rightly : (f : Frame) (e : Formula) → kind_in c e ≡ Some Logical → FitCounts (uses_of e) → (w : World) → NeverWrong (asks s f e w)
+  pub asks_rightly : (f : Frame) (e : Formula) → kind_in c e ≡ Some Logical → FitCounts m.notes (uses_of e) → (w : World) → NeverWrong (asks s f e w)
   asks_rightly f e h u w =
       bind_rightly (λ v _. IsOfKind Logical v) (λ _ _. ⊤) (value_of s f e w) _ (value_rightly f e Logical h u w) (λ v w1 g. settle_rightly (λ _. ⊤) f.place (truth_in v) w1 (truth_rightly v g))

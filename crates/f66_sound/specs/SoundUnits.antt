@@ -12,9 +12,12 @@ use Rattle.f66_names.specs.Rules.{breaks_name}
 abbrev pub acts_of : List Line → List Act
 acts_of code = map (λ s. s.act) code
 
--- what names mean in a main unit of these statements
+-- what names mean in a main unit with these statements that are not executed
+abbrev pub in_main : List Note → Context
+in_main notes = record { header = MainUnit; notes = notes }
+
 abbrev pub main_context : List Line → Context
-main_context code = record { header = MainUnit; notes = notes_of code }
+main_context code = in_main (notes_of code)
 
 -- the FORMAT of a WRITE is there
 abbrev pub finds_format : List Note → Act → Bool
