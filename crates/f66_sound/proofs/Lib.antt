@@ -3,3 +3,5 @@ pub mod KindLemmas
 pub mod ContentLemmas
 pub mod ValueLemmas
 pub mod StatementLemmas
+pub mod WriteLemmas
+pub mod RunLemmas
