@@ -1,16 +1,16 @@
 -- Operations on contents of the types that they ask for do not fail.
-use Rattle.std.proofs.Common.{◌≡◌, ◌+◌, ◌==◌, ℕ, zero, suc, Bool, true, false, List, [], ◌∷◌, length, Option, Some, None, Result, Ok, Err, refl, sym, ◌∙◌, arith}
+use Rattle.std.proofs.Common.{◌≡◌, ◌+◌, ℕ, zero, suc, Bool, true, false, List, [], ◌∷◌, length, Result, Ok, Err, refl, ◌∙◌, arith}
 use Rattle.std.specs.Prelude.{ℤ, ◌≤◌, int_le, int_lt, nat_lt, unsigned_abs, ◌-ℤ◌, pos, ◌*◌, ◌&&◌, if◌then◌else◌, ⊤}
 use Rattle.std.proofs.lemmas.Bool.{eqb-true, leb-true}
 use Rattle.ground.specs.declared.trap.Trap.{Trap}
 use Rattle.ground.specs.declared.trap.Trap.TheVariants.{Subscript}
 use Rattle.ground.specs.declared.value.Kind.{Kind}
 use Rattle.ground.specs.declared.value.Kind.TheVariants.{Integer, Logical}
-use Rattle.ground.specs.Content.{Content, Nothing, Whole, Truth}
+use Rattle.ground.specs.Content.{Content, Whole, Truth}
 use Rattle.ground.specs.Arithmetic.{sum, difference, product, quotient, remainder, power}
 use Rattle.f66_tree.specs.declared.expression.Operator.{Operator}
-use Rattle.f66_tree.specs.declared.expression.Operator.TheVariants.{Add, Sub, Mul, Div, Power, Lt, Le, Eq, Ne, Ge, Gt, And, Or}
-use Rattle.f66_tree.specs.World.{Try, Yields, Traps, then_try}
+use Rattle.f66_tree.specs.declared.expression.Operator.TheVariants.{Add, Sub, Mul, Div, Power, And, Or}
+use Rattle.f66_tree.specs.World.{Yields, Traps, then_try}
 use Rattle.f66_tree.specs.Units.{sizes_of, places_of, Spot, Held, Lent, Linkage}
 use Rattle.f66_tree.specs.Evaluation.{whole, on_whole, on_truth, operate, same_whole, opposite, denied, truth_in, Intrinsic, Iabs, Mod, Isign, Idim, Max0, Min0, farthest, excess, intrinsic, asked, distance, moved}
 use Rattle.f66_names.specs.Sorts.{arity, takes_many}

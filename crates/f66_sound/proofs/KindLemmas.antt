@@ -1,6 +1,6 @@
 -- What follows where an expression has a type: the parts of its rule, and that subscripts are integers.
 use Rattle.std.proofs.Common.{◌≡◌, Bool, true, false, List, Option, Some, None, refl, sym, ap, ap₂, ◌∙◌, ⊎_elim}
-use Rattle.std.specs.Prelude.{not, ◌&&◌, ◌||◌, ◌++◌}
+use Rattle.std.specs.Prelude.{not, ◌&&◌, ◌++◌}
 use Rattle.std.specs.List.{list_any}
 use Rattle.std.proofs.lemmas.Bool.{and_parts, and_from, or_parts, or_cases}
 use Rattle.std.proofs.lemmas.List.Folds.{list_any-append}

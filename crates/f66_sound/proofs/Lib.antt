@@ -5,3 +5,4 @@ pub mod ValueLemmas
 pub mod StatementLemmas
 pub mod WriteLemmas
 pub mod RunLemmas
+pub mod SoundLemmas

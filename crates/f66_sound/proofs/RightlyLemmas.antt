@@ -1,8 +1,8 @@
 -- What never goes wrong stays so where one part of a run follows another.
 use Rattle.std.proofs.Common.{◌≡◌, Bool, true, false, refl}
-use Rattle.std.specs.Prelude.{if◌then◌else◌, ⊤}
+use Rattle.std.specs.Prelude.{if◌then◌else◌}
 use Rattle.ground.specs.declared.place.Place.{Place}
-use Rattle.f66_tree.specs.World.{World, Wrong, Ended, Out, Gives, Halts, bind, Try, Yields, Traps, Fails, then_try, settle, choose}
+use Rattle.f66_tree.specs.World.{World, Out, Gives, Halts, bind, Try, Yields, Traps, Fails, then_try, settle, choose}
 use Rattle.f66_sound.specs.Rightly.{Rightly, TriesRightly, NeverWrong}
 
 pub bind_rightly : {A B : Type 0} (P : A → World → Type 0) (Q : B → World → Type 0) (o : Out A) (g : A → World → Out B) → Rightly P o → ((a : A) (w : World) → P a w → Rightly Q (g a w)) → Rightly Q (bind o g)

@@ -1,22 +1,22 @@
 -- A run of a main unit whose statements the rules let pass never ends Wrong, whatever its labels and its DO loops are.
-use Rattle.std.proofs.Common.{◌≡◌, ℕ, zero, suc, Bool, true, false, List, [], ◌∷◌, ◌++◌, length, Option, Some, None, refl}
-use Rattle.std.specs.Prelude.{is_some, not, ◌&&◌, ◌||◌, nat_eq, if◌then◌else◌, ⊤}
+use Rattle.std.proofs.Common.{◌≡◌, ℕ, zero, suc, true, false, List, [], ◌∷◌, ◌++◌, length, Option, Some, None}
+use Rattle.std.specs.Prelude.{nat_eq, ⊤}
 use Rattle.std.proofs.lemmas.Bool.{and_parts, or_parts, not-false}
-use Rattle.ground.specs.declared.value.Kind.TheVariants.{Integer, Logical}
+use Rattle.ground.specs.declared.value.Kind.TheVariants.{Logical}
 use Rattle.f66_tree.specs.Forms.{Text, Formula, Act, Assigns, Goes, Selects, Signs, Chooses, Loops, Invokes, Passes, Stops, Returns, Reads, Writes, Formats, Types, Dimensions, Commons, Equivalences, Presets, Line}
-use Rattle.f66_tree.specs.World.{World, Out, Gives, Halts, bind, choose, take_one, take_from}
+use Rattle.f66_tree.specs.World.{World, Out, bind, take_one, take_from}
 use Rattle.f66_tree.specs.Units.{Note, Context, is_note, kind_of, sizes_of, Setting, Frame, moved_to}
 use Rattle.f66_tree.specs.Evaluation.{asks}
-use Rattle.f66_tree.specs.Statements.{Exit, Next, To, Back, Loop, loop_start, loop_turn, does}
+use Rattle.f66_tree.specs.Statements.{Exit, Next, To, Back, loop_start, loop_turn, does}
 use Rattle.f66_tree.specs.Execution.{runnable, has_label, from_label, Progress, begun, Stand, stand, Closer, closer_of, closers, closers_at, Onward, close, leads, perform, fetch, target, exec, nowhere, no_loops}
 use Rattle.f66_tree.specs.OneUnit.{one_unit}
 use Rattle.f66_names.specs.Uses.{uses_of, uses_of_par, uses_of_target, uses_in}
 use Rattle.f66_names.specs.Sorts.{is_integer}
-use Rattle.f66_names.specs.Kinds.{is_kind, is_counting, are_entries, kind_in, clashes}
+use Rattle.f66_names.specs.Kinds.{is_counting, are_entries, clashes}
 use Rattle.f66_names.specs.NameRules.{miscounts}
 use Rattle.f66_names.specs.StoreRules.{stores_wrong}
 use Rattle.f66_names.specs.BuiltActs.{is_built_form}
-use Rattle.f66_sound.specs.Rightly.{Rightly, NeverWrong}
+use Rattle.f66_sound.specs.Rightly.{NeverWrong}
 use Rattle.f66_sound.specs.SoundUnits.{in_main, finds_format}
 use Rattle.f66_sound.proofs.RightlyLemmas.{bind_any, choose_rightly, if_both}
 use Rattle.f66_sound.proofs.KindLemmas.{is_kind_some, none_of_both}

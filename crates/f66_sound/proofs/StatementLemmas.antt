@@ -1,30 +1,29 @@
 -- In a main unit each plain statement that the rules let pass, the start and the turn of a DO among them, never ends Wrong.
-use Rattle.std.proofs.Common.{◌≡◌, ◌==◌, ℕ, zero, suc, Bool, true, false, List, [], ◌∷◌, Option, Some, None, refl, sym, subst}
-use Rattle.std.specs.Prelude.{ℤ, pos, negsuc, ◌+ℤ◌, int_le, not, ◌&&◌, ◌||◌, if◌then◌else◌, ⊤}
+use Rattle.std.proofs.Common.{◌≡◌, ℕ, zero, suc, Bool, true, false, List, [], ◌∷◌, Option, Some, None, refl, subst}
+use Rattle.std.specs.Prelude.{pos, negsuc, ◌+ℤ◌, int_le, not, ◌&&◌, ◌||◌, ⊤}
 use Rattle.std.proofs.lemmas.Bool.{and_parts, or_parts, not-false, eqb-true}
-use Rattle.ground.specs.declared.trap.Trap.TheVariants.{BadDo, BadUnit}
+use Rattle.ground.specs.declared.trap.Trap.TheVariants.{BadDo}
 use Rattle.ground.specs.declared.value.Kind.{Kind}
-use Rattle.ground.specs.declared.value.Kind.TheVariants.{Integer, Logical}
-use Rattle.ground.specs.Content.{Content, Nothing, Whole, Truth}
+use Rattle.ground.specs.declared.value.Kind.TheVariants.{Integer}
+use Rattle.ground.specs.Content.{Content, Nothing, Whole}
 use Rattle.rule_table.specs.Words.{is_some_and}
-use Rattle.f66_tree.specs.declared.editing.Way.TheVariants.{Writing}
-use Rattle.f66_tree.specs.Forms.{Text, Formula, Number, Fact, Letter, Variable, Applied, Formulas, Par, Constant, Named}
-use Rattle.f66_tree.specs.World.{Store, World, Out, Gives, Halts, bind, Try, Yields, Traps, settle, holding}
+use Rattle.f66_tree.specs.Forms.{Text, Formula, Variable, Applied, Formulas, Par, Constant, Named}
+use Rattle.f66_tree.specs.World.{Store, World, Gives, bind, Yields, Traps, settle}
 use Rattle.f66_tree.specs.Units.{Context, kind_of, sizes_of, Spot, Held, Lent, Linkage, Setting, Frame}
 use Rattle.f66_tree.specs.Evaluation.{Sort, AnArray, AnIntrinsic, AFunction, sort_of, ticked, load, store_at, stored, variable_in, par_in, place_by, value_of, values_of, locate}
-use Rattle.f66_tree.specs.Statements.{Exit, Next, To, Loop, fit_loop, fit_loop_in, loop_start, turn_of, loop_turn, nth, label_at, by_sign_of, does}
+use Rattle.f66_tree.specs.Statements.{Next, To, Loop, fit_loop_in, loop_start, turn_of, loop_turn, nth, label_at, by_sign_of}
 use Rattle.f66_names.specs.declared.name_form.NameForm.{NameForm}
 use Rattle.f66_names.specs.declared.name_form.NameForm.TheVariants as forms
 use Rattle.f66_names.specs.declared.name_form.Manner.TheVariants.{Stored}
-use Rattle.f66_names.specs.Sorts.{form_by, is_array_form, is_integer, is_counter, takes}
+use Rattle.f66_names.specs.Sorts.{form_by, is_array_form, is_counter, takes}
 use Rattle.f66_names.specs.Uses.{many, uses_of, uses_of_all, uses_of_target}
 use Rattle.f66_names.specs.Kinds.{is_kind, kind_in, are_subscripts, takes_kind, is_counting}
-use Rattle.f66_names.specs.NameRules.{miscounts, miscounts_by}
+use Rattle.f66_names.specs.NameRules.{miscounts_by}
 use Rattle.f66_names.specs.StoreRules.{is_assignable}
 use Rattle.f66_sound.specs.Rightly.{Rightly, NeverWrong, TriesRightly}
 use Rattle.f66_sound.specs.SoundUnits.{in_main}
 use Rattle.f66_sound.proofs.RightlyLemmas.{bind_rightly, bind_any, settle_rightly, if_both}
-use Rattle.f66_sound.proofs.KindLemmas.{is_kind_some, integer_only, none_of_both, subscripts_whole}
+use Rattle.f66_sound.proofs.KindLemmas.{is_kind_some, integer_only, subscripts_whole}
 use Rattle.f66_sound.proofs.ContentLemmas.{IsOfKind, AreWhole}
 use Rattle.f66_sound.proofs.ValueLemmas.{FitSort, array_fit, Main, setting_of, FitCounts, load_rightly, variable_rightly, element_rightly, value_rightly, values_rightly}
 

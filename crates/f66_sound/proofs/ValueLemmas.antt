@@ -1,28 +1,28 @@
 -- In a main unit an expression that has a type, with as many subscripts and arguments as its names take, gives a content of
 -- that type, or ends otherwise, but never Wrong.
-use Rattle.std.proofs.Common.{◌≡◌, ◌==◌, ◌+◌, ℕ, Bool, true, false, List, [], ◌∷◌, length, Option, Some, None, refl, sym, subst, arith}
-use Rattle.std.specs.Prelude.{not, ◌||◌, if◌then◌else◌, ⊤}
+use Rattle.std.proofs.Common.{◌≡◌, ◌+◌, ℕ, Bool, true, false, List, [], ◌∷◌, length, Some, refl, subst, arith}
+use Rattle.std.specs.Prelude.{if◌then◌else◌, ⊤}
 use Rattle.std.specs.List.{list_any}
 use Rattle.std.proofs.lemmas.Bool.{and_parts, or_parts, not-false, eqb-true}
 use Rattle.ground.specs.declared.value.Kind.{Kind}
 use Rattle.ground.specs.declared.value.Kind.TheVariants.{Integer, Logical}
-use Rattle.ground.specs.Content.{Content, Nothing, Whole, Truth}
+use Rattle.ground.specs.Content.{Content, Whole, Truth}
 use Rattle.f66_tree.specs.Forms.{Text, Formula, Number, Fact, Letter, Variable, Applied, Grouped, Positive, Negative, Negated, Joined, Formulas, Nought, Also, Par, Constant, Named}
-use Rattle.f66_tree.specs.World.{World, Out, Gives, Halts, bind, Try, settle}
+use Rattle.f66_tree.specs.World.{World, Out, Try, settle}
 use Rattle.f66_tree.specs.Units.{Note, Context, kind_of, sizes_of, Spot, Held, Setting, Frame}
 use Rattle.f66_tree.specs.OneUnit.{one_unit}
-use Rattle.f66_tree.specs.Evaluation.{Sort, AnArray, AnIntrinsic, AFunction, Intrinsic, known, intrinsics, array_or, sort_of, intrinsic, ticked, held, asked, load, variable_in, par_in, pars_in, distance, moved, element, referred, operate, same_whole, opposite, denied, truth_in, by_sign, value_of, values_of, spots_of, asks}
+use Rattle.f66_tree.specs.Evaluation.{Sort, AnArray, AnIntrinsic, AFunction, Intrinsic, known, intrinsics, array_or, sort_of, intrinsic, ticked, held, asked, load, variable_in, pars_in, distance, moved, element, referred, operate, same_whole, opposite, denied, truth_in, by_sign, value_of, values_of, spots_of, asks}
 use Rattle.f66_names.specs.declared.name_form.Manner.TheVariants.{With}
-use Rattle.f66_names.specs.Sorts.{form_by, is_integer, arity, takes_many}
+use Rattle.f66_names.specs.Sorts.{form_by, is_integer}
 use Rattle.f66_names.specs.Uses.{Usage, many, uses_of, uses_of_all}
-use Rattle.f66_names.specs.Kinds.{is_kind, operand, outcome, kind_in, kind_applied, are_subscripts, are_integers}
+use Rattle.f66_names.specs.Kinds.{is_kind, operand, kind_in, kind_applied, are_subscripts, are_integers}
 use Rattle.f66_names.specs.NameRules.{miscounts, miscounts_by}
 use Rattle.f66_names.specs.StoreRules.{is_bad_size}
 use Rattle.f66_sound.specs.SoundUnits.{in_main}
 use Rattle.f66_sound.specs.Rightly.{Rightly, NeverWrong, TriesRightly}
 use Rattle.f66_sound.proofs.RightlyLemmas.{bind_rightly, bind_any, settle_rightly}
 use Rattle.f66_sound.proofs.KindLemmas.{no_some, some_same, when_parts, is_kind_some, none_of_both, subscripts_whole}
-use Rattle.f66_sound.proofs.ContentLemmas.{IsOfKind, AllWhole, AreWhole, asked_rightly, operate_rightly, same_rightly, opposite_rightly, denied_rightly, truth_rightly, intrinsic_rightly, distance_rightly, moved_rightly}
+use Rattle.f66_sound.proofs.ContentLemmas.{IsOfKind, AreWhole, asked_rightly, operate_rightly, same_rightly, opposite_rightly, denied_rightly, truth_rightly, intrinsic_rightly, distance_rightly, moved_rightly}
 
 -- the dimensions of an array are constants above zero
 abbrev pub FitSizes : List Par → Type 0

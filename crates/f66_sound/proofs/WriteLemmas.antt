@@ -1,14 +1,14 @@
 -- In a main unit a WRITE of one place by a FORMAT that is there never ends Wrong: the edit that is found for an item takes
 -- contents of the item's type.
 use Rattle.std.proofs.Common.{◌≡◌, ℕ, Bool, true, false, List, [], ◌∷◌, Option, Some, None, Result, Ok, Err, refl, sym, subst}
-use Rattle.std.specs.Prelude.{int_le, is_some, not, ◌&&◌, ◌||◌, if◌then◌else◌, ⊤}
+use Rattle.std.specs.Prelude.{int_le, is_some, not, ◌&&◌, if◌then◌else◌, ⊤}
 use Rattle.std.proofs.lemmas.Bool.{and_parts, or_parts, not-false}
 use Rattle.ground.specs.declared.place.Place.{Place}
 use Rattle.ground.specs.declared.trap.Trap.{Trap}
 use Rattle.ground.specs.declared.trap.Trap.TheVariants.{BadUnit, FormatMismatch}
 use Rattle.ground.specs.declared.value.Kind.{Kind}
 use Rattle.ground.specs.declared.value.Kind.TheVariants.{Integer, Logical}
-use Rattle.ground.specs.Content.{Content, Nothing, Whole, Truth}
+use Rattle.ground.specs.Content.{Content, Whole, Truth}
 use Rattle.f66_tree.specs.declared.editing.EditKind.TheVariants as edits
 use Rattle.f66_tree.specs.declared.editing.Way.{Way}
 use Rattle.f66_tree.specs.declared.editing.Way.TheVariants.{Writing}
@@ -17,12 +17,12 @@ use Rattle.f66_tree.specs.declared.editing.Mark.TheVariants.{Due}
 use Rattle.f66_tree.specs.Fields.{Step, Takes, Blanks, Chars, Slash, Fields, has_item}
 use Rattle.f66_tree.specs.Turns.{Hand, ◌>>=◌, blanked, lettered, suits, stands, line_of, put_whole, put_truth, put_letter}
 use Rattle.f66_tree.specs.Editing.{Files, Onward, exchanged, seek, cycled, to_item, to_end}
-use Rattle.f66_tree.specs.Forms.{Formula, Variable, Applied, Par, Entry, One, Many, Entries, NoEntry, AndEntry}
-use Rattle.f66_tree.specs.World.{Tape, files_of, tape_of, World, Out, Gives, bind, Try, Yields, Traps, then_try, lifted, settle, taping}
+use Rattle.f66_tree.specs.Forms.{Formula, Variable, Applied, Par, One, Entries, NoEntry, AndEntry}
+use Rattle.f66_tree.specs.World.{Tape, files_of, tape_of, World, Try, Yields, Traps, lifted, settle}
 use Rattle.f66_tree.specs.Records.{placed, due, put_by, put, closed}
 use Rattle.f66_tree.specs.Units.{Context, kind_of, format_of, sizes_of, Spot, Held, Setting, Frame}
 use Rattle.f66_tree.specs.Evaluation.{array_or, sort_of, ticked, load, par_in, locate}
-use Rattle.f66_tree.specs.Statements.{taped, transfer, edited, one_or_row, item, items, on_unit, unit_for, opened_by, record_by}
+use Rattle.f66_tree.specs.Statements.{taped, edited, one_or_row, item, items, on_unit, unit_for, opened_by, record_by}
 use Rattle.f66_names.specs.Sorts.{form_by, is_array, is_array_form}
 use Rattle.f66_names.specs.Uses.{uses_of, uses_of_entries}
 use Rattle.f66_names.specs.Kinds.{is_counting, is_listed, are_entries}

@@ -1,5 +1,5 @@
 -- Which main units the rules of names let pass, and the law of them: no run of one ends Wrong.
-use Rattle.std.specs.Prelude.{◌≡◌, ◌≢◌, ℕ, Bool, true, false, List, map, Option, Some, is_some, slice_get}
+use Rattle.std.specs.Prelude.{◌≡◌, ◌≢◌, ℕ, Bool, true, false, List, map, Some, is_some, slice_get}
 use Rattle.ground.specs.declared.fault.FaultKind.{FaultKind}
 use Rattle.f66_tree.specs.Forms.{MainUnit, Act, Chooses, Writes, Line}
 use Rattle.f66_tree.specs.World.{Record, Wrong, Ended}
