@@ -6,3 +6,4 @@ pub mod StatementLemmas
 pub mod WriteLemmas
 pub mod RunLemmas
 pub mod SoundLemmas
+mod Examples

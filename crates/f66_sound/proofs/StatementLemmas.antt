@@ -15,7 +15,7 @@ use Rattle.f66_tree.specs.Statements.{Next, To, Loop, fit_loop_in, loop_start, t
 use Rattle.f66_names.specs.declared.name_form.NameForm.{NameForm}
 use Rattle.f66_names.specs.declared.name_form.NameForm.TheVariants as forms
 use Rattle.f66_names.specs.declared.name_form.Manner.TheVariants.{Stored}
-use Rattle.f66_names.specs.Sorts.{form_by, is_array_form, is_counter, takes}
+use Rattle.f66_names.specs.Sorts.{form_by, form_of, is_array, is_array_form, is_counter, takes}
 use Rattle.f66_names.specs.Uses.{many, uses_of, uses_of_all, uses_of_target}
 use Rattle.f66_names.specs.Kinds.{is_kind, kind_in, are_subscripts, takes_kind, is_counting}
 use Rattle.f66_names.specs.NameRules.{miscounts_by}
@@ -68,7 +68,7 @@ module _ (m : Main) where
   s = setting_of m
 
   abbrev c : Context
-  c = in_main m.notes
+  c = m.context
 
   store_rightly : (f : Frame) (p : Spot) (v : Content) (w : World) → NeverWrong (store_at s f p v w)
   store_rightly f p v w =
@@ -82,26 +82,28 @@ module _ (m : Main) where
   par_rightly f (Named x) e w = counter_rightly f x e w
 
   -- an element of an array
-  pub place_rightly : (f : Frame) (x : Text) (es : Formulas) (o : Sort) → FitSort o → is_array_form (form_by o) ≡ true → are_subscripts c es ≡ true → FitCounts m.notes (uses_of_all es) → takes (form_by o) (many es) ≡ true → (w : World) →
-      NeverWrong (place_by s f x o (values_of s f es) w)
-  place_rightly f x es (AnArray ns) fit e subs u n w =
-      element_rightly m f x ns fit (values_of s f es) (subst (λ k. (v : World) → Rightly (λ vs _. AreWhole k vs) (values_of s f es v)) (eqb-true _ _ n) (values_rightly m f es (subscripts_whole c es subs) u)) w
-  place_rightly f x es (AnIntrinsic g) fit e subs u n w = let q : ⊥ = cc in absurd q
-  place_rightly f x es AFunction fit e subs u n w = let q : ⊥ = cc in absurd q
+  pub place_rightly : (f : Frame) (x : Text) (es : Formulas) → is_array c x ≡ true → are_subscripts c es ≡ true → FitCounts c (uses_of_all es) → takes (form_of c x) (many es) ≡ true → (w : World) → NeverWrong (place_by s f x (sort_of (in_main m.notes) x) (values_of s f es) w)
+  place_rightly f x es e subs u n w =
+      by_sort (sort_of (in_main m.notes) x) (array_fit (sizes_of x m.notes) x (m.sizes x)) (subst (λ o. is_array_form (form_by o) ≡ true) (m.sorts x) e) (subst (λ o. takes (form_by o) (many es) ≡ true) (m.sorts x) n)
+    where
+      by_sort : (o : Sort) → FitSort o → is_array_form (form_by o) ≡ true → takes (form_by o) (many es) ≡ true → NeverWrong (place_by s f x o (values_of s f es) w)
+      by_sort (AnArray ns) fit e1 n1 = element_rightly m f x ns fit (values_of s f es) (subst (λ k. (v : World) → Rightly (λ vs _. AreWhole k vs) (values_of s f es v)) (eqb-true _ _ n1) (values_rightly m f es (subscripts_whole c es subs) u)) w
+      by_sort (AnIntrinsic g) fit e1 n1 = let q : ⊥ = cc in absurd q
+      by_sort AFunction fit e1 n1 = let q : ⊥ = cc in absurd q
 
   -- the target of an assignment
-  target_rightly : (f : Frame) (e : Formula) (k : Kind) → is_assignable c e ≡ true → takes_kind c e k ≡ true → FitCounts m.notes (uses_of_target e) → (w : World) → NeverWrong (locate s f e w)
+  target_rightly : (f : Frame) (e : Formula) (k : Kind) → is_assignable c e ≡ true → takes_kind c e k ≡ true → FitCounts c (uses_of_target e) → (w : World) → NeverWrong (locate s f e w)
   target_rightly f (Variable x) k a t u w = tt
   target_rightly f (Applied x es) k a t u w =
       let p = or_parts _ _ u in
-      place_rightly f x es (sort_of c x) (array_fit (sizes_of x m.notes) x (m.sizes x)) a (subscripted (is_array_form (form_by (sort_of c x))) _ a t) p.1 (stored_takes (form_by (sort_of c x)) (many es) a p.0) (ticked s w)
+      place_rightly f x es a (subscripted (is_array_form (form_by (sort_of c x))) _ a t) p.1 (stored_takes (form_by (sort_of c x)) (many es) a p.0) (ticked s w)
     where
       subscripted : (b same : Bool) → b ≡ true → (not b || (are_subscripts c es && same)) ≡ true → are_subscripts c es ≡ true
       subscripted true same h t1 = (and_parts _ _ t1).0
       subscripted false same h t1 = cc
   target_rightly f _ k a t u w = let q : ⊥ = cc in absurd q
 
-  pub assigns_rightly : (f : Frame) (x e : Formula) → is_some_and (takes_kind c x) (kind_in c e) ≡ true → is_assignable c x ≡ true → FitCounts m.notes (uses_of_target x) → FitCounts m.notes (uses_of e) → (w : World) →
+  pub assigns_rightly : (f : Frame) (x e : Formula) → is_some_and (takes_kind c x) (kind_in c e) ≡ true → is_assignable c x ≡ true → FitCounts c (uses_of_target x) → FitCounts c (uses_of e) → (w : World) →
       NeverWrong (bind (locate s f x w) (λ p w1. bind (value_of s f e w1) (λ v w2. bind (store_at s f p v w2) (λ _ w3. Gives Next w3))))
   assigns_rightly f x e h a u v w =
       let k = some_and (takes_kind c x) (kind_in c e) h in
@@ -114,7 +116,7 @@ module _ (m : Main) where
       bind_rightly (λ v _. IsOfKind Integer v) (λ _ _. ⊤) (variable_in s f x w) _ (counter_rightly f x h w) (λ v w1 k.
       bind_any (λ _ _. ⊤) (settle f.place (label_at ls v) w1) _ (settle_rightly (λ _. ⊤) f.place (label_at ls v) w1 (label_rightly ls v k)) (λ l w2. tt))
 
-  pub signs_rightly : (f : Frame) (e : Formula) (l1 l2 l3 : ℕ) → is_kind Integer (kind_in c e) ≡ true → FitCounts m.notes (uses_of e) → (w : World) → NeverWrong (bind (value_of s f e w) (λ v w1. bind (settle f.place (by_sign_of l1 l2 l3 v) w1) (λ l w2. Gives (To l) w2)))
+  pub signs_rightly : (f : Frame) (e : Formula) (l1 l2 l3 : ℕ) → is_kind Integer (kind_in c e) ≡ true → FitCounts c (uses_of e) → (w : World) → NeverWrong (bind (value_of s f e w) (λ v w1. bind (settle f.place (by_sign_of l1 l2 l3 v) w1) (λ l w2. Gives (To l) w2)))
   signs_rightly f e l1 l2 l3 h u w =
       bind_rightly (λ v _. IsOfKind Integer v) (λ _ _. ⊤) (value_of s f e w) _ (value_rightly m f e Integer (is_kind_some Integer _ h) u w) (λ v w1 k.
       bind_any (λ _ _. ⊤) (settle f.place (by_sign_of l1 l2 l3 v) w1) _ (settle_rightly (λ _. ⊤) f.place (by_sign_of l1 l2 l3 v) w1 (branch_rightly l1 l2 l3 v k)) (λ l w2. tt))

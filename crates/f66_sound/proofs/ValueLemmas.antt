@@ -1,6 +1,6 @@
 -- In a main unit an expression that has a type, with as many subscripts and arguments as its names take, gives a content of
 -- that type, or ends otherwise, but never Wrong.
-use Rattle.std.proofs.Common.{◌≡◌, ◌+◌, ℕ, Bool, true, false, List, [], ◌∷◌, length, Some, refl, subst, arith}
+use Rattle.std.proofs.Common.{◌≡◌, ◌+◌, ℕ, Bool, true, false, List, [], ◌∷◌, length, Some, refl, sym, ◌∙◌, subst, arith}
 use Rattle.std.specs.Prelude.{if◌then◌else◌, ⊤}
 use Rattle.std.specs.List.{list_any}
 use Rattle.std.proofs.lemmas.Bool.{and_parts, or_parts, not-false, eqb-true}
@@ -50,9 +50,13 @@ no_integers = record { number = refl; whole = tt }
 pub one_more : (n : ℕ) (v : Content) (vs : List Content) → IsOfKind Integer v → AreWhole n vs → AreWhole (n + 1) (v ∷ vs)
 one_more n v vs h k = let q = k.number in record { number = omega arith; whole = (h, k.whole) }
 
--- a main unit whose arrays have constant dimensions, and the run around its statements
+-- A main unit whose arrays have constant dimensions, the run around its statements, and the context by which its statements
+-- are judged, in which names mean what they mean in the run.
 pub record Main : Type 0 where
   pub notes : List Note
+  pub context : Context
+  pub kinds : (x : Text) → kind_of context x ≡ kind_of (in_main notes) x
+  pub sorts : (x : Text) → sort_of context x ≡ sort_of (in_main notes) x
   pub sizes : (x : Text) → FitSizes (sizes_of x notes)
   pub call : ℕ → List Spot → World → Out ⊤
   pub begin : World → Out ⊤
@@ -63,21 +67,21 @@ abbrev pub setting_of : Main → Setting
 setting_of m = record { linked = one_unit m.notes; call = m.call; begin = m.begin; most = m.most; tick = m.tick }
 
 -- subscripts and arguments are as many as their names take
-abbrev pub FitCounts : List Note → List Usage → Type 0
-FitCounts notes us = list_any (miscounts (in_main notes)) us ≡ false
+abbrev pub FitCounts : Context → List Usage → Type 0
+FitCounts c us = list_any (miscounts c) us ≡ false
 
 module _ (m : Main) where
   abbrev s : Setting
   s = setting_of m
 
   abbrev c : Context
-  c = in_main m.notes
+  c = m.context
 
   pub load_rightly : (f : Frame) (k : Kind) (p : Spot) (w : World) → Rightly (λ v _. IsOfKind k v) (load s f k p w)
   load_rightly f k p w = settle_rightly (IsOfKind k) f.place (asked k (held s.linked p w.state.store)) w (asked_rightly k (held s.linked p w.state.store))
 
   pub variable_rightly : (f : Frame) (x : Text) (w : World) → Rightly (λ v _. IsOfKind (kind_of c x) v) (variable_in s f x w)
-  variable_rightly f x w = load_rightly f (kind_of c x) (Held f.unit x 0) w
+  variable_rightly f x w = subst (λ k. Rightly (λ v _. IsOfKind k v) (variable_in s f x w)) (sym (m.kinds x)) (load_rightly f (kind_of (in_main m.notes) x) (Held f.unit x 0) w)
 
   pub pars_rightly : (f : Frame) (ns : List Par) → FitSizes ns → (w : World) → Rightly (λ vs _. AreWhole (length ns) vs) (pars_in s f ns w)
   pars_rightly f [] h w = no_integers
@@ -102,7 +106,7 @@ module _ (m : Main) where
       let same : many es ≡ length ns = eqb-true (many es) (length ns) (not-false _ counts) in
       bind_any (λ v _. IsOfKind k v) (element s f x ns vals w) _
       (element_rightly f x ns fit vals (subst (λ n. (v : World) → Rightly (λ vs _. AreWhole n vs) (vals v)) same (h (subscripts_whole c es p.0))) w)
-      (λ q w1. subst (λ j. Rightly (λ v _. IsOfKind j v) (load s f (kind_of c x) q w1)) p.1 (load_rightly f (kind_of c x) q w1))
+      (λ q w1. subst (λ j. Rightly (λ v _. IsOfKind j v) (load s f (kind_of (in_main m.notes) x) q w1)) (sym (m.kinds x) ∙ p.1) (load_rightly f (kind_of (in_main m.notes) x) q w1))
   applied_rightly f x es (AnIntrinsic g) fit k e counts vals h spots w =
       let p = when_parts _ _ _ e in
       let whole = (and_parts (is_integer (kind_of c x)) _ p.0).1 in
@@ -116,14 +120,15 @@ module _ (m : Main) where
       (bind_rightly (λ v _. IsOfKind j v) (λ v _. IsOfKind j v) o _ a (λ v w q. settle_rightly (IsOfKind j) f.place (op v) w (h v q)))
 
   mutual
-    pub value_rightly : (f : Frame) (e : Formula) (k : Kind) → kind_in c e ≡ Some k → FitCounts m.notes (uses_of e) → (w : World) → Rightly (λ v _. IsOfKind k v) (value_of s f e w)
+    pub value_rightly : (f : Frame) (e : Formula) (k : Kind) → kind_in c e ≡ Some k → FitCounts c (uses_of e) → (w : World) → Rightly (λ v _. IsOfKind k v) (value_of s f e w)
     value_rightly f (Number z) k e u w = subst (λ j. IsOfKind j (Whole z)) (some_same e) tt
     value_rightly f (Fact b) k e u w = subst (λ j. IsOfKind j (Truth b)) (some_same e) tt
     value_rightly f (Letter l) k e u w = no_some _ e
     value_rightly f (Variable x) k e u w = subst (λ j. Rightly (λ v _. IsOfKind j v) (variable_in s f x (ticked s w))) (when_parts _ _ _ e).1 (variable_rightly f x (ticked s w))
     value_rightly f (Applied x es) k e u w =
         let p = or_parts _ _ u in
-        applied_rightly f x es (sort_of c x) (array_fit (sizes_of x m.notes) x (m.sizes x)) k e p.0 (values_of s f es) (λ whole. values_rightly f es whole p.1) (spots_of s f es) (ticked s w)
+        applied_rightly f x es (sort_of (in_main m.notes) x) (array_fit (sizes_of x m.notes) x (m.sizes x)) k
+        (subst (λ o. kind_applied (form_by o) (kind_of c x) (are_subscripts c es) (are_integers c es) ≡ Some k) (m.sorts x) e) (subst (λ o. miscounts_by (form_by o) (With (many es)) ≡ false) (m.sorts x) p.0) (values_of s f es) (λ whole. values_rightly f es whole p.1) (spots_of s f es) (ticked s w)
     value_rightly f (Grouped a) k e u w = value_rightly f a k e u (ticked s w)
     value_rightly f (Positive a) k e u w =
         let p = when_parts _ _ _ e in
@@ -142,7 +147,7 @@ module _ (m : Main) where
         bind_rightly (λ v _. IsOfKind (operand op) v) (λ v _. IsOfKind k v) (value_of s f b w1) _ (value_rightly f b (operand op) (is_kind_some (operand op) _ both.1) counts.1 w1) (λ y w2 g.
         settle_rightly (IsOfKind k) f.place (operate op x y) w2 (subst (λ j. TriesRightly (IsOfKind j) (operate op x y)) p.1 (operate_rightly op x y h g))))
 
-    pub values_rightly : (f : Frame) (es : Formulas) → are_integers c es ≡ true → FitCounts m.notes (uses_of_all es) → (w : World) → Rightly (λ vs _. AreWhole (many es) vs) (values_of s f es w)
+    pub values_rightly : (f : Frame) (es : Formulas) → are_integers c es ≡ true → FitCounts c (uses_of_all es) → (w : World) → Rightly (λ vs _. AreWhole (many es) vs) (values_of s f es w)
     values_rightly f Nought e u w = no_integers
     values_rightly f (Also a es) e u w =
         let both = and_parts (is_kind Integer (kind_in c a)) _ e in
@@ -151,6 +156,6 @@ module _ (m : Main) where
         bind_rightly (λ vs _. AreWhole (many es) vs) (λ vs _. AreWhole (many es + 1) vs) (values_of s f es w1) _ (values_rightly f es both.1 counts.1 w1) (λ vs w2 g. one_more (many es) v vs h g))
 
   -- a condition
-  pub asks_rightly : (f : Frame) (e : Formula) → kind_in c e ≡ Some Logical → FitCounts m.notes (uses_of e) → (w : World) → NeverWrong (asks s f e w)
+  pub asks_rightly : (f : Frame) (e : Formula) → kind_in c e ≡ Some Logical → FitCounts c (uses_of e) → (w : World) → NeverWrong (asks s f e w)
   asks_rightly f e h u w =
       bind_rightly (λ v _. IsOfKind Logical v) (λ _ _. ⊤) (value_of s f e w) _ (value_rightly f e Logical h u w) (λ v w1 g. settle_rightly (λ _. ⊤) f.place (truth_in v) w1 (truth_rightly v g))

@@ -21,7 +21,7 @@ use Rattle.f66_tree.specs.Forms.{Formula, Variable, Applied, Par, One, Entries, 
 use Rattle.f66_tree.specs.World.{Tape, files_of, tape_of, World, Try, Yields, Traps, lifted, settle}
 use Rattle.f66_tree.specs.Records.{placed, due, put_by, put, closed}
 use Rattle.f66_tree.specs.Units.{Context, kind_of, format_of, sizes_of, Spot, Held, Setting, Frame}
-use Rattle.f66_tree.specs.Evaluation.{array_or, sort_of, ticked, load, par_in, locate}
+use Rattle.f66_tree.specs.Evaluation.{array_or, ticked, load, par_in, locate}
 use Rattle.f66_tree.specs.Statements.{taped, edited, one_or_row, item, items, on_unit, unit_for, opened_by, record_by}
 use Rattle.f66_names.specs.Sorts.{form_by, is_array, is_array_form}
 use Rattle.f66_names.specs.Uses.{uses_of, uses_of_entries}
@@ -33,7 +33,7 @@ use Rattle.f66_sound.specs.SoundUnits.{in_main}
 use Rattle.f66_sound.proofs.RightlyLemmas.{bind_rightly, bind_any, then_rightly, settle_here, settle_rightly, if_both}
 use Rattle.f66_sound.proofs.KindLemmas.{none_of_both}
 use Rattle.f66_sound.proofs.ContentLemmas.{IsOfKind, asked_rightly}
-use Rattle.f66_sound.proofs.ValueLemmas.{array_fit, Main, setting_of, FitCounts}
+use Rattle.f66_sound.proofs.ValueLemmas.{Main, setting_of, FitCounts}
 use Rattle.f66_sound.proofs.StatementLemmas.{par_rightly, place_rightly}
 
 -- ---- editing ----
@@ -121,7 +121,7 @@ module _ (m : Main) where
   s = setting_of m
 
   abbrev c : Context
-  c = in_main m.notes
+  c = m.context
 
   edited_rightly : (f : Frame) (k : Kind) (p : Spot) (w : World) → NeverWrong (edited s f Writing k p w)
   edited_rightly f k p w =
@@ -130,25 +130,25 @@ module _ (m : Main) where
       taped_rightly (λ _. ⊤) f.place (put v) w2 (put_rightly k v w2.state.tape (subst (λ u. Awaits k u.state.tape.hand.mark) (sym i.1) h) i.0)))
 
   -- a variable, or an element
-  item_rightly : (f : Frame) (e : Formula) → is_one_place c e ≡ true → is_listed c e ≡ true → FitCounts m.notes (uses_of e) → (w : World) → NeverWrong (item s f Writing e w)
-  item_rightly f (Variable x) one listed u w = by_sizes (sizes_of x m.notes) one (ticked s w)
+  item_rightly : (f : Frame) (e : Formula) → is_one_place c e ≡ true → is_listed c e ≡ true → FitCounts c (uses_of e) → (w : World) → NeverWrong (item s f Writing e w)
+  item_rightly f (Variable x) one listed u w = by_sizes (sizes_of x m.notes) (subst (λ o. not (is_array_form (form_by o)) ≡ true) (m.sorts x) one) (ticked s w)
     where
-      by_sizes : (ns : List Par) → not (is_array_form (form_by (array_or ns x))) ≡ true → (w1 : World) → NeverWrong (one_or_row s f Writing (kind_of c x) ns (Held f.unit x 0) w1)
-      by_sizes [] h w1 = edited_rightly f (kind_of c x) (Held f.unit x 0) w1
+      by_sizes : (ns : List Par) → not (is_array_form (form_by (array_or ns x))) ≡ true → (w1 : World) → NeverWrong (one_or_row s f Writing (kind_of (in_main m.notes) x) ns (Held f.unit x 0) w1)
+      by_sizes [] h w1 = edited_rightly f (kind_of (in_main m.notes) x) (Held f.unit x 0) w1
       by_sizes (n ∷ ns) h w1 = let q : ⊥ = cc in absurd q
   item_rightly f (Applied x es) one listed u w =
       let p = or_parts _ _ u in
       let q = and_parts (is_array c x) _ listed in
-      bind_any (λ _ _. ⊤) (locate s f (Applied x es) w) _ (place_rightly m f x es (sort_of c x) (array_fit (sizes_of x m.notes) x (m.sizes x)) q.0 q.1 p.1 (not-false _ p.0) (ticked s w)) (λ p1 w1. edited_rightly f (kind_of c x) p1 w1)
+      bind_any (λ _ _. ⊤) (locate s f (Applied x es) w) _ (place_rightly m f x es q.0 q.1 p.1 (not-false _ p.0) (ticked s w)) (λ p1 w1. edited_rightly f (kind_of (in_main m.notes) x) p1 w1)
   item_rightly f _ one listed u w = let q : ⊥ = cc in absurd q
 
-  items_rightly : (f : Frame) (es : Entries) → is_one_item c es ≡ true → are_entries c es ≡ true → FitCounts m.notes (uses_of_entries es) → (w : World) → NeverWrong (items s f Writing es w)
+  items_rightly : (f : Frame) (es : Entries) → is_one_item c es ≡ true → are_entries c es ≡ true → FitCounts c (uses_of_entries es) → (w : World) → NeverWrong (items s f Writing es w)
   items_rightly f (AndEntry (One e) NoEntry) one listed u w =
       bind_any (λ _ _. ⊤) (item s f Writing e (ticked s w)) _ (item_rightly f e (and_parts _ _ one).0 (and_parts _ _ listed).0 (none_of_both (miscounts c) (uses_of e) [] u).0 (ticked s w)) (λ _ w1. tt)
   items_rightly f (AndEntry (One e) (AndEntry e1 es)) one listed u w = let last : false ≡ true = (and_parts (is_one_place c e) false one).1 in let q : ⊥ = cc in absurd q
   items_rightly f _ one listed u w = let q : ⊥ = cc in absurd q
 
-  pub record_rightly : (f : Frame) (u : Par) (l : ℕ) (es : Entries) → is_counting c u ≡ true → is_some (format_of l m.notes) ≡ true → is_one_item c es ≡ true → are_entries c es ≡ true → FitCounts m.notes (uses_of_entries es) → (w : World) →
+  pub record_rightly : (f : Frame) (u : Par) (l : ℕ) (es : Entries) → is_counting c u ≡ true → is_some (format_of l m.notes) ≡ true → is_one_item c es ≡ true → are_entries c es ≡ true → FitCounts c (uses_of_entries es) → (w : World) →
       NeverWrong (record_by s f Writing u l es w)
   record_rightly f u l es counting there one listed uses w =
       bind_rightly (λ v _. IsOfKind Integer v) (λ _ _. ⊤) (par_in s f u w) _ (par_rightly m f u counting w) (λ v w1 h.

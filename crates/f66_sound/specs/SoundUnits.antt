@@ -6,6 +6,7 @@ use Rattle.f66_tree.specs.World.{Record, Wrong, Ended}
 use Rattle.f66_tree.specs.Units.{Note, Context, notes_of, format_of}
 use Rattle.f66_tree.specs.OneUnit.{executed}
 use Rattle.f66_names.specs.BuiltActs.{is_built}
+use Rattle.f66_names.specs.Declaring.{context_by}
 use Rattle.f66_names.specs.Rules.{breaks_name}
 
 -- what the statements of a unit say
@@ -25,13 +26,21 @@ finds_format notes (Writes u l es) = is_some (format_of l notes)
 finds_format notes (Chooses e a) = finds_format notes a
 finds_format notes _ = true
 
--- Each statement is built, and breaks no rule of names, types, counts, constants and stores; each WRITE finds its FORMAT.
--- Nothing is asked of labels otherwise, nor of the order of the statements or the nesting of DO loops.
-pub record IsSoundMain (code : List Line) : Type 0 where
-  pub built : (i : ℕ) (a : Act) → slice_get (acts_of code) i ≡ Some a → is_built (main_context code) a ≡ true
-  pub clean : (i : ℕ) (a : Act) → slice_get (acts_of code) i ≡ Some a → (k : FaultKind) → breaks_name (main_context code) (acts_of code) i a k ≡ false
+-- Where names mean what the context says, each statement is built, and breaks no rule of names, types, counts, constants and
+-- stores; and each WRITE finds its FORMAT. Nothing else is asked of labels, nor of the order of statements or of DO loops.
+pub record IsSoundMain (c : Context) (code : List Line) : Type 0 where
+  pub built : (i : ℕ) (a : Act) → slice_get (acts_of code) i ≡ Some a → is_built c a ≡ true
+  pub clean : (i : ℕ) (a : Act) → slice_get (acts_of code) i ≡ Some a → (k : FaultKind) → breaks_name c (acts_of code) i a k ≡ false
   pub formats : (i : ℕ) (a : Act) → slice_get (acts_of code) i ≡ Some a → finds_format (notes_of code) a ≡ true
 
--- a sound main unit never goes wrong, on any input and at any bound
+-- no run of the unit goes wrong, on any input and at any bound
+abbrev pub RunsRightly : List Line → Type 0
+RunsRightly code = (input : List Record) (n : ℕ) → (executed code input n).end ≢ Ended Wrong
+
+-- a sound main unit never goes wrong
 abbrev pub SoundNeverWrong : Type 0
-SoundNeverWrong = (code : List Line) → IsSoundMain code → (input : List Record) (n : ℕ) → (executed code input n).end ≢ Ended Wrong
+SoundNeverWrong = (code : List Line) → IsSoundMain (main_context code) code → RunsRightly code
+
+-- the same where the statements are judged without their labels
+abbrev pub SoundByActs : Type 0
+SoundByActs = (code : List Line) → IsSoundMain (context_by MainUnit (acts_of code)) code → RunsRightly code
