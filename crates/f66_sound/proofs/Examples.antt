@@ -1,0 +1,146 @@
+-- A main unit that is sound, and for each thing that is asked of a sound unit and matters here one that lacks it and goes wrong.
+use Rattle.std.proofs.Common.{◌≡◌, ℕ, zero, suc, true, false, List, [], ◌∷◌, Option, Some, None, slice_get, codes, refl, subst}
+use Rattle.std.specs.Prelude.{pos, ⊤}
+use Rattle.ground.specs.declared.fault.FaultKind.{FaultKind}
+use Rattle.ground.specs.declared.fault.FaultKind.TheVariants.{Syntax}
+use Rattle.f66_tree.specs.declared.declaration.TypeWord.TheVariants.{Logical}
+use Rattle.f66_tree.specs.declared.expression.Operator.TheVariants.{Add, Lt}
+use Rattle.f66_tree.specs.declared.editing.EditKind.TheVariants as edits
+use Rattle.f66_tree.specs.Fields.{Takes, NoField, Single}
+use Rattle.f66_tree.specs.Forms.{Text, Formula, Number, Fact, Variable, Applied, Joined, Nought, Also, Constant, Named, One, NoEntry, AndEntry, Act, Assigns, Chooses, Loops, Invokes, Passes, Writes, Formats, Types, Dimensions, Line, bare, marked}
+use Rattle.f66_tree.specs.World.{Wrong, Ended}
+use Rattle.f66_tree.specs.Units.{notes_of}
+use Rattle.f66_tree.specs.Execution.{nowhere}
+use Rattle.f66_tree.specs.OneUnit.{executed}
+use Rattle.f66_names.specs.BuiltActs.{is_built}
+use Rattle.f66_names.specs.Rules.{breaks_name}
+use Rattle.f66_sound.specs.SoundUnits.{acts_of, main_context, finds_format, IsSoundMain, RunsRightly}
+use Rattle.f66_sound.proofs.KindLemmas.{some_same, no_some}
+use Rattle.f66_sound.proofs.SoundLemmas.{never_wrong}
+
+abbrev i : Text
+i = codes "I"
+
+abbrev k : Text
+k = codes "K"
+
+abbrev l : Text
+l = codes "L"
+
+abbrev num : ℕ → Formula
+num n = Number (pos n)
+
+abbrev of_one : Text → Formula → Formula
+of_one x a = Applied x (Also a Nought)
+
+abbrev of_two : Text → Formula → Formula → Formula
+of_two x a b = Applied x (Also a (Also b Nought))
+
+abbrev says : Act → Line
+says a = bare nowhere a
+
+-- DIMENSION K(3)
+abbrev array : Act
+array = Dimensions (record { name = k; sizes = Constant (pos 3) ∷ [] } ∷ [])
+
+-- LOGICAL L
+abbrev logical : Act
+logical = Types Logical (record { name = l; sizes = [] } ∷ [])
+
+-- ---- a sound unit ----
+
+--       DIMENSION K(3)
+--    10 FORMAT (I5)
+--       DO 20 I = 1, 3, 1
+--       K(I) = MOD(I, 2) + 1
+--    20 IF (K(I) .LT. 2) WRITE (6, 10) K(I)
+abbrev loop : List Line
+loop =
+    says array
+    ∷ marked 10 nowhere (Formats (Single 1 (Takes edits.Whole 5) NoField))
+    ∷ says (Loops 20 i (Constant (pos 1)) (Constant (pos 3)) (Constant (pos 1)))
+    ∷ says (Assigns (of_one k (Variable i)) (Joined Add (of_two (codes "MOD") (Variable i) (num 2)) (num 1)))
+    ∷ marked 20 nowhere (Chooses (Joined Lt (of_one k (Variable i)) (num 2)) (Writes (Constant (pos 6)) 10 (AndEntry (One (of_one k (Variable i))) NoEntry)))
+    ∷ []
+
+abbrev acts : List Act
+acts = acts_of loop
+
+-- what holds of each statement by its number holds of the one that is looked up
+abbrev Each : (ℕ → Act → Type 0) → List Act → Type 0
+Each P [] = ⊤
+Each P (a ∷ rest) = P 0 a × Each (λ n. P (suc n)) rest
+
+each_at : (P : ℕ → Act → Type 0) (as' : List Act) → Each P as' → (n : ℕ) (a : Act) → slice_get as' n ≡ Some a → P n a
+each_at P [] h n a e = no_some _ e
+each_at P (b ∷ rest) h zero a e = subst (P 0) (some_same e) h.0
+each_at P (b ∷ rest) h (suc n) a e = each_at (λ m. P (suc m)) rest h.1 n a e
+
+abbrev Unbroken : ℕ → Act → Type 0
+Unbroken n a = (kind : FaultKind) → breaks_name (main_context loop) acts n a kind ≡ false
+
+abbrev act_at : ℕ → Act
+act_at n = or_passes (slice_get acts n)
+  where
+    or_passes : Option Act → Act
+    or_passes None = Passes
+    or_passes (Some a) = a
+
+first_unbroken : Unbroken 0 (act_at 0)
+first_unbroken Syntax = refl
+first_unbroken _ = refl
+
+second_unbroken : Unbroken 1 (act_at 1)
+second_unbroken Syntax = refl
+second_unbroken _ = refl
+
+third_unbroken : Unbroken 2 (act_at 2)
+third_unbroken Syntax = refl
+third_unbroken _ = refl
+
+fourth_unbroken : Unbroken 3 (act_at 3)
+fourth_unbroken Syntax = refl
+fourth_unbroken _ = refl
+
+fifth_unbroken : Unbroken 4 (act_at 4)
+fifth_unbroken Syntax = refl
+fifth_unbroken _ = refl
+
+loop_sound : IsSoundMain (main_context loop) loop
+loop_sound = record {
+  built = each_at (λ n a. is_built (main_context loop) a ≡ true) acts (refl, (refl, (refl, (refl, (refl, tt)))));
+  clean = each_at Unbroken acts (first_unbroken, (second_unbroken, (third_unbroken, (fourth_unbroken, (fifth_unbroken, tt)))));
+  formats = each_at (λ n a. finds_format (notes_of loop) a ≡ true) acts (refl, (refl, (refl, (refl, (refl, tt)))));
+}
+
+loop_rightly : RunsRightly loop
+loop_rightly = never_wrong loop loop_sound
+
+-- ---- units that are not sound ----
+
+abbrev goes_wrong : List Line → Type 0
+goes_wrong code = (executed code [] 9).end ≡ Ended Wrong
+
+-- I = 1 + .TRUE.
+type_clash : goes_wrong (says (Assigns (Variable i) (Joined Add (num 1) (Fact true))) ∷ [])
+type_clash = refl
+
+-- DIMENSION K(3), and then K(1) = 1, and I = K(1, 1)
+wrong_count : goes_wrong (says array ∷ says (Assigns (of_one k (num 1)) (num 1)) ∷ says (Assigns (Variable i) (of_two k (num 1) (num 1))) ∷ [])
+wrong_count = refl
+
+-- LOGICAL L and DIMENSION K(L), and then L = .TRUE., and K(1) = 1
+bad_constant : goes_wrong (says logical ∷ says (Dimensions (record { name = k; sizes = Named l ∷ [] } ∷ [])) ∷ says (Assigns (Variable l) (Fact true)) ∷ says (Assigns (of_one k (num 1)) (num 1)) ∷ [])
+bad_constant = refl
+
+-- MOD(1, 2) = 1
+not_assignable : goes_wrong (says (Assigns (of_two (codes "MOD") (num 1) (num 2)) (num 1)) ∷ [])
+not_assignable = refl
+
+-- CALL K
+unbuilt : goes_wrong (says (Invokes k Nought) ∷ [])
+unbuilt = refl
+
+-- WRITE (6, 10) I, and no FORMAT
+no_format : goes_wrong (says (Assigns (Variable i) (num 1)) ∷ says (Writes (Constant (pos 6)) 10 (AndEntry (One (Variable i)) NoEntry)) ∷ [])
+no_format = refl

@@ -1,0 +1,9 @@
+pub mod RightlyLemmas
+pub mod KindLemmas
+pub mod ContentLemmas
+pub mod ValueLemmas
+pub mod StatementLemmas
+pub mod WriteLemmas
+pub mod RunLemmas
+pub mod SoundLemmas
+mod Examples

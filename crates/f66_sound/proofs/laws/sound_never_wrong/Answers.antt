@@ -1,0 +1,5 @@
+use Rattle.f66_sound.proofs.SoundLemmas as sound
+use Rattle.f66_sound.proofs.laws.sound_never_wrong.Goals as goal
+
+pub returns : goal.returns
+returns c = sound.never_wrong

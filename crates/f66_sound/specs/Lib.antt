@@ -1,0 +1,2 @@
+pub mod Rightly
+pub mod SoundUnits
