@@ -58,17 +58,23 @@ fn kind_of(alloc: Global, word: &str, numbers: [u32; 3]) -> Result<StmtKind, All
             let (start, last, step) = (Par::Number(1), Par::Number(9), Par::Number(1));
             Ok(StmtKind::Loop(first, variable, start, last, step))
         }
-        "STOP" => Ok(StmtKind::Stop(None)),
-        "RETURN" => Ok(StmtKind::Return),
         "READ" => Ok(StmtKind::Read(Par::Number(5), first, Vec::new(alloc))),
         "WRITE" => Ok(StmtKind::Write(Par::Number(6), first, Vec::new(alloc))),
-        "FORMAT" => Ok(StmtKind::Format(Vec::new(alloc))),
-        "INTEGER" => Ok(StmtKind::Typed(TypeWord::Integer, Vec::new(alloc))),
-        "DIMENSION" => Ok(StmtKind::Dimension(Vec::new(alloc))),
-        "COMMON" => Ok(StmtKind::Common(Vec::new(alloc))),
-        "EQUIVALENCE" => Ok(StmtKind::Equivalence(Vec::new(alloc))),
-        "DATA" => Ok(StmtKind::Preset(Vec::new(alloc))),
-        _ => Ok(StmtKind::Continue),
+        word => Ok(plain_kind(alloc, word)),
+    }
+}
+
+fn plain_kind(alloc: Global, word: &str) -> StmtKind {
+    match word {
+        "STOP" => StmtKind::Stop(None),
+        "RETURN" => StmtKind::Return,
+        "FORMAT" => StmtKind::Format(Vec::new(alloc)),
+        "INTEGER" => StmtKind::Typed(TypeWord::Integer, Vec::new(alloc)),
+        "DIMENSION" => StmtKind::Dimension(Vec::new(alloc)),
+        "COMMON" => StmtKind::Common(Vec::new(alloc)),
+        "EQUIVALENCE" => StmtKind::Equivalence(Vec::new(alloc)),
+        "DATA" => StmtKind::Preset(Vec::new(alloc)),
+        _ => StmtKind::Continue,
     }
 }
 
