@@ -7,79 +7,98 @@ use ground::{FaultKind, Place, Text};
 use std::alloc::{AllocError, Global};
 use std::test::Fail;
 
-/// A statement of the tests, which has no more of its parts than the rules ask for.
+/// A statement as the tests write it, with no more of its parts than the rules ask for: `10 IF GO 20`.
 #[derive(Clone, Copy)]
-enum Form {
-    Go(u32),
-    Select(u32, u32),
-    Sign(u32, u32, u32),
-    IfGo(u32),
-    IfStop,
-    Do(u32),
-    Pass,
-    Stop,
-    Return,
-    Read(u32),
-    Write(u32),
-    Format,
-    Integer,
-    Dimension,
-    Common,
-    Equivalence,
-    Data,
+struct Said<'a> {
+    label: Option<u32>,
+    under_if: bool,
+    word: &'a str,
+    numbers: [u32; 3],
+}
+
+fn said_by(text: &str) -> Said<'_> {
+    let mut said = Said {
+        label: None,
+        under_if: false,
+        word: "",
+        numbers: [0; 3],
+    };
+    let mut count = 0;
+    for part in text.split(' ') {
+        match part.parse::<u32>() {
+            Ok(number) if said.word.is_empty() => said.label = Some(number),
+            Ok(number) => {
+                if count < 3 {
+                    said.numbers[count] = number;
+                    count += 1;
+                }
+            }
+            Err(_) if part == "IF" => said.under_if = true,
+            Err(_) => said.word = part,
+        }
+    }
+    said
 }
 
 fn name(alloc: Global) -> Result<Name, AllocError> {
     Ok(Name::new(Text::new(b"I".to_vec(alloc)?)))
 }
 
-fn under_if(alloc: Global, kind: StmtKind) -> Result<StmtKind, AllocError> {
-    Ok(StmtKind::When(Expr::Truth(true), Box::new(alloc, kind)?))
-}
-
-fn kind_of(alloc: Global, form: Form) -> Result<StmtKind, AllocError> {
-    match form {
-        Form::Go(label) => Ok(StmtKind::Goto(label)),
-        Form::Select(first, second) => {
+fn kind_of(alloc: Global, word: &str, numbers: [u32; 3]) -> Result<StmtKind, AllocError> {
+    let [first, second, third] = numbers;
+    match word {
+        "GO" => Ok(StmtKind::Goto(first)),
+        "SELECT" => {
             let labels = [first, second].to_vec(alloc)?;
             Ok(StmtKind::Computed(labels, name(alloc)?))
         }
-        Form::Sign(below, zero, above) => Ok(StmtKind::Sign(Expr::Int(1), below, zero, above)),
-        Form::IfGo(label) => under_if(alloc, StmtKind::Goto(label)),
-        Form::IfStop => under_if(alloc, StmtKind::Stop(None)),
-        Form::Do(label) => {
+        "SIGN" => Ok(StmtKind::Sign(Expr::Int(1), first, second, third)),
+        "DO" => {
             let variable = name(alloc)?;
-            let (first, last, step) = (Par::Number(1), Par::Number(9), Par::Number(1));
-            Ok(StmtKind::Loop(label, variable, first, last, step))
+            let (start, last, step) = (Par::Number(1), Par::Number(9), Par::Number(1));
+            Ok(StmtKind::Loop(first, variable, start, last, step))
         }
-        Form::Pass => Ok(StmtKind::Continue),
-        Form::Stop => Ok(StmtKind::Stop(None)),
-        Form::Return => Ok(StmtKind::Return),
-        Form::Read(label) => Ok(StmtKind::Read(Par::Number(5), label, Vec::new(alloc))),
-        Form::Write(label) => Ok(StmtKind::Write(Par::Number(6), label, Vec::new(alloc))),
-        Form::Format => Ok(StmtKind::Format(Vec::new(alloc))),
-        Form::Integer => Ok(StmtKind::Typed(TypeWord::Integer, Vec::new(alloc))),
-        Form::Dimension => Ok(StmtKind::Dimension(Vec::new(alloc))),
-        Form::Common => Ok(StmtKind::Common(Vec::new(alloc))),
-        Form::Equivalence => Ok(StmtKind::Equivalence(Vec::new(alloc))),
-        Form::Data => Ok(StmtKind::Preset(Vec::new(alloc))),
+        "READ" => Ok(StmtKind::Read(Par::Number(5), first, Vec::new(alloc))),
+        "WRITE" => Ok(StmtKind::Write(Par::Number(6), first, Vec::new(alloc))),
+        word => Ok(plain_kind(alloc, word)),
     }
 }
 
-fn statement(alloc: Global, label: Option<u32>, form: Form) -> Result<Stmt, AllocError> {
-    let kind = kind_of(alloc, form)?;
+fn plain_kind(alloc: Global, word: &str) -> StmtKind {
+    match word {
+        "STOP" => StmtKind::Stop(None),
+        "RETURN" => StmtKind::Return,
+        "FORMAT" => StmtKind::Format(Vec::new(alloc)),
+        "INTEGER" => StmtKind::Typed(TypeWord::Integer, Vec::new(alloc)),
+        "DIMENSION" => StmtKind::Dimension(Vec::new(alloc)),
+        "COMMON" => StmtKind::Common(Vec::new(alloc)),
+        "EQUIVALENCE" => StmtKind::Equivalence(Vec::new(alloc)),
+        "DATA" => StmtKind::Preset(Vec::new(alloc)),
+        _ => StmtKind::Continue,
+    }
+}
+
+fn statement(alloc: Global, said: Said) -> Result<Stmt, AllocError> {
+    let kind = kind_of(alloc, said.word, said.numbers)?;
+    let kind = if said.under_if {
+        StmtKind::When(Expr::Truth(true), Box::new(alloc, kind)?)
+    } else {
+        kind
+    };
     Ok(Stmt {
-        label,
+        label: said.label,
         place: Place { file: 0, line: 1 },
         kind,
     })
 }
 
-fn statements_of(alloc: Global, forms: &[(Option<u32>, Form)]) -> Result<Vec<Stmt>, AllocError> {
+fn statements_of(alloc: Global, text: &str) -> Result<Vec<Stmt>, AllocError> {
     let mut statements = Vec::new(alloc);
-    for (label, form) in forms {
-        let next = statement(alloc, *label, *form)?;
-        statements.push(next)?;
+    for part in text.split(';') {
+        if !part.is_empty() {
+            let next = statement(alloc, said_by(part))?;
+            statements.push(next)?;
+        }
     }
     Ok(statements)
 }
@@ -97,297 +116,113 @@ fn first_broken(scope: Scope, flow: &Flow) -> Option<(usize, FaultKind)> {
     None
 }
 
-/// Statements with their labels, and the first fault of their unit.
-type Row<'a> = (&'a [(Option<u32>, Form)], Scope, Option<(usize, FaultKind)>);
+/// Statements, the rules that are asked, and the first fault.
+type Row = (&'static str, Scope, Option<(usize, FaultKind)>);
 
 #[test]
 fn small_units(rt: HostRuntime) -> Result<(), Fail> {
     use FaultKind::{BadLabel, DoNesting, Syntax};
-    use Form::{Common, Data, Dimension, Do, Equivalence, Format, Go, IfGo, IfStop, Integer};
-    use Form::{Pass, Read, Return, Select, Sign, Stop, Write};
     use Scope::{Part, Whole};
     let rows: [Row; 50] = [
-        (&[], Whole, Some((0, Syntax))),
-        (&[], Part, None),
+        ("", Whole, Some((0, Syntax))),
+        ("", Part, None),
+        ("9 FORMAT;INTEGER", Whole, Some((0, Syntax))),
+        ("STOP", Whole, None),
         (
-            &[(Some(9), Format), (None, Integer)],
-            Whole,
-            Some((0, Syntax)),
-        ),
-        (&[(None, Stop)], Whole, None),
-        (
-            &[
-                (None, Integer),
-                (Some(9), Format),
-                (None, Common),
-                (None, Equivalence),
-                (None, Data),
-                (None, Pass),
-                (None, Data),
-                (Some(8), Format),
-                (None, Stop),
-            ],
+            "INTEGER;9 FORMAT;COMMON;EQUIVALENCE;DATA;PASS;DATA;8 FORMAT;STOP",
             Whole,
             None,
         ),
+        ("PASS;INTEGER;STOP", Whole, Some((2, Syntax))),
+        ("DATA;DIMENSION;STOP", Part, Some((2, Syntax))),
+        ("STOP;COMMON", Part, Some((2, Syntax))),
+        ("PASS;EQUIVALENCE;RETURN", Whole, Some((2, Syntax))),
+        ("STOP;PASS;9 FORMAT", Whole, Some((2, Syntax))),
+        ("STOP;PASS", Part, None),
+        ("10 PASS;GO 10;9 FORMAT;DATA", Whole, None),
+        ("STOP;IF STOP", Whole, Some((2, Syntax))),
+        ("10 PASS;SIGN 10 10 10", Whole, None),
+        ("10 PASS;SELECT 10 10", Whole, None),
+        ("RETURN", Whole, None),
+        ("0 STOP", Whole, Some((1, BadLabel))),
+        ("99999 STOP", Whole, None),
+        ("100000 STOP", Part, Some((1, BadLabel))),
+        ("10 PASS;10 STOP", Whole, Some((2, BadLabel))),
+        ("GO 10;10 STOP", Whole, None),
+        ("GO 20;10 STOP", Part, Some((1, BadLabel))),
+        ("GO 9;9 FORMAT;STOP", Whole, Some((1, BadLabel))),
+        ("SELECT 10 20;10 STOP", Whole, Some((1, BadLabel))),
+        ("SIGN 10 10 20;10 STOP", Whole, Some((1, BadLabel))),
+        ("IF GO 20;10 STOP", Whole, Some((1, BadLabel))),
+        ("WRITE 9;READ 9;9 FORMAT;STOP", Whole, None),
+        ("READ 10;10 STOP", Whole, Some((1, BadLabel))),
+        ("IF WRITE 9;STOP", Part, Some((1, BadLabel))),
+        ("DO 10;STOP", Whole, Some((1, BadLabel))),
+        ("DO 10;STOP", Part, None),
+        ("DO 9;9 FORMAT;STOP", Whole, Some((1, BadLabel))),
+        ("DO 10;10 PASS;STOP", Whole, None),
+        ("10 PASS;DO 10;STOP", Whole, Some((2, DoNesting))),
+        ("10 PASS;DO 10;STOP", Part, None),
+        ("10 DO 10;STOP", Whole, Some((1, DoNesting))),
+        ("DO 10;10 GO 20;20 STOP", Whole, Some((1, DoNesting))),
+        ("DO 10;10 IF STOP;STOP", Whole, Some((1, DoNesting))),
+        ("DO 10;10 DO 20;20 PASS;STOP", Whole, Some((1, DoNesting))),
+        ("DO 20;DO 10;10 PASS;20 PASS;STOP", Whole, None),
         (
-            &[(None, Pass), (None, Integer), (None, Stop)],
+            "DO 10;DO 20;10 PASS;20 PASS;STOP",
             Whole,
-            Some((2, Syntax)),
+            Some((2, DoNesting)),
         ),
+        ("DO 10;DO 10;IF GO 10;10 PASS;STOP", Whole, None),
         (
-            &[(None, Data), (None, Dimension), (None, Stop)],
-            Part,
-            Some((2, Syntax)),
-        ),
-        (&[(None, Stop), (None, Common)], Part, Some((2, Syntax))),
-        (
-            &[(None, Pass), (None, Equivalence), (None, Return)],
-            Whole,
-            Some((2, Syntax)),
-        ),
-        (
-            &[(None, Stop), (None, Pass), (Some(9), Format)],
-            Whole,
-            Some((2, Syntax)),
-        ),
-        (&[(None, Stop), (None, Pass)], Part, None),
-        (
-            &[
-                (Some(10), Pass),
-                (None, Go(10)),
-                (Some(9), Format),
-                (None, Data),
-            ],
-            Whole,
-            None,
-        ),
-        (&[(None, Stop), (None, IfStop)], Whole, Some((2, Syntax))),
-        (&[(Some(10), Pass), (None, Sign(10, 10, 10))], Whole, None),
-        (&[(Some(10), Pass), (None, Select(10, 10))], Whole, None),
-        (&[(None, Return)], Whole, None),
-        (&[(Some(0), Stop)], Whole, Some((1, BadLabel))),
-        (&[(Some(99999), Stop)], Whole, None),
-        (&[(Some(100000), Stop)], Part, Some((1, BadLabel))),
-        (
-            &[(Some(10), Pass), (Some(10), Stop)],
-            Whole,
-            Some((2, BadLabel)),
-        ),
-        (&[(None, Go(10)), (Some(10), Stop)], Whole, None),
-        (
-            &[(None, Go(20)), (Some(10), Stop)],
-            Part,
-            Some((1, BadLabel)),
-        ),
-        (
-            &[(None, Go(9)), (Some(9), Format), (None, Stop)],
-            Whole,
-            Some((1, BadLabel)),
-        ),
-        (
-            &[(None, Select(10, 20)), (Some(10), Stop)],
-            Whole,
-            Some((1, BadLabel)),
-        ),
-        (
-            &[(None, Sign(10, 10, 20)), (Some(10), Stop)],
-            Whole,
-            Some((1, BadLabel)),
-        ),
-        (
-            &[(None, IfGo(20)), (Some(10), Stop)],
-            Whole,
-            Some((1, BadLabel)),
-        ),
-        (
-            &[
-                (None, Write(9)),
-                (None, Read(9)),
-                (Some(9), Format),
-                (None, Stop),
-            ],
-            Whole,
-            None,
-        ),
-        (
-            &[(None, Read(10)), (Some(10), Stop)],
-            Whole,
-            Some((1, BadLabel)),
-        ),
-        (&[(None, Write(9)), (None, Stop)], Part, Some((1, BadLabel))),
-        (&[(None, Do(10)), (None, Stop)], Whole, Some((1, BadLabel))),
-        (&[(None, Do(10)), (None, Stop)], Part, None),
-        (
-            &[(None, Do(9)), (Some(9), Format), (None, Stop)],
-            Whole,
-            Some((1, BadLabel)),
-        ),
-        (
-            &[(None, Do(10)), (Some(10), Pass), (None, Stop)],
-            Whole,
-            None,
-        ),
-        (
-            &[(Some(10), Pass), (None, Do(10)), (None, Stop)],
+            "DO 10;IF GO 10;DO 10;10 PASS;STOP",
             Whole,
             Some((2, DoNesting)),
         ),
         (
-            &[(Some(10), Pass), (None, Do(10)), (None, Stop)],
-            Part,
-            None,
-        ),
-        (
-            &[(Some(10), Do(10)), (None, Stop)],
+            "GO 10;DO 20;10 PASS;20 PASS;STOP",
             Whole,
             Some((1, DoNesting)),
         ),
+        ("GO 10;DO 20;10 PASS;20 PASS;STOP", Part, None),
+        ("DO 20;IF GO 30;20 PASS;30 STOP", Whole, None),
         (
-            &[(None, Do(10)), (Some(10), Go(20)), (Some(20), Stop)],
-            Whole,
-            Some((1, DoNesting)),
-        ),
-        (
-            &[(None, Do(10)), (Some(10), IfStop), (None, Stop)],
-            Whole,
-            Some((1, DoNesting)),
-        ),
-        (
-            &[
-                (None, Do(10)),
-                (Some(10), Do(20)),
-                (Some(20), Pass),
-                (None, Stop),
-            ],
-            Whole,
-            Some((1, DoNesting)),
-        ),
-        (
-            &[
-                (None, Do(20)),
-                (None, Do(10)),
-                (Some(10), Pass),
-                (Some(20), Pass),
-                (None, Stop),
-            ],
-            Whole,
-            None,
-        ),
-        (
-            &[
-                (None, Do(10)),
-                (None, Do(20)),
-                (Some(10), Pass),
-                (Some(20), Pass),
-                (None, Stop),
-            ],
-            Whole,
-            Some((2, DoNesting)),
-        ),
-        (
-            &[
-                (None, Do(10)),
-                (None, Do(10)),
-                (None, IfGo(10)),
-                (Some(10), Pass),
-                (None, Stop),
-            ],
-            Whole,
-            None,
-        ),
-        (
-            &[
-                (None, Do(10)),
-                (None, IfGo(10)),
-                (None, Do(10)),
-                (Some(10), Pass),
-                (None, Stop),
-            ],
-            Whole,
-            Some((2, DoNesting)),
-        ),
-        (
-            &[
-                (None, Go(10)),
-                (None, Do(20)),
-                (Some(10), Pass),
-                (Some(20), Pass),
-                (None, Stop),
-            ],
-            Whole,
-            Some((1, DoNesting)),
-        ),
-        (
-            &[
-                (None, Go(10)),
-                (None, Do(20)),
-                (Some(10), Pass),
-                (Some(20), Pass),
-                (None, Stop),
-            ],
-            Part,
-            None,
-        ),
-        (
-            &[
-                (None, Do(20)),
-                (None, IfGo(30)),
-                (Some(20), Pass),
-                (Some(30), Stop),
-            ],
-            Whole,
-            None,
-        ),
-        (
-            &[
-                (None, Do(20)),
-                (Some(10), Pass),
-                (Some(20), Pass),
-                (None, Select(20, 10)),
-            ],
+            "DO 20;10 PASS;20 PASS;SELECT 20 10",
             Whole,
             Some((4, DoNesting)),
         ),
         (
-            &[
-                (None, Do(20)),
-                (Some(10), Pass),
-                (Some(20), Pass),
-                (None, Sign(10, 10, 10)),
-            ],
+            "DO 20;10 PASS;20 PASS;SIGN 10 10 10",
             Whole,
             Some((4, DoNesting)),
         ),
-        (
-            &[(None, Pass), (Some(0), Integer), (None, Stop)],
-            Whole,
-            Some((2, Syntax)),
-        ),
-        (
-            &[(None, Do(10)), (Some(10), Stop), (None, Go(99))],
-            Whole,
-            Some((1, DoNesting)),
-        ),
+        ("PASS;0 INTEGER;STOP", Whole, Some((2, Syntax))),
+        ("DO 10;10 STOP;GO 99", Whole, Some((1, DoNesting))),
     ];
-    for (number, (forms, scope, wanted)) in rows.into_iter().enumerate() {
-        let statements = statements_of(rt.alloc(), forms)?;
+    for (text, scope, wanted) in rows {
+        let statements = statements_of(rt.alloc(), text)?;
         let flow = flow_of(rt.alloc(), &statements)?;
         let found = first_broken(scope, &flow);
-        assert_eq!(rt; found, wanted, "row {number}");
+        assert_eq!(rt; found, wanted, "{text}");
     }
     Ok(())
 }
 
-/// The form of a statement of the long unit: 5,000 ranges that end together, then branches within the innermost one and
-/// behind it, and at last a branch into it.
-fn long_form(number: u32) -> Form {
-    match number {
-        1..=5000 => Form::Do(15000),
-        5001..=14999 => Form::IfGo(15000),
-        15000 => Form::Pass,
-        15001..=19999 => Form::Go(19999),
-        _ => Form::Go(10000),
+/// A statement of the long unit: 5,000 ranges that end together, then branches within the innermost one and behind it,
+/// and at last a branch into it.
+fn long_said(number: u32) -> Said<'static> {
+    let (under_if, word, target) = match number {
+        1..=5000 => (false, "DO", 15000),
+        5001..=14999 => (true, "GO", 15000),
+        15000 => (false, "PASS", 0),
+        15001..=19999 => (false, "GO", 19999),
+        _ => (false, "GO", 10000),
+    };
+    Said {
+        label: Some(number),
+        under_if,
+        word,
+        numbers: [target; 3],
     }
 }
 
@@ -395,7 +230,7 @@ fn long_form(number: u32) -> Form {
 fn long_unit(rt: HostRuntime) -> Result<(), Fail> {
     let mut statements = Vec::new(rt.alloc());
     for number in 1..=20000 {
-        let next = statement(rt.alloc(), Some(number), long_form(number))?;
+        let next = statement(rt.alloc(), long_said(number))?;
         statements.push(next)?;
     }
     let flow = flow_of(rt.alloc(), &statements)?;
