@@ -6,7 +6,7 @@ use Rattle.rat_parts.specs.Values.{value}
 use Rattle.rat_phrases.specs.Phrases.{applied}
 use Rattle.rat_phrases.proofs.expressions.apply.Goals as goal
 
-pub returns-in-Exprs : goal.returns-in-Exprs
-returns-in-Exprs c =
+pub returns-in-Expression-Exprs : goal.returns-in-Expression-Exprs
+returns-in-Expression-Exprs c =
     item_formula c.args.name c.reverse.new.self
-    ∙ (ap (λ xs. Applied c.args.name (chained (map formula_of xs))) c.reverse.ensures.items ∙ ap (λ p. applied c.args.name (value p)) (sym c.in-Exprs.is))
+    ∙ (ap (λ xs. Applied c.args.name (chained (map formula_of xs))) c.reverse.ensures.items ∙ ap (λ p. applied c.args.name (value p)) (sym c.in-Expression-Exprs.is))
