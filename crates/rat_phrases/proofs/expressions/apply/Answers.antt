@@ -2,11 +2,13 @@ use Rattle.std.proofs.Common.{ap, sym, ◌∙◌, map}
 use Rattle.f66_tree.specs.Forms.{Applied}
 use Rattle.f66_tree.specs.Views.{formula_of, chained}
 use Rattle.f66_tree.proofs.Rows.{item_formula}
-use Rattle.rat_parts.specs.Values.{value}
+use Rattle.rat_parts.specs.Values.{value, expression, expression_value}
 use Rattle.rat_phrases.specs.Phrases.{applied}
 use Rattle.rat_phrases.proofs.expressions.apply.Goals as goal
 
-pub returns-in-Exprs : goal.returns-in-Exprs
-returns-in-Exprs c =
+pub returns-in-Expression-Exprs : goal.returns-in-Expression-Exprs
+returns-in-Expression-Exprs c =
+    let part = c.in-Expression-Exprs in
     item_formula c.args.name c.reverse.new.self
-    ∙ (ap (λ xs. Applied c.args.name (chained (map formula_of xs))) c.reverse.ensures.items ∙ ap (λ p. applied c.args.name (value p)) (sym c.in-Exprs.is))
+    ∙ (ap (λ xs. Applied c.args.name (chained (map formula_of xs))) c.reverse.ensures.items
+    ∙ (ap (λ e. applied c.args.name (expression (expression_value e))) (sym part.field-0-is) ∙ ap (λ p. applied c.args.name (value p)) (sym part.is)))
