@@ -1,5 +1,5 @@
-//! Lowers a tree of Ratfor of as many statements as its first word says, and prints what it becomes; with a second word it
-//! lowers it so many times more, and prints the least time of these, for bench/lower.sh.
+//! Lowers a tree of Ratfor of as many statements as its first word says, and prints what it becomes. With a second word it
+//! makes so many trees instead, lowers each once, and prints the time of the lowering alone, for bench/lower.sh.
 #![tactic(auto)]
 
 mod tree;
@@ -7,30 +7,32 @@ mod tree;
 use anyhow::{Result, bail};
 use rat_lower::lower;
 use std::env;
-use std::time::{Duration, Instant};
+use std::time::Instant;
 use tree::{FINISH, unit_of};
 
 fn main(rt: HostRuntime) -> Result<()> {
     let mut words = env::args(&rt)?.skip(1);
     let Some(count) = words.next() else {
-        bail!("usage: lower_bench STATEMENTS [ROUNDS]");
+        bail!("usage: lower_bench STATEMENTS [TREES]");
     };
     let count: u32 = count.as_str().parse()?;
-    let unit = unit_of(rt.alloc(), count)?;
-    let made = lower(rt.alloc(), &unit, FINISH)?;
-    let lines = made.statements.len();
-    println!(rt; "{count} statements become {lines}")?;
-    let Some(rounds) = words.next() else {
+    let Some(trees) = words.next() else {
+        let unit = unit_of(rt.alloc(), count)?;
+        let lines = lower(rt.alloc(), &unit, FINISH)?.statements.len();
+        println!(rt; "{count} statements become {lines}")?;
         return Ok(());
     };
-    let rounds: u32 = rounds.as_str().parse()?;
-    let mut least = Duration::MAX;
-    for _ in 0..rounds {
-        let start = Instant::now(&rt)?;
-        let _made = lower(rt.alloc(), &unit, FINISH)?;
-        least = least.min(start.elapsed(&rt)?);
+    let trees: u32 = trees.as_str().parse()?;
+    let mut units = Vec::new(rt.alloc());
+    for _ in 0..trees {
+        units.push(unit_of(rt.alloc(), count)?)?;
     }
-    let least = least.as_nanos();
-    println!(rt; "{least} ns")?;
+    let mut made = Vec::new(rt.alloc());
+    let start = Instant::now(&rt)?;
+    for unit in &units {
+        made.push(lower(rt.alloc(), unit, FINISH)?)?;
+    }
+    let time = start.elapsed(&rt)?.as_nanos();
+    println!(rt; "{time} ns")?;
     Ok(())
 }
