@@ -1,13 +1,13 @@
 -- The types and dimensions of a context's names, by the statements that give them.
-use Rattle.std.proofs.Common.{◌≡◌, ℕ, Bool, true, false, cond, List, [], ◌∷◌, ◌++◌, ◌||◌, Option, Some, None, unwrap_or, refl, ap, sym, ◌∙◌, arith}
+use Rattle.std.proofs.Common.{◌≡◌, ℕ, Bool, true, false, List, [], ◌∷◌, ◌||◌, Option, Some, None, unwrap_or, map, refl, ap, sym, ◌∙◌}
 use Rattle.std.specs.Prelude.{if◌then◌else◌}
 use Rattle.std.specs.List.{list_any, flat_map}
 use Rattle.std.specs.Option.{option_or}
 use Rattle.std.specs.Str.{bytes_eq}
 use Rattle.rule_table.specs.Words.{find_map}
 use Rattle.f66_tree.specs.declared.declaration.TypeWord.{TypeWord}
-use Rattle.f66_tree.specs.Forms.{Text, Par, Declared, Area, Act, Assigns, Goes, Selects, Signs, Chooses, Loops, Invokes, Passes, Stops, Returns, Reads, Writes, Formats, Types, Dimensions, Commons, Equivalences, Presets}
-use Rattle.f66_tree.specs.Units.{lists, typed_by, type_in, if_any, sizes_in, sizes_in_areas, sizes_by, sizes_of}
+use Rattle.f66_tree.specs.Forms.{Text, Par, Declared, Area, Act, Line, Types, Dimensions, Commons}
+use Rattle.f66_tree.specs.Units.{Note, is_note, notes_of, lists, typed_by, type_in, if_any, sizes_in, sizes_in_areas, sizes_by, sizes_of}
 use Rattle.f66_tree.specs.Evaluation.{known, intrinsics, array_or}
 use Rattle.f66_names.specs.declared.name_form.NameForm.{NameForm}
 use Rattle.f66_names.specs.declared.name_form.NameForm.TheVariants as forms
@@ -78,3 +78,25 @@ form_by-counted (n ∷ ns) x = refl
 
 pub form_of-counted : (x : Text) (acts : List Act) (o : Option ℕ) → o ≡ find_map (count_in x) acts → form_by (array_or (sizes_of x (noted acts)) x) ≡ form_counted o x
 form_of-counted x acts o e = form_by-counted (sizes_of x (noted acts)) x ∙ ap (λ n. form_counted n x) (sizes_of-counted x acts ∙ sym e)
+
+-- ---- statements with labels ----
+
+note_or : (b : Bool) (l : Option ℕ) (x : Text) (a : Act) (ns ms : List Note) (later : TypeWord) → type_in x ns later ≡ type_in x ms later →
+    type_in x (if b then record { label = l; act = a } ∷ ns else ns) later ≡ type_in x (if b then record { label = None; act = a } ∷ ms else ms) later
+note_or true l x a ns ms later e = ap (typed_by x a) e
+note_or false l x a ns ms later e = e
+
+-- labels tell nothing of types
+pub type_in-unlabelled : (x : Text) (code : List Line) (later : TypeWord) → type_in x (notes_of code) later ≡ type_in x (noted (map (λ s. s.act) code)) later
+type_in-unlabelled x [] later = refl
+type_in-unlabelled x (s ∷ rest) later = note_or (is_note s.act) s.label x s.act (notes_of rest) (noted (map (λ t. t.act) rest)) later (type_in-unlabelled x rest later)
+
+size_or : (b : Bool) (l : Option ℕ) (x : Text) (a : Act) (ns ms : List Note) → sizes_of x ns ≡ sizes_of x ms →
+    sizes_of x (if b then record { label = l; act = a } ∷ ns else ns) ≡ sizes_of x (if b then record { label = None; act = a } ∷ ms else ms)
+size_or true l x a ns ms e = ap (sizes_by x a) e
+size_or false l x a ns ms e = e
+
+-- nor of dimensions
+pub sizes_of-unlabelled : (x : Text) (code : List Line) → sizes_of x (notes_of code) ≡ sizes_of x (noted (map (λ s. s.act) code))
+sizes_of-unlabelled x [] = refl
+sizes_of-unlabelled x (s ∷ rest) = size_or (is_note s.act) s.label x s.act (notes_of rest) (noted (map (λ t. t.act) rest)) (sizes_of-unlabelled x rest)

@@ -1,9 +1,7 @@
 -- Lists of declarations in memory, and their names.
-use Rattle.std.proofs.Common.{◌≡◌, ◌∷◌, ◌&&◌, Bool, true, false, cond, List, [], map, filter, refl, ap, sym, ◌∙◌, arith}
-use Rattle.std.specs.List.{list_any}
+use Rattle.std.proofs.Common.{◌≡◌, ◌∷◌, Bool, true, false, cond, List, [], map, filter, refl, ap}
 use Rattle.std.proofs.lemmas.Grind.{common_steps}
 use Rattle.f66_tree.specs.declared.declaration.Declared.{Declared}
-use Rattle.f66_tree.specs.Forms as forms
 use Rattle.f66_tree.specs.Views.{declared_of}
 use Rattle.rule_table.proofs.WordLemmas.{list_any_map, list_any_filter}
 use Rattle.f66_names.specs.Declaring.{is_sized}

@@ -4,12 +4,11 @@ use Rattle.std.specs.Prelude.{ℕ, pos, ◌+◌, Bool, true, false, List, [], �
 use Rattle.ground.specs.declared.fault.FaultKind.{FaultKind}
 use Rattle.ground.specs.declared.fault.FaultKind.TheVariants.{Syntax, NameTooLong, OutOfProfileType, TypeClash, WrongCount, DuplicateName, BadConstant, BadFormat, NotAssignable, Limit}
 use Rattle.rule_table.specs.FaultRules.{first_rule}
-use Rattle.f66_tree.specs.declared.declaration.TypeWord.{TypeWord}
 use Rattle.f66_tree.specs.declared.declaration.TypeWord.TheVariants.{Integer, Logical, Other}
-use Rattle.f66_tree.specs.declared.expression.Operator.TheVariants.{Add, Sub, Mul, Power, Lt, And, Or}
+use Rattle.f66_tree.specs.declared.expression.Operator.TheVariants.{Add, Sub, Mul, Power, Lt, And}
 use Rattle.f66_tree.specs.declared.editing.EditKind.TheVariants as edits
 use Rattle.f66_tree.specs.Fields.{Takes, NoField, Single}
-use Rattle.f66_tree.specs.Forms.{Text, Formula, Number, Fact, Variable, Applied, Grouped, Negated, Joined, Nought, Also, Par, Constant, Named, Declared, MainUnit, One, NoEntry, AndEntry, Act, Assigns, Selects, Signs, Chooses, Loops, Passes, Stops, Writes, Formats, Types, Dimensions, Invokes}
+use Rattle.f66_tree.specs.Forms.{Text, Formula, Number, Fact, Variable, Applied, Grouped, Negated, Joined, Nought, Also, Constant, Named, Declared, MainUnit, One, NoEntry, AndEntry, Act, Assigns, Selects, Chooses, Loops, Passes, Stops, Writes, Formats, Types, Dimensions, Invokes}
 use Rattle.f66_names.specs.Declaring.{context_by}
 use Rattle.f66_names.specs.BuiltActs as built
 use Rattle.f66_names.specs.Rules.{breaks_name}

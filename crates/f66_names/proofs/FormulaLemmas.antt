@@ -1,5 +1,5 @@
 -- Names with parentheses, and the lists in them.
-use Rattle.std.proofs.Common.{◌≡◌, ◌<◌, ◌+◌, ℕ, List, [], ◌∷◌, ◌++◌, length, Vec, Global, Result, OnOk, refl, ap, sym, ◌∙◌, arith, append_assoc}
+use Rattle.std.proofs.Common.{◌≡◌, ◌<◌, ℕ, List, [], ◌∷◌, ◌++◌, length, Vec, Global, Result, OnOk, refl, ap, sym, ◌∙◌, arith, append_assoc}
 use Rattle.std.proofs.lemmas.Result.{on_ok_weaker}
 use Rattle.f66_tree.specs.declared.expression.Expr.{Expr}
 use Rattle.f66_tree.specs.declared.expression.Expr.TheVariants.{Item}

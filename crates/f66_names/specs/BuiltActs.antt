@@ -1,5 +1,5 @@
 -- Which statements are built so far.
-use Rattle.std.specs.Prelude.{Bool, true, false, not, ◌&&◌, nat_eq, List}
+use Rattle.std.specs.Prelude.{Bool, true, false, not, ◌&&◌, nat_eq}
 use Rattle.std.specs.List.{list_any}
 use Rattle.rule_table.specs.Words.{is_some_and}
 use Rattle.f66_tree.specs.Forms.{Formula, Variable, Applied, Entry, One, Entries, NoEntry, AndEntry, Act, Invokes, Returns, Reads, Writes, Formats, Commons, Equivalences, Presets, Chooses}
@@ -8,7 +8,7 @@ use Rattle.f66_tree.specs.Built.{is_printer}
 use Rattle.f66_names.specs.declared.name_form.NameForm.{NameForm}
 use Rattle.f66_names.specs.declared.name_form.NameForm.TheVariants as forms
 use Rattle.f66_names.specs.declared.name_form.Manner.{Manner}
-use Rattle.f66_names.specs.declared.name_form.Manner.TheVariants.{Alone, With, Stored}
+use Rattle.f66_names.specs.declared.name_form.Manner.TheVariants.{With}
 use Rattle.f66_names.specs.Sorts.{form_of, is_array}
 use Rattle.f66_names.specs.StoreRules.{one_field}
 use Rattle.f66_names.specs.Uses.{Usage, uses_in}

@@ -1,10 +1,10 @@
 -- What the statements of a unit declare of its names (X3.9-1966, sections 5.3 and 7.2.1).
-use Rattle.std.specs.Prelude.{ℕ, Bool, false, List, [], ◌∷◌, Option, Some, None, filter, length, nat_lt, if◌then◌else◌}
+use Rattle.std.specs.Prelude.{ℕ, Bool, List, [], ◌∷◌, Option, Some, None, filter, length, nat_lt, if◌then◌else◌}
 use Rattle.std.specs.List.{list_any, flat_map}
 use Rattle.std.specs.Str.{bytes_eq}
 use Rattle.rule_table.specs.Words.{find_map}
 use Rattle.f66_tree.specs.declared.declaration.TypeWord.{TypeWord}
-use Rattle.f66_tree.specs.Forms.{Text, Par, Declared, Header, Area, Act, Types, Dimensions, Commons}
+use Rattle.f66_tree.specs.Forms.{Text, Par, Declared, Header, Act, Types, Dimensions, Commons}
 use Rattle.f66_tree.specs.Units.{Note, Context, is_note}
 
 -- the statements that are not executed

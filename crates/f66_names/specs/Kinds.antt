@@ -1,11 +1,11 @@
 -- The types of expressions, and where a statement has another than it asks for (X3.9-1966, sections 5.1.3.3, 6, 7.1 and 8.2).
-use Rattle.std.specs.Prelude.{ℕ, Bool, true, false, not, ◌&&◌, ◌||◌, List, Option, Some, None, if◌then◌else◌}
+use Rattle.std.specs.Prelude.{Bool, true, false, not, ◌&&◌, ◌||◌, Option, Some, None, if◌then◌else◌}
 use Rattle.ground.specs.declared.value.Kind.{Kind}
 use Rattle.ground.specs.declared.value.Kind.TheVariants.{Integer, Logical}
 use Rattle.rule_table.specs.Words.{is_some_and}
 use Rattle.f66_tree.specs.declared.expression.Operator.{Operator}
-use Rattle.f66_tree.specs.declared.expression.Operator.TheVariants.{Add, Sub, Mul, Div, Power, And, Or}
-use Rattle.f66_tree.specs.Forms.{Text, Formula, Number, Fact, Letter, Variable, Applied, Grouped, Positive, Negative, Negated, Joined, Formulas, Nought, Also, Par, Constant, Named, Entry, One, Many, Entries, NoEntry, AndEntry, Act, Assigns, Selects, Signs, Chooses, Loops, Writes}
+use Rattle.f66_tree.specs.declared.expression.Operator.TheVariants.{Add, Sub, Mul, And, Or}
+use Rattle.f66_tree.specs.Forms.{Formula, Number, Fact, Letter, Variable, Applied, Grouped, Positive, Negative, Negated, Joined, Formulas, Nought, Also, Par, Constant, Named, Entry, One, Many, Entries, NoEntry, AndEntry, Act, Assigns, Selects, Signs, Chooses, Loops, Writes}
 use Rattle.f66_tree.specs.Units.{Context, kind_of}
 use Rattle.f66_tree.specs.Built.{is_arithmetic}
 use Rattle.f66_names.specs.declared.name_form.NameForm.{NameForm}

@@ -1,5 +1,5 @@
 -- The rules of names: their lengths, types, counts and classes (X3.9-1966, sections 3.5, 5.1.3, 5.3, 7.2.1, 8.2 and 10.1).
-use Rattle.std.specs.Prelude.{ℕ, Bool, true, false, not, ◌||◌, nat_lt, List, [], ◌∷◌, Option, Some, None, map, length, if◌then◌else◌}
+use Rattle.std.specs.Prelude.{ℕ, Bool, true, false, not, ◌||◌, nat_lt, List, Option, Some, None, map, length, if◌then◌else◌}
 use Rattle.std.specs.List.{list_any, flat_map}
 use Rattle.std.specs.Str.{bytes_eq}
 use Rattle.rule_table.specs.Words.{first_place, find_map, is_below, is_some_and, repeats}

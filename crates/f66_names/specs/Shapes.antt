@@ -1,11 +1,11 @@
 -- Which trees are those of statements of the grammar (X3.9-1966, sections 3.5, 5.1, 6 and 7).
-use Rattle.std.specs.Prelude.{ℕ, ℤ, Bool, true, false, not, nat_le, ◌&&◌, ◌||◌, List, [], ◌∷◌, Option, Some, None}
+use Rattle.std.specs.Prelude.{ℕ, Bool, true, false, not, nat_le, ◌&&◌, ◌||◌, List, [], ◌∷◌, Option, Some, None}
 use Rattle.std.specs.List.{list_all}
 use Rattle.f66_tree.specs.declared.expression.Operator.{Operator}
-use Rattle.f66_tree.specs.declared.expression.Operator.TheVariants.{Add, Sub, Mul, Div, Power, Lt, Le, Eq, Ne, Ge, Gt, And, Or}
-use Rattle.f66_tree.specs.Forms.{Text, Formula, Number, Fact, Letter, Variable, Applied, Grouped, Positive, Negative, Negated, Joined, Formulas, Nought, Also, Par, Constant, Named, Declared, Entry, One, Many, Entries, NoEntry, AndEntry, Act, Assigns, Goes, Selects, Signs, Chooses, Loops, Passes, Stops, Writes, Types, Dimensions}
+use Rattle.f66_tree.specs.declared.expression.Operator.TheVariants.{Add, Sub, Mul, Div, Power, And, Or}
+use Rattle.f66_tree.specs.Forms.{Text, Formula, Number, Fact, Letter, Variable, Applied, Grouped, Positive, Negative, Negated, Joined, Formulas, Nought, Also, Par, Constant, Named, Declared, Entry, One, Many, Entries, NoEntry, AndEntry, Act, Assigns, Selects, Signs, Chooses, Loops, Stops, Writes, Types, Dimensions}
 use Rattle.f66_tree.specs.Units.{is_note}
-use Rattle.f66_tree.specs.Built.{is_constant, is_par}
+use Rattle.f66_tree.specs.Built.{is_constant}
 
 abbrev pub is_capital : ℕ → Bool
 is_capital c = nat_le 65 c && nat_le c 90

@@ -1,10 +1,10 @@
 -- The rules of constants, formats, stores and sizes (X3.9-1966, sections 5.1.3, 7.1.1, 7.2.1.1 and 7.2.3).
-use Rattle.std.specs.Prelude.{ℕ, pos, ◌*◌, Option, Some, None, Bool, true, false, not, ◌&&◌, ◌||◌, nat_eq, nat_le, nat_lt, int_le, min, unsigned_abs}
+use Rattle.std.specs.Prelude.{ℕ, pos, Option, Some, None, Bool, true, false, not, ◌&&◌, ◌||◌, nat_eq, nat_le, nat_lt, int_le, min, unsigned_abs}
 use Rattle.std.specs.List.{list_any}
 use Rattle.rule_table.specs.Words.{is_some_and}
 use Rattle.f66_tree.specs.declared.editing.EditKind.TheVariants as edits
 use Rattle.f66_tree.specs.Fields.{Takes, Fields, NoField, Single}
-use Rattle.f66_tree.specs.Forms.{Text, Formula, Variable, Applied, Par, Constant, Named, Declared, Act, Assigns, Chooses, Loops, Formats}
+use Rattle.f66_tree.specs.Forms.{Formula, Variable, Applied, Par, Constant, Named, Declared, Act, Assigns, Chooses, Loops, Formats}
 use Rattle.f66_tree.specs.Units.{Context, places_of}
 use Rattle.f66_names.specs.Declaring.{declared_in}
 use Rattle.f66_names.specs.Sorts.{is_array}

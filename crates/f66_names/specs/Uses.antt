@@ -1,8 +1,7 @@
 -- The names that a statement uses, and how each stands there (X3.9-1966, sections 5.1.3, 6 and 7.1).
-use Rattle.std.specs.Prelude.{ℕ, ◌+◌, Bool, true, false, not, ◌==◌, List, [], ◌∷◌, ◌++◌, Option, Some, None, if◌then◌else◌}
+use Rattle.std.specs.Prelude.{ℕ, ◌+◌, List, [], ◌∷◌, ◌++◌}
 use Rattle.std.specs.List.{flat_map}
-use Rattle.std.specs.Str.{bytes_eq}
-use Rattle.f66_tree.specs.Forms.{Text, Formula, Number, Fact, Letter, Variable, Applied, Grouped, Positive, Negative, Negated, Joined, Formulas, Nought, Also, Par, Constant, Named, Declared, Entry, One, Many, Entries, NoEntry, AndEntry, Act, Assigns, Selects, Signs, Chooses, Loops, Writes, Types, Dimensions}
+use Rattle.f66_tree.specs.Forms.{Text, Formula, Variable, Applied, Grouped, Positive, Negative, Negated, Joined, Formulas, Nought, Also, Par, Constant, Named, Declared, Entry, One, Many, Entries, NoEntry, AndEntry, Act, Assigns, Selects, Signs, Chooses, Loops, Writes, Types, Dimensions}
 use Rattle.f66_names.specs.declared.name_form.Manner.{Manner}
 use Rattle.f66_names.specs.declared.name_form.Manner.TheVariants.{Alone, With, Stored}
 

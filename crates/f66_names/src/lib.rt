@@ -17,6 +17,10 @@ mod tables;
 mod uses;
 
 pub use built::is_built;
+pub use declarations::Declarations;
 pub use name_form::{Arity, Class, Manner, NameForm};
 pub use names::{Names, names_of};
 pub use rules::{broken_rule, condition_rule, counting_rule, value_rule};
+
+#[cfg(test)]
+mod tests;

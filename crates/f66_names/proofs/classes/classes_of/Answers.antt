@@ -1,3 +1,4 @@
+-- The class of one use more.
 use Rattle.std.proofs.Common.{arith}
 use Rattle.rule_table.proofs.WordLemmas.{place_steps}
 use Rattle.f66_names.proofs.classes.classes_of.Goals as goal

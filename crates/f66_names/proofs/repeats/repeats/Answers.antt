@@ -1,3 +1,4 @@
+-- A name that stood before, or one more that did not.
 use Rattle.std.proofs.Common.{arith, ◌∙◌, ap, sym, is_some}
 use Rattle.std.specs.HashMap.{get_by}
 use Rattle.std.specs.Str.{bytes_eq}

@@ -1,3 +1,4 @@
+-- A name that stood before, or one more that did not.
 use Rattle.std.proofs.Common.{arith, map, filter, take, ◌≡◌, ◌∙◌, ap, sym, true, ◌&&◌}
 use Rattle.std.specs.List.{list_any}
 use Rattle.std.specs.Str.{bytes_eq}

@@ -1,3 +1,4 @@
+-- The names before that have dimensions are noted, and none of them stands twice.
 use Rattle.std.proofs.Common.{◌≡◌, ℕ, List, take, filter, map, false, is_some}
 use Rattle.std.specs.HashMap.{get_by}
 use Rattle.std.specs.List.{list_any}

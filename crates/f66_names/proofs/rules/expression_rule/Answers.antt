@@ -1,5 +1,5 @@
 -- The tests that did not hold, and the one that did.
-use Rattle.std.proofs.Common.{◌≡◌, Some, None, true, false, not, cond, sym, ap, ◌∙◌, arith}
+use Rattle.std.proofs.Common.{◌≡◌, Some, None, true, false, cond, sym, ap, ◌∙◌}
 use Rattle.std.specs.List.{list_any}
 use Rattle.ground.specs.declared.fault.FaultKind.TheVariants.{WrongCount, DuplicateName}
 use Rattle.f66_tree.specs.Views.{formula_of}

@@ -1,5 +1,5 @@
 -- One dimension more.
-use Rattle.std.proofs.Common.{◌≡◌, ◌*◌, ◌+◌, ◌≤◌, ◌∙◌, ap, map, drop, min, arith}
+use Rattle.std.proofs.Common.{◌*◌, ◌+◌, ◌∙◌, ap, map, drop, min, arith}
 use Rattle.f66_tree.specs.Units.{places_of}
 use Rattle.f66_tree.specs.Views.{par_of}
 use Rattle.f66_names.proofs.SizeLemmas.{sized_step, read_on}

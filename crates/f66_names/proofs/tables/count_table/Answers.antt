@@ -1,3 +1,4 @@
+-- The table has the dimensions of the statements before.
 use Rattle.std.proofs.Common.{arith}
 use Rattle.rule_table.proofs.WordLemmas.{place_steps}
 use Rattle.f66_names.proofs.tables.count_table.Goals as goal

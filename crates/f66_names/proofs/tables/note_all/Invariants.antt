@@ -1,13 +1,12 @@
-use Rattle.std.proofs.Common.{◌≡◌, ℕ, List, take, map, Some, None, filter}
+-- The value is noted for the names before.
+use Rattle.std.proofs.Common.{◌≡◌, ℕ, List, take, map, Some, None}
 use Rattle.std.specs.Prelude.{if◌then◌else◌}
 use Rattle.std.specs.HashMap.{get_by}
-use Rattle.std.specs.List.{list_any, flat_map}
+use Rattle.std.specs.List.{list_any}
 use Rattle.std.specs.Option.{option_or}
 use Rattle.std.specs.Str.{bytes_eq}
-use Rattle.rule_table.specs.Words.{first_place, find_map}
-use Rattle.f66_tree.specs.Views.{declared_of, area_of}
-use Rattle.f66_names.specs.ActViews.{acts_of}
-use Rattle.f66_names.specs.Declaring.{names, is_sized, types, sizes, type_given, count_by, count_in}
+use Rattle.f66_tree.specs.Views.{declared_of}
+use Rattle.f66_names.specs.Declaring.{names}
 use Rattle.f66_names.proofs.tables.note_all.Given as goal
 
 abbrev pub invariant-loop-declared : goal.invariant-loop-declared

@@ -1,3 +1,4 @@
+-- The place is noted for the names before that have dimensions.
 use Rattle.std.proofs.Common.{arith}
 use Rattle.rule_table.proofs.WordLemmas.{place_steps}
 use Rattle.f66_names.proofs.tables.note_all_sized.Goals as goal

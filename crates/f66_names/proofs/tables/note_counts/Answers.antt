@@ -1,3 +1,4 @@
+-- The numbers of the declarations before are noted.
 use Rattle.std.proofs.Common.{arith}
 use Rattle.rule_table.proofs.WordLemmas.{place_steps}
 use Rattle.f66_names.proofs.tables.note_counts.Goals as goal
