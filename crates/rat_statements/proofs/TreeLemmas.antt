@@ -12,7 +12,9 @@ use Rattle.rat_tree.specs.Views.{command_of, row_commands, commands, clause_then
 use Rattle.f66_tree.specs.declared.expression.Expr.{Expr}
 use Rattle.f66_tree.specs.Forms.{Formula}
 use Rattle.f66_tree.specs.Views.{formulas_of}
-use Rattle.rat_parts.specs.Values.{Val, command}
+use Rattle.rat_parts.specs.Values.{Val}
+use Rattle.rat_parts.specs.Values as val
+use Rattle.rat_parts.specs.Kinds as part
 use Rattle.rat_statements.specs.Statements.{conditional, marked}
 use Rattle.rat_statements.specs.Choices.{command_if_any, chosen}
 
@@ -29,7 +31,7 @@ marked_again n m p _ = refl
 
 -- an `if` by what its part behind `else` gives
 pub choice_is : (p : Place) (f : Formula) (c : Command) (v : Val) → conditional p f c v ≡ chosen p f c (command_if_any v)
-choice_is p f c (command q d) = refl
+choice_is p f c (val.statement (part.command q d)) = refl
 choice_is p f c _ = refl
 
 row_commands_are : (n : _) (row : k.Row_of-RatStmt n) → row_commands row ≡ commands (k.items-the_row-RatStmt n row)
