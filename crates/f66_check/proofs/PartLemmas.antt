@@ -1,5 +1,5 @@
 -- The parts of a unit one after another, and a unit as the tables of its names and of its labels see it.
-use Rattle.std.proofs.Common.{◌≡◌, ◌<◌, ◌≤◌, ◌+◌, ◌-◌, ℕ, zero, suc, Bool, true, false, true≢false, cond, Option, Some, None, List, [], ◌∷◌, map, length, MatchOption, option_map, ◌||◌, refl, ap, sym, ◌∙◌, subst, arith, add-one, inl, inr}
+use Rattle.std.proofs.Common.{◌≡◌, ◌<◌, ◌≤◌, ◌+◌, ◌-◌, ℕ, zero, suc, Bool, true, false, cond, Option, Some, None, List, [], ◌∷◌, map, length, MatchOption, option_map, ◌||◌, refl, ap, sym, ◌∙◌, subst, arith, add-one, inl, inr}
 use Rattle.std.specs.Prelude.{Result, Ok, Err, IfOk, is_some, not, if◌then◌else◌}
 use Rattle.std.specs.Borrow.{Bor}
 use Rattle.std.specs.declared.alloc.AllocError.{AllocError}
@@ -30,7 +30,7 @@ use Rattle.f66_flow.specs.declared.scope.Scope.TheVariants.{Whole}
 use Rattle.f66_flow.specs.FlowRules.{breaks_flow, breaks_flow_at}
 use Rattle.f66_sound.specs.SoundUnits.{acts_of}
 use Rattle.f66_check.specs.CheckRules.{context_of, breaks_line, breaks_part, breaks_at, unbuilt_line, first_unbuilt}
-use Rattle.f66_check.specs.Answers.{place_at, IsFaultless, IsSound, IsFirstKind}
+use Rattle.f66_check.specs.Answers.{place_at, IsFaultless, IsFirstKind}
 
 -- what the part behind the statements before i breaks is what the statement breaks
 part_at : (w : Scope) (c : Context) (acts : List Act) (all : List Stmt) (i : ℕ) (s : Stmt) → slice_get all i ≡ Some s →
@@ -149,14 +149,3 @@ pub statement_place : (unit : Unit) (n : ℕ) (s : Stmt) → 0 < n → slice_get
 statement_place unit n s h e =
     let behind : n ≡ suc (n - 1) = omega (arith, h) in
     ap (place_at (routine_of unit)) behind ∙ ap (option_map (λ t. t.place)) (slice_get-map line_of unit.statements.items (n - 1) ∙ ap (option_map line_of) e)
-
--- a unit with a first fault is not sound
-kind_unsound : (u : Routine) (n : ℕ) (kind : FaultKind) (m : Option ℕ) → first_unbuilt u ≡ m → IsFirstKind m Whole u n kind → ¬ IsSound u
-kind_unsound u n kind (Some k) is first sound = true≢false (ap is_some (sym is ∙ sound.built))
-kind_unsound u n kind None is first sound = true≢false (sym first.broken ∙ sound.clean n kind)
-
-pub unsound : (u : Routine) (n : ℕ) (kind : FaultKind) → IsFirstKind (first_unbuilt u) Whole u n kind → ¬ IsSound u
-unsound u n kind first = kind_unsound u n kind (first_unbuilt u) refl first
-
-pub sound_of : (u : Routine) → IsFaultless Whole u → IsSound u
-sound_of u h = record { built = h.built; clean = h.clean }

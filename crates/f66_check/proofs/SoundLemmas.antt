@@ -18,6 +18,7 @@ use Rattle.f66_flow.specs.Ranges.{named}
 use Rattle.f66_flow.specs.FlowRules.{breaks_flow, has_bad_label, has_no_end, leads_nowhere, leads_wrong, names_no_format, is_whole}
 use Rattle.f66_flow.specs.declared.scope.Scope.TheVariants.{Whole}
 use Rattle.f66_sound.specs.SoundUnits.{acts_of, finds_format, IsSoundMain, RunsRightly}
+use Rattle.f66_sound.proofs.RightlyLemmas.{if_both}
 use Rattle.f66_sound.proofs.SoundLemmas.{never_wrong_by_acts}
 use Rattle.f66_check.specs.CheckRules.{context_of, breaks_at, unbuilt_line, first_unbuilt}
 use Rattle.f66_check.specs.Answers.{IsSound}
@@ -69,10 +70,30 @@ clean_line u sound i s k is =
 
 -- ---- formats ----
 
--- where the first statement with a label is a FORMAT, it is the format of the label
+-- a statement in front that has the label
+own_format : (l : ℕ) (label : Option ℕ) (a : Act) (notes : List Note) → has_label l label ≡ true → not (is_format a) ≡ false →
+    is_some (format_of l (if is_note a then (record { label = label; act = a } ∷ notes) else notes)) ≡ true
+own_format l None a notes e h = absurd (true≢false (sym e))
+own_format l (Some m) (Formats f) notes e h = subst (λ b. is_some (if b then Some f else format_of l notes) ≡ true) (sym e) refl
+own_format l (Some m) _ notes e h = absurd (true≢false h)
+
+-- a statement in front that has not
+later_format : (l : ℕ) (label : Option ℕ) (a : Act) (notes : List Note) → has_label l label ≡ false → is_some (format_of l notes) ≡ true →
+    is_some (format_of l (if is_note a then (record { label = label; act = a } ∷ notes) else notes)) ≡ true
+later_format l None a notes e h = if_both (λ ns. is_some (format_of l ns) ≡ true) (is_note a) (record { label = None; act = a } ∷ notes) notes h h
+later_format l (Some m) (Formats f) notes e h = subst (λ b. is_some (if b then Some f else format_of l notes) ≡ true) (sym e) h
+later_format l (Some m) _ notes e h = h
+
+format_step : (l : ℕ) (s : Line) (rest : List Line) (b : Bool) → has_label l s.label ≡ b → (names_no_format rest l ≡ false → is_some (format_of l (notes_of rest)) ≡ true) →
+    not (is_some_and (λ t. is_format t.act) (cond b (Some s) (named rest l))) ≡ false →
+    is_some (format_of l (if is_note s.act then (record { label = s.label; act = s.act } ∷ notes_of rest) else notes_of rest)) ≡ true
+format_step l s rest true e later h = own_format l s.label s.act (notes_of rest) e h
+format_step l s rest false e later h = later_format l s.label s.act (notes_of rest) e (later h)
+
+-- where the first statement with a label is a FORMAT, the label has a format
 format_there : (l : ℕ) (lines : List Line) → names_no_format lines l ≡ false → is_some (format_of l (notes_of lines)) ≡ true
 format_there l [] h = absurd (true≢false h)
-format_there l (s ∷ rest) h = ?
+format_there l (s ∷ rest) h = format_step l s rest (has_label l s.label) refl (format_there l rest) h
 
 formats_there : (lines : List Line) (a : Act) → list_any (names_no_format lines) (formats_named a) ≡ false → finds_format (notes_of lines) a ≡ true
 formats_there lines (Writes u l es) h = format_there l lines (or_parts (names_no_format lines l) _ h).0
