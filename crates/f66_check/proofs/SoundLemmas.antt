@@ -108,10 +108,10 @@ sound_main u sound h is main none =
       built = each_built (context_of u) u.lines none;
       clean = λ i a e k. let p = line_at u.lines i a e in subst (λ b. breaks_name (context_of u) (acts_of u.lines) i b k ≡ false) p.2 (clean_line u sound i p.0 k p.1).1;
       formats = λ i a e. let p = line_at u.lines i a e in
-        let labels = (clean_line u sound i p.0 BadLabel p.1).0 in
-        let leads = (or_parts (leads_wrong u.lines p.0.act) _ (or_parts (has_bad_label u.lines i p.0) _ labels).1).0 in
-        subst (λ b. finds_format (notes_of u.lines) b ≡ true) p.2
-        (formats_there u.lines p.0.act (or_parts (list_any (leads_nowhere u.lines) (branches p.0.act)) _ leads).1);
+          let labels = (clean_line u sound i p.0 BadLabel p.1).0 in
+          let leads = (or_parts (leads_wrong u.lines p.0.act) _ (or_parts (has_bad_label u.lines i p.0) _ labels).1).0 in
+          subst (λ b. finds_format (notes_of u.lines) b ≡ true) p.2
+          (formats_there u.lines p.0.act (or_parts (list_any (leads_nowhere u.lines) (branches p.0.act)) _ leads).1);
     }
 
 pub sound_never_wrong : SoundRunsRightly

@@ -9,3 +9,6 @@ mod unbuilt;
 
 pub use check::{CheckedUnit, check_unit, first_fault};
 pub use laws::{checked_runs_rightly, sound_runs_rightly};
+
+#[cfg(test)]
+mod tests;

@@ -18,10 +18,10 @@ returns-in-Some-clause-first c =
     let names = c.in_ok-names.names.declarations in
     let main : is_main (header_of unit.header) ≡ true = sym c.is_main.ensures ∙ c.if-not-is_main.false in
     let same_acts = acts_told names unit c.in_ok-kinds.kinds.items (c.in_ok-names.ensures.acts ∙ c.deref-2.ensures.value)
-        (c.in_ok-kinds.ensures ∙ ap (map (λ s. act_of s.kind)) c.deref.ensures.value) in
+    (c.in_ok-kinds.ensures ∙ ap (map (λ s. act_of s.kind)) c.deref.ensures.value) in
     let same_context = context_told names unit c.in_ok-names.ensures.header same_acts in
     let found = unbuilt_told (context_in names) unit c.in_ok-unbuilt.unbuilt same_context
-        (c.in_ok-unbuilt.ensures.first ∙ ap (first_place (λ s. not (is_built (context_in names) (act_of s.kind)))) c.deref-3.ensures.value) in
+    (c.in_ok-unbuilt.ensures.first ∙ ap (first_place (λ s. not (is_built (context_in names) (act_of s.kind)))) c.deref-3.ensures.value) in
     unbuilt_at c.args.scope (routine_of unit) c.in-Some.i main (found ∙ c.in-Some.is)
 
 pub returns-clause-first : goal.returns-clause-first
@@ -30,9 +30,9 @@ returns-clause-first c =
     let names = c.in_ok-names.names.declarations in
     let main : is_main (header_of unit.header) ≡ true = sym c.is_main.ensures ∙ c.if-not-is_main.false in
     let same_acts = acts_told names unit c.in_ok-kinds.kinds.items (c.in_ok-names.ensures.acts ∙ c.deref-2.ensures.value)
-        (c.in_ok-kinds.ensures ∙ ap (map (λ s. act_of s.kind)) c.deref.ensures.value) in
+    (c.in_ok-kinds.ensures ∙ ap (map (λ s. act_of s.kind)) c.deref.ensures.value) in
     let same_context = context_told names unit c.in_ok-names.ensures.header same_acts in
     let found = unbuilt_told (context_in names) unit c.in_ok-unbuilt.unbuilt same_context
-        (c.in_ok-unbuilt.ensures.first ∙ ap (first_place (λ s. not (is_built (context_in names) (act_of s.kind)))) c.deref-3.ensures.value) in
+    (c.in_ok-unbuilt.ensures.first ∙ ap (first_place (λ s. not (is_built (context_in names) (act_of s.kind)))) c.deref-3.ensures.value) in
     told_by c.args.scope (routine_of unit) (context_in names) (acts_in names) (lines_under c.in_ok-flow.flow) c.first_broken.result main same_context same_acts
     (ap lines_of (c.in_ok-flow.ensures ∙ c.deref-4.ensures.value)) (found ∙ c.in_default.is) c.first_broken.ensures.first
