@@ -1,6 +1,6 @@
 -- In a main unit a WRITE of one place by a FORMAT that is there never ends Wrong: the edit that is found for an item takes
 -- contents of the item's type.
-use Rattle.std.proofs.Common.{◌≡◌, ℕ, Bool, true, false, List, [], ◌∷◌, Option, Some, None, Result, Ok, Err, refl, sym, subst}
+use Rattle.std.proofs.Common.{◌≡◌, ℕ, Bool, true, false, true≢false, List, [], ◌∷◌, Option, Some, None, Result, Ok, Err, refl, sym, subst}
 use Rattle.std.specs.Prelude.{int_le, is_some, not, ◌&&◌, if◌then◌else◌, ⊤}
 use Rattle.std.proofs.lemmas.Bool.{and_parts, or_parts, not-false}
 use Rattle.ground.specs.declared.place.Place.{Place}
@@ -17,7 +17,7 @@ use Rattle.f66_tree.specs.declared.editing.Mark.TheVariants.{Due}
 use Rattle.f66_tree.specs.Fields.{Step, Takes, Blanks, Chars, Slash, Fields, has_item}
 use Rattle.f66_tree.specs.Turns.{Hand, ◌>>=◌, blanked, lettered, suits, stands, line_of, put_whole, put_truth, put_letter}
 use Rattle.f66_tree.specs.Editing.{Files, Onward, exchanged, seek, cycled, to_item, to_end}
-use Rattle.f66_tree.specs.Forms.{Formula, Variable, Applied, Par, One, Entries, NoEntry, AndEntry}
+use Rattle.f66_tree.specs.Forms.{Formula, Variable, Applied, Par, One, Many, Entries, NoEntry, AndEntry}
 use Rattle.f66_tree.specs.World.{Tape, files_of, tape_of, World, Try, Yields, Traps, lifted, settle}
 use Rattle.f66_tree.specs.Records.{placed, due, put_by, put, closed}
 use Rattle.f66_tree.specs.Units.{Context, kind_of, format_of, sizes_of, Spot, Held, Setting, Frame}
@@ -27,7 +27,7 @@ use Rattle.f66_names.specs.Sorts.{form_by, is_array, is_array_form}
 use Rattle.f66_names.specs.Uses.{uses_of, uses_of_entries}
 use Rattle.f66_names.specs.Kinds.{is_counting, is_listed, are_entries}
 use Rattle.f66_names.specs.NameRules.{miscounts}
-use Rattle.f66_names.specs.BuiltActs.{is_one_place, is_one_item}
+use Rattle.f66_names.specs.BuiltActs.{is_one_place, is_last, is_one_item}
 use Rattle.f66_sound.specs.Rightly.{Rightly, NeverWrong, TriesRightly}
 use Rattle.f66_sound.specs.SoundUnits.{in_main}
 use Rattle.f66_sound.proofs.RightlyLemmas.{bind_rightly, bind_any, then_rightly, settle_here, settle_rightly, if_both}
@@ -144,9 +144,9 @@ module _ (m : Main) where
 
   items_rightly : (f : Frame) (es : Entries) → is_one_item c es ≡ true → are_entries c es ≡ true → FitCounts c (uses_of_entries es) → (w : World) → NeverWrong (items s f Writing es w)
   items_rightly f (AndEntry (One e) NoEntry) one listed u w =
-      bind_any (λ _ _. ⊤) (item s f Writing e (ticked s w)) _ (item_rightly f e (and_parts _ _ one).0 (and_parts _ _ listed).0 (none_of_both (miscounts c) (uses_of e) [] u).0 (ticked s w)) (λ _ w1. tt)
-  items_rightly f (AndEntry (One e) (AndEntry e1 es)) one listed u w = let last : false ≡ true = (and_parts (is_one_place c e) false one).1 in let q : ⊥ = cc in absurd q
-  items_rightly f _ one listed u w = let q : ⊥ = cc in absurd q
+      bind_any (λ _ _. ⊤) (item s f Writing e (ticked s w)) _ (item_rightly f e one (and_parts _ _ listed).0 (none_of_both (miscounts c) (uses_of e) [] u).0 (ticked s w)) (λ _ w1. tt)
+  items_rightly f (AndEntry (Many list x a b d) es) one listed u w = absurd (true≢false (sym (and_parts (is_last es) false one).1))
+  items_rightly f _ one listed u w = absurd (true≢false (sym one))
 
   pub record_rightly : (f : Frame) (u : Par) (l : ℕ) (es : Entries) → is_counting c u ≡ true → is_some (format_of l m.notes) ≡ true → is_one_item c es ≡ true → are_entries c es ≡ true → FitCounts c (uses_of_entries es) → (w : World) →
       NeverWrong (record_by s f Writing u l es w)

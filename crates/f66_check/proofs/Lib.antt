@@ -1,0 +1,3 @@
+pub mod LesserLemmas
+pub mod PartLemmas
+pub mod SoundLemmas

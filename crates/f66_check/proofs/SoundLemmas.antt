@@ -1,0 +1,120 @@
+-- A sound unit is what the law of sound main units asks for: its statements are built and clean, and its formats are there.
+use Rattle.std.proofs.Common.{◌≡◌, ◌<◌, ◌+◌, ℕ, zero, suc, Bool, true, false, true≢false, cond, Option, Some, None, List, [], ◌∷◌, map, find, option_map, ◌||◌, refl, ap, sym, ◌∙◌, subst}
+use Rattle.std.specs.Prelude.{is_some, is_none, not, nat_eq, if◌then◌else◌}
+use Rattle.std.specs.List.{slice_get, list_any}
+use Rattle.std.proofs.lemmas.Option.{slice_get-map}
+use Rattle.std.proofs.lemmas.Bool.{and_parts, or_parts}
+use Rattle.ground.specs.declared.fault.FaultKind.{FaultKind}
+use Rattle.ground.specs.declared.fault.FaultKind.TheVariants.{BadLabel}
+use Rattle.rule_table.specs.Words.{first_place, is_some_and}
+use Rattle.f66_tree.specs.Forms.{Header, MainUnit, SubUnit, FuncUnit, DataUnit, Act, Chooses, Writes, Formats, Line, Routine}
+use Rattle.f66_tree.specs.Units.{Note, Context, is_main, is_note, notes_of, format_of}
+use Rattle.f66_tree.specs.Execution.{has_label}
+use Rattle.f66_names.specs.Rules.{breaks_name}
+use Rattle.f66_names.specs.BuiltActs.{is_built}
+use Rattle.f66_names.specs.Declaring.{context_by}
+use Rattle.f66_flow.specs.Acts.{is_format, formats_named, branches}
+use Rattle.f66_flow.specs.Ranges.{named}
+use Rattle.f66_flow.specs.FlowRules.{breaks_flow, has_bad_label, has_no_end, leads_nowhere, leads_wrong, names_no_format, is_whole}
+use Rattle.f66_flow.specs.declared.scope.Scope.TheVariants.{Whole}
+use Rattle.f66_sound.specs.SoundUnits.{acts_of, finds_format, IsSoundMain, RunsRightly}
+use Rattle.f66_sound.proofs.RightlyLemmas.{if_both}
+use Rattle.f66_sound.proofs.SoundLemmas.{never_wrong_by_acts}
+use Rattle.f66_check.specs.CheckRules.{context_of, breaks_at, unbuilt_line, first_unbuilt}
+use Rattle.f66_check.specs.Answers.{IsSound}
+use Rattle.f66_check.specs.SoundRuns.{SoundRunsRightly}
+
+-- ---- what is built ----
+
+main_only : (h : Header) → is_main h ≡ true → h ≡ MainUnit
+main_only MainUnit e = refl
+main_only (SubUnit x ds) e = absurd (true≢false (sym e))
+main_only (FuncUnit t x ds) e = absurd (true≢false (sym e))
+main_only DataUnit e = absurd (true≢false (sym e))
+
+built_parts : (b : Bool) (o : Option ℕ) → (if b then option_map (λ i. i + 1) o else Some 0) ≡ None → (b ≡ true) × (o ≡ None)
+built_parts true None e = (refl, refl)
+built_parts true (Some i) e = absurd (true≢false (ap is_some e))
+built_parts false o e = absurd (true≢false (ap is_some e))
+
+none_parts : (b : Bool) (o : Option ℕ) → cond b (Some 0) (option_map (λ n. n + 1) o) ≡ None → (b ≡ false) × (o ≡ None)
+none_parts true o e = absurd (true≢false (ap is_some e))
+none_parts false None e = (refl, refl)
+none_parts false (Some i) e = absurd (true≢false (ap is_some e))
+
+not_false : (b : Bool) → not b ≡ false → b ≡ true
+not_false true e = refl
+not_false false e = absurd (true≢false e)
+
+each_built : (c : Context) (lines : List Line) → unbuilt_line c lines ≡ None → (i : ℕ) (a : Act) → slice_get (acts_of lines) i ≡ Some a → is_built c a ≡ true
+each_built c [] none i a e = absurd (true≢false (sym (ap is_some e)))
+each_built c (s ∷ rest) none zero a e =
+    not_false (is_built c a) (subst (λ o. is_some_and (λ b. not (is_built c b)) o ≡ false) e (none_parts (not (is_built c s.act)) (unbuilt_line c rest) none).0)
+each_built c (s ∷ rest) none (suc i) a e = each_built c rest (none_parts (not (is_built c s.act)) (unbuilt_line c rest) none).1 i a e
+
+-- ---- what is clean ----
+
+-- the statement that says a
+line_at : (lines : List Line) (i : ℕ) (a : Act) → slice_get (acts_of lines) i ≡ Some a → (s : Line) × (slice_get lines i ≡ Some s) × (s.act ≡ a)
+line_at lines i a e = by_line (slice_get lines i) refl (sym (slice_get-map (λ s. s.act) lines i) ∙ e)
+  where
+    by_line : (o : Option Line) → slice_get lines i ≡ o → option_map (λ s. s.act) o ≡ Some a → (s : Line) × (slice_get lines i ≡ Some s) × (s.act ≡ a)
+    by_line None is h = absurd (true≢false (sym (ap is_some h)))
+    by_line (Some s) is h = (s, is, cc)
+
+clean_line : (u : Routine) → IsSound u → (i : ℕ) (s : Line) (k : FaultKind) → slice_get u.lines i ≡ Some s →
+    (breaks_flow Whole u.lines i s k ≡ false) × (breaks_name (context_of u) (acts_of u.lines) i s.act k ≡ false)
+clean_line u sound i s k is =
+    or_parts (breaks_flow Whole u.lines i s k) _
+    (subst (λ o. is_some_and (λ t. breaks_flow Whole u.lines i t k || breaks_name (context_of u) (acts_of u.lines) i t.act k) o ≡ false) is (sound.clean (suc i) k))
+
+-- ---- formats ----
+
+-- a statement in front that has the label
+own_format : (l : ℕ) (label : Option ℕ) (a : Act) (notes : List Note) → has_label l label ≡ true → not (is_format a) ≡ false →
+    is_some (format_of l (if is_note a then (record { label = label; act = a } ∷ notes) else notes)) ≡ true
+own_format l None a notes e h = absurd (true≢false (sym e))
+own_format l (Some m) (Formats f) notes e h = subst (λ b. is_some (if b then Some f else format_of l notes) ≡ true) (sym e) refl
+own_format l (Some m) _ notes e h = absurd (true≢false h)
+
+-- a statement in front that has not
+later_format : (l : ℕ) (label : Option ℕ) (a : Act) (notes : List Note) → has_label l label ≡ false → is_some (format_of l notes) ≡ true →
+    is_some (format_of l (if is_note a then (record { label = label; act = a } ∷ notes) else notes)) ≡ true
+later_format l None a notes e h = if_both (λ ns. is_some (format_of l ns) ≡ true) (is_note a) (record { label = None; act = a } ∷ notes) notes h h
+later_format l (Some m) (Formats f) notes e h = subst (λ b. is_some (if b then Some f else format_of l notes) ≡ true) (sym e) h
+later_format l (Some m) _ notes e h = h
+
+format_step : (l : ℕ) (s : Line) (rest : List Line) (b : Bool) → has_label l s.label ≡ b → (names_no_format rest l ≡ false → is_some (format_of l (notes_of rest)) ≡ true) →
+    not (is_some_and (λ t. is_format t.act) (cond b (Some s) (named rest l))) ≡ false →
+    is_some (format_of l (if is_note s.act then (record { label = s.label; act = s.act } ∷ notes_of rest) else notes_of rest)) ≡ true
+format_step l s rest true e later h = own_format l s.label s.act (notes_of rest) e h
+format_step l s rest false e later h = later_format l s.label s.act (notes_of rest) e (later h)
+
+-- where the first statement with a label is a FORMAT, the label has a format
+format_there : (l : ℕ) (lines : List Line) → names_no_format lines l ≡ false → is_some (format_of l (notes_of lines)) ≡ true
+format_there l [] h = absurd (true≢false h)
+format_there l (s ∷ rest) h = format_step l s rest (has_label l s.label) refl (format_there l rest) h
+
+formats_there : (lines : List Line) (a : Act) → list_any (names_no_format lines) (formats_named a) ≡ false → finds_format (notes_of lines) a ≡ true
+formats_there lines (Writes u l es) h = format_there l lines (or_parts (names_no_format lines l) _ h).0
+formats_there lines (Chooses e a) h = formats_there lines a h
+formats_there lines _ h = refl
+
+-- ---- the law ----
+
+sound_main : (u : Routine) → IsSound u → (h : Header) → u.header ≡ h → is_main h ≡ true → unbuilt_line (context_of u) u.lines ≡ None → IsSoundMain (context_by MainUnit (acts_of u.lines)) u.lines
+sound_main u sound h is main none =
+    subst (λ x. IsSoundMain (context_by x (acts_of u.lines)) u.lines) (is ∙ main_only h main) record {
+      built = each_built (context_of u) u.lines none;
+      clean = λ i a e k. let p = line_at u.lines i a e in subst (λ b. breaks_name (context_of u) (acts_of u.lines) i b k ≡ false) p.2 (clean_line u sound i p.0 k p.1).1;
+      formats = λ i a e. let p = line_at u.lines i a e in
+          let labels = (clean_line u sound i p.0 BadLabel p.1).0 in
+          let leads = (or_parts (leads_wrong u.lines p.0.act) _ (or_parts (has_bad_label u.lines i p.0) _ labels).1).0 in
+          subst (λ b. finds_format (notes_of u.lines) b ≡ true) p.2
+          (formats_there u.lines p.0.act (or_parts (list_any (leads_nowhere u.lines) (branches p.0.act)) _ leads).1);
+    }
+
+pub sound_never_wrong : SoundRunsRightly
+sound_never_wrong u sound =
+    let p = built_parts (is_main u.header) (unbuilt_line (context_of u) u.lines) sound.built in
+    never_wrong_by_acts u.lines (sound_main u sound u.header refl p.0 p.1)

@@ -1,0 +1,5 @@
+use Rattle.f66_check.proofs.SoundLemmas as sound
+use Rattle.f66_check.proofs.laws.sound_runs_rightly.Goals as goal
+
+pub returns : goal.returns
+returns c = sound.sound_never_wrong

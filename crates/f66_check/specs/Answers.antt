@@ -1,0 +1,57 @@
+-- What the checks of a unit answer: that nothing is at fault, or the first fault.
+use Rattle.std.specs.Prelude.{◌≡◌, ℕ, zero, suc, nat_le, Option, Some, None, option_map, if◌then◌else◌, ⊤}
+use Rattle.std.specs.List.{slice_get}
+use Rattle.ground.specs.FaultNames.{fault_number}
+use Rattle.ground.specs.declared.place.Place.{Place}
+use Rattle.ground.specs.declared.fault.FaultKind.{FaultKind}
+use Rattle.ground.specs.declared.fault.FaultKind.TheVariants.{Limit, Unbuilt}
+use Rattle.ground.specs.declared.fault.Fault.{Fault}
+use Rattle.ground.specs.declared.fault.Refusal.{Refusal}
+use Rattle.ground.specs.declared.fault.Refusal.TheVariants.{Fault as AFault, Memory}
+use Rattle.rule_table.specs.First.{IsFirst, IsClean}
+use Rattle.f66_tree.specs.Forms.{Routine}
+use Rattle.f66_flow.specs.declared.scope.Scope.{Scope}
+use Rattle.f66_flow.specs.declared.scope.Scope.TheVariants.{Whole}
+use Rattle.f66_check.specs.CheckRules.{breaks_at, first_unbuilt}
+
+-- of what two tables tell, the kind with the smaller number
+abbrev pub lesser : Option FaultKind → Option FaultKind → Option FaultKind
+lesser None o = o
+lesser (Some k) None = Some k
+lesser (Some k) (Some l) = if nat_le (fault_number k) (fault_number l) then Some k else Some l
+
+-- the place of a unit's header, or of a statement
+abbrev pub place_at : Routine → ℕ → Option Place
+place_at u zero = Some u.place
+place_at u (suc i) = option_map (λ s. s.place) (slice_get u.lines i)
+
+-- the number of the limit that a fault tells
+abbrev pub limit_of : FaultKind → ℕ
+limit_of Limit = 7
+limit_of _ = 0
+
+-- each part of the unit is built, and none breaks a rule
+pub record IsFaultless (w : Scope) (u : Routine) : Type 0 where
+  pub built : first_unbuilt u ≡ None
+  pub clean : IsClean (breaks_at w u)
+
+-- a unit that is compiled
+pub record IsSound (u : Routine) : Type 0 where
+  pub built : first_unbuilt u ≡ None
+  pub clean : IsClean (breaks_at Whole u)
+
+-- the first fault of a unit: the first part that is not built, wherever it stands; else that of the rules
+abbrev pub IsFirstKind : Option ℕ → Scope → Routine → ℕ → FaultKind → Type 0
+IsFirstKind (Some m) w u n kind = (n ≡ m) × (kind ≡ Unbuilt)
+IsFirstKind None w u n kind = IsFirst fault_number (breaks_at w u) n kind
+
+-- f is the first fault, and stands at the part with the number n
+pub record IsFirstFault (w : Scope) (u : Routine) (n : ℕ) (f : Fault) : Type 0 where
+  pub first : IsFirstKind (first_unbuilt u) w u n f.kind
+  pub place : place_at u n ≡ Some f.place
+  pub limit : f.number ≡ limit_of f.kind
+
+-- a refusal by a fault is by the first one, of a unit that is not sound
+abbrev pub IsRightRefusal : Routine → Refusal → Type 0
+IsRightRefusal u (AFault f) = ((n : ℕ) × IsFirstFault Whole u n f) × ¬ IsSound u
+IsRightRefusal u Memory = ⊤

@@ -1,0 +1,3 @@
+pub mod CheckRules
+pub mod Answers
+pub mod SoundRuns

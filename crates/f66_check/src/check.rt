@@ -1,0 +1,142 @@
+// The checks of a unit.
+ghost use Rattle.std.specs.Prelude.{◌≡◌, ◌≤◌, ◌-◌, ◌^◌, ◌<◌, length, Some, IfOk, IfErr, OnOk, IfSome, IfNone, MatchOption};
+ghost use Rattle.f66_tree.specs.Views.{routine_of};
+ghost use Rattle.f66_flow.specs.declared.scope.Scope.TheVariants.{Part};
+ghost use Rattle.f66_check.specs.CheckRules.{first_unbuilt};
+ghost use Rattle.f66_check.specs.Answers.{IsFaultless, IsSound, IsFirstKind, IsFirstFault, IsRightRefusal, place_at, limit_of as limit_by};
+
+use crate::parts::first_broken;
+use crate::unbuilt::{is_main, kinds_of, unbuilt_statement};
+use f66_flow::{Scope, flow_of};
+use f66_names::names_of;
+use f66_tree::Unit;
+use ground::{Fault, FaultKind, Memory, Place, Refusal};
+use std::alloc::{AllocError, Global};
+use std::marker::Model;
+
+/// The number of the first part of a unit that is at fault, and the fault's kind.
+fn first_of(
+    alloc: Global,
+    scope: Scope,
+    unit: &Unit,
+) -> Result<Option<(usize, FaultKind)>, AllocError>
+    ensures within { IfOk result (λ o. IfSome o (λ r. r.0 ≤ length unit.now.statements.items)) }
+    ensures first { IfOk result (λ o. MatchOption o (IsFaultless scope (routine_of unit.now))
+        (λ r. IsFirstKind (first_unbuilt (routine_of unit.now)) scope (routine_of unit.now) r.0 r.1)) }
+{
+    if !is_main(&unit.header) {
+        return Ok(Some((0, FaultKind::Unbuilt)));
+    }
+    let kinds = kinds_of(alloc, &unit.statements)?;
+    let names = names_of(alloc, &unit.header, &kinds)?;
+    let unbuilt = unbuilt_statement(alloc, &names, &unit.statements)?;
+    if let Some(i) = unbuilt {
+        return Ok(Some((i + 1, FaultKind::Unbuilt)));
+    }
+    let flow = flow_of(alloc, &unit.statements)?;
+    first_broken(alloc, scope, &flow, &names)
+}
+
+fn limit_of(kind: FaultKind) -> u64
+    ensures { result ≡ limit_by kind }
+{
+    match kind {
+        FaultKind::Limit => 7,
+        _ => 0,
+    }
+}
+
+/// The place of the part with a number.
+fn place_of(unit: &Unit, number: usize) -> Place
+    requires { number ≤ length unit.now.statements.items }
+    ensures { place_at (routine_of unit.now) number ≡ Some result }
+{
+    if number == 0 {
+        return unit.place;
+    }
+    unit.statements[number - 1].place
+}
+
+/// The fault of a kind at the part with a number.
+fn fault_at(unit: &Unit, number: usize, kind: FaultKind) -> Fault
+    requires { number ≤ length unit.now.statements.items }
+    ensures kind { result.kind ≡ kind }
+    ensures place { place_at (routine_of unit.now) number ≡ Some result.place }
+    ensures limit { result.number ≡ limit_by kind }
+{
+    Fault {
+        kind,
+        place: place_of(unit, number),
+        number: limit_of(kind),
+    }
+}
+
+/// A unit in which nothing is at fault. Contracts see it as the unit that it was made of.
+#[derive(Drop)]
+pub struct CheckedUnit {
+    unit: Unit,
+}
+
+impl Model for CheckedUnit {
+    ghost use Rattle.f66_tree.specs.declared.unit.Unit.{Unit};
+    ghost use Rattle.f66_tree.specs.Views.{routine_of};
+    ghost use Rattle.f66_check.specs.Answers.{IsSound};
+    ghost use Rattle.f66_tree.specs.contracts.unit.Unit as unit_type;
+
+    ghost Value = { Unit };
+
+    ghost coded = { unit_type.the_row.coded };
+
+    ghost view = { λ c. c.unit };
+
+    ghost invariant = { λ c. IsSound (routine_of c.unit) };
+}
+
+impl CheckedUnit {
+    /// The unit, which is sound (X3.9-1966, sections 3 to 9).
+    pub fn unit(&self) -> &Unit
+        ensures unit { result.now ≡ self.now }
+        ensures sound { IsSound (routine_of self.now) }
+    {
+        &self.unit
+    }
+
+    /// The unit itself.
+    pub fn into_unit(self) -> Unit
+        ensures unit { result ≡ self }
+        ensures sound { IsSound (routine_of self) }
+    {
+        self.unit
+    }
+}
+
+/// The unit, exactly where it is sound (X3.9-1966, sections 3 to 9); else exactly its first fault.
+pub fn check_unit(alloc: Global, unit: Unit) -> Result<CheckedUnit, Refusal>
+    ensures accepted { IfOk result (λ c. c ≡ unit) }
+    ensures sound { OnOk result (IsSound (routine_of unit)) }
+    ensures refused { IfErr result (IsRightRefusal (routine_of unit)) }
+{
+    let Ok(first) = first_of(alloc, Scope::Whole, &unit) else {
+        return Err(Refusal::Memory);
+    };
+    match first {
+        Some((number, kind)) => Err(Refusal::Fault(fault_at(&unit, number, kind))),
+        None => Ok(CheckedUnit { unit }),
+    }
+}
+
+/// The number of the first part that is at fault, and the fault, by the rules that do not speak of a unit's end
+/// (X3.9-1966, sections 3 to 9): 0 for the header, and the statements from 1 on.
+pub fn first_fault(alloc: Global, unit: &Unit) -> Result<Option<(u32, Fault)>, Memory>
+    requires { length unit.now.statements.items < 2 ^ 32 - 1 }
+    ensures none { IfOk result (λ o. IfNone o (IsFaultless Part (routine_of unit.now))) }
+    ensures first { IfOk result (λ o. IfSome o (λ r. IsFirstFault Part (routine_of unit.now) r.0 r.1)) }
+{
+    let Ok(first) = first_of(alloc, Scope::Part, unit) else {
+        return Err(Memory);
+    };
+    match first {
+        Some((number, kind)) => Ok(Some((number as u32, fault_at(unit, number, kind)))),
+        None => Ok(None),
+    }
+}

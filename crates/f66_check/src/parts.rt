@@ -1,0 +1,62 @@
+// The first part of a unit that breaks a rule.
+ghost use Rattle.std.specs.Prelude.{◌≡◌, ◌<◌, ◌≤◌, ℕ, false, length, IfOk, IfSome, MatchOption};
+ghost use Rattle.ground.specs.FaultNames.{fault_number};
+ghost use Rattle.ground.specs.declared.fault.FaultKind.{FaultKind};
+ghost use Rattle.rule_table.specs.First.{IsFirst, IsClean};
+ghost use Rattle.rule_table.specs.FaultRules.{first_rule};
+ghost use Rattle.f66_tree.specs.Views.{line_of};
+ghost use Rattle.f66_names.specs.DeclarationViews.{context_in, acts_in};
+ghost use Rattle.f66_flow.specs.FlowRules.{breaks_flow_at};
+ghost use Rattle.f66_flow.specs.Under.{lines_under};
+ghost use Rattle.f66_check.specs.CheckRules.{breaks_line, breaks_part};
+
+use crate::lesser::lesser;
+use f66_flow::{Flow, Scope, header_rule};
+use f66_names::Names;
+use f66_tree::Stmt;
+use ground::FaultKind;
+use std::alloc::{AllocError, Global};
+
+/// The rule with the smallest number that the statement with the number i breaks, where no earlier one breaks a rule of
+/// order, labels or DO ranges.
+fn broken_rule(
+    alloc: Global,
+    scope: Scope,
+    flow: &Flow,
+    names: &Names,
+    i: usize,
+    statement: &Stmt,
+) -> Result<Option<FaultKind>, AllocError>
+    requires within { i < length flow.now.labels.statements.now }
+    requires earlier { (j : ℕ) (k : FaultKind) → j < i → breaks_flow_at scope (lines_under flow.now) j k ≡ false }
+    ensures { IfOk result
+        (λ o. o ≡ first_rule (breaks_line scope (context_in names.now.declarations) (acts_in names.now.declarations) (lines_under flow.now) i (line_of statement.now))) }
+{
+    let by_flow = f66_flow::broken_rule(scope, flow, i, statement);
+    let by_name = f66_names::broken_rule(alloc, names, i, &statement.kind)?;
+    Ok(lesser(by_flow, by_name))
+}
+
+/// The number of the first part that breaks a rule, and the rule.
+pub fn first_broken(
+    alloc: Global,
+    scope: Scope,
+    flow: &Flow,
+    names: &Names,
+) -> Result<Option<(usize, FaultKind)>, AllocError>
+    ensures within { IfOk result (λ o. IfSome o (λ r. r.0 ≤ length flow.now.labels.statements.now)) }
+    ensures first { IfOk result
+        (λ o. MatchOption o (IsClean (breaks_part scope (context_in names.now.declarations) (acts_in names.now.declarations) (lines_under flow.now)))
+        (λ r. IsFirst fault_number (breaks_part scope (context_in names.now.declarations) (acts_in names.now.declarations) (lines_under flow.now)) r.0 r.1)) }
+{
+    if let Some(kind) = header_rule(scope, flow) {
+        return Ok(Some((0, kind)));
+    }
+    for (i, statement) in flow.labels.statements.iter().enumerate() {
+        let broken = broken_rule(alloc, scope, flow, names, i, statement)?;
+        if let Some(kind) = broken {
+            return Ok(Some((i + 1, kind)));
+        }
+    }
+    Ok(None)
+}
