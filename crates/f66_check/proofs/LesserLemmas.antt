@@ -1,6 +1,5 @@
 -- Two tables of rules over one statement: what they tell together is the lesser of what each tells.
-use Rattle.std.proofs.Common.{◌≡◌, ◌≤◌, ◌<◌, ℕ, Bool, true, false, true≢false, cond, Option, Some, None, List, [], ◌∷◌, find, ◌||◌, refl, sym, ap, arith, ◌∙◌}
-use Rattle.std.specs.Prelude.{nat_le, if◌then◌else◌}
+use Rattle.std.proofs.Common.{◌≡◌, ◌≤◌, ◌<◌, Bool, true, false, cond, Option, Some, List, [], ◌∷◌, find, ◌||◌, refl, sym, arith}
 use Rattle.ground.specs.FaultNames.{fault_number}
 use Rattle.ground.specs.declared.fault.FaultKind.{FaultKind}
 use Rattle.rule_table.specs.FaultRules.{rules, first_rule}

@@ -1,6 +1,6 @@
 -- The parts of a unit one after another, and a unit as the tables of its names and of its labels see it.
-use Rattle.std.proofs.Common.{◌≡◌, ◌<◌, ◌≤◌, ◌+◌, ◌-◌, ℕ, zero, suc, Bool, true, false, cond, Option, Some, None, List, [], ◌∷◌, map, length, MatchOption, option_map, ◌||◌, refl, ap, sym, ◌∙◌, subst, arith, add-one, inl, inr}
-use Rattle.std.specs.Prelude.{Result, Ok, Err, IfOk, is_some, not, if◌then◌else◌}
+use Rattle.std.proofs.Common.{◌≡◌, ◌<◌, ◌≤◌, ◌+◌, ◌-◌, ℕ, zero, suc, Bool, true, false, Option, Some, None, List, [], ◌∷◌, map, length, MatchOption, option_map, refl, ap, sym, ◌∙◌, subst, arith, add-one, inl, inr}
+use Rattle.std.specs.Prelude.{Result, Ok, Err, IfOk, not, if◌then◌else◌}
 use Rattle.std.specs.Borrow.{Bor}
 use Rattle.std.specs.declared.alloc.AllocError.{AllocError}
 use Rattle.std.specs.List.{slice_get}
@@ -26,7 +26,6 @@ use Rattle.f66_names.specs.Declaring.{context_by}
 use Rattle.f66_names.specs.DeclarationViews.{context_in, acts_in}
 use Rattle.f66_flow.proofs.PlaceLemmas.{first_place-map}
 use Rattle.f66_flow.specs.declared.scope.Scope.{Scope}
-use Rattle.f66_flow.specs.declared.scope.Scope.TheVariants.{Whole}
 use Rattle.f66_flow.specs.FlowRules.{breaks_flow, breaks_flow_at}
 use Rattle.f66_sound.specs.SoundUnits.{acts_of}
 use Rattle.f66_check.specs.CheckRules.{context_of, breaks_line, breaks_part, breaks_at, unbuilt_line, first_unbuilt}

@@ -1,12 +1,12 @@
 -- A sound unit is what the law of sound main units asks for: its statements are built and clean, and its formats are there.
-use Rattle.std.proofs.Common.{◌≡◌, ◌<◌, ◌+◌, ℕ, zero, suc, Bool, true, false, true≢false, cond, Option, Some, None, List, [], ◌∷◌, map, find, option_map, ◌||◌, refl, ap, sym, ◌∙◌, subst}
-use Rattle.std.specs.Prelude.{is_some, is_none, not, nat_eq, if◌then◌else◌}
+use Rattle.std.proofs.Common.{◌≡◌, ◌+◌, ℕ, zero, suc, Bool, true, false, true≢false, cond, Option, Some, None, List, [], ◌∷◌, option_map, ◌||◌, refl, ap, sym, ◌∙◌, subst}
+use Rattle.std.specs.Prelude.{is_some, not, if◌then◌else◌}
 use Rattle.std.specs.List.{slice_get, list_any}
 use Rattle.std.proofs.lemmas.Option.{slice_get-map}
-use Rattle.std.proofs.lemmas.Bool.{and_parts, or_parts}
+use Rattle.std.proofs.lemmas.Bool.{or_parts}
 use Rattle.ground.specs.declared.fault.FaultKind.{FaultKind}
 use Rattle.ground.specs.declared.fault.FaultKind.TheVariants.{BadLabel}
-use Rattle.rule_table.specs.Words.{first_place, is_some_and}
+use Rattle.rule_table.specs.Words.{is_some_and}
 use Rattle.f66_tree.specs.Forms.{Header, MainUnit, SubUnit, FuncUnit, DataUnit, Act, Chooses, Writes, Formats, Line, Routine}
 use Rattle.f66_tree.specs.Units.{Note, Context, is_main, is_note, notes_of, format_of}
 use Rattle.f66_tree.specs.Execution.{has_label}
@@ -15,12 +15,12 @@ use Rattle.f66_names.specs.BuiltActs.{is_built}
 use Rattle.f66_names.specs.Declaring.{context_by}
 use Rattle.f66_flow.specs.Acts.{is_format, formats_named, branches}
 use Rattle.f66_flow.specs.Ranges.{named}
-use Rattle.f66_flow.specs.FlowRules.{breaks_flow, has_bad_label, has_no_end, leads_nowhere, leads_wrong, names_no_format, is_whole}
+use Rattle.f66_flow.specs.FlowRules.{breaks_flow, has_bad_label, leads_nowhere, leads_wrong, names_no_format}
 use Rattle.f66_flow.specs.declared.scope.Scope.TheVariants.{Whole}
-use Rattle.f66_sound.specs.SoundUnits.{acts_of, finds_format, IsSoundMain, RunsRightly}
+use Rattle.f66_sound.specs.SoundUnits.{acts_of, finds_format, IsSoundMain}
 use Rattle.f66_sound.proofs.RightlyLemmas.{if_both}
 use Rattle.f66_sound.proofs.SoundLemmas.{never_wrong_by_acts}
-use Rattle.f66_check.specs.CheckRules.{context_of, breaks_at, unbuilt_line, first_unbuilt}
+use Rattle.f66_check.specs.CheckRules.{context_of, unbuilt_line}
 use Rattle.f66_check.specs.Answers.{IsSound}
 use Rattle.f66_check.specs.SoundRuns.{SoundRunsRightly}
 

@@ -1,14 +1,11 @@
-use Rattle.std.proofs.Common.{◌≡◌, ◌∙◌, List, Bool, true, map, sym, ap}
+use Rattle.std.proofs.Common.{◌≡◌, ◌∙◌, true, map, sym, ap}
 use Rattle.std.specs.Prelude.{not}
 use Rattle.rule_table.specs.Words.{first_place}
-use Rattle.f66_tree.specs.Forms.{Act}
 use Rattle.f66_tree.specs.Units.{is_main}
 use Rattle.f66_tree.specs.Views.{act_of, lines_of, header_of, routine_of}
 use Rattle.f66_names.specs.BuiltActs.{is_built}
 use Rattle.f66_names.specs.DeclarationViews.{context_in, acts_in}
 use Rattle.f66_flow.specs.Under.{lines_under}
-use Rattle.f66_sound.specs.SoundUnits.{acts_of}
-use Rattle.f66_check.specs.CheckRules.{context_of}
 use Rattle.f66_check.proofs.PartLemmas.{acts_told, context_told, unbuilt_told, unbuilt_at, told_by}
 use Rattle.f66_check.proofs.check.first_of.Goals as goal
 
