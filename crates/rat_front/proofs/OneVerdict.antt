@@ -8,7 +8,7 @@ use Rattle.macro_define.specs.Expansion.{Stop, World, gathered}
 use Rattle.rat_tree.specs.Commands.{RatProgram}
 use Rattle.rat_grammar.specs.Ratfor.{grammar}
 use Rattle.rat_table.specs.Limits.{meter}
-use Rattle.rat_grammar.specs.Values.{program}
+use Rattle.rat_parts.specs.Values.{program}
 use Rattle.rat_front.specs.Verdict.{Verdict, Checked, Faulty, checked, IsParsed, in_files, IsVerdictOf, Becomes}
 use Rattle.rat_front.proofs.FirstFaults.{one_fault, no_fault, one_tree}
 

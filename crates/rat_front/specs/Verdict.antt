@@ -12,7 +12,7 @@ use Rattle.grammar.specs.Answers.{IsFirstFault}
 use Rattle.grammar.specs.Limits.{IsAccepted}
 use Rattle.rat_grammar.specs.Ratfor.{grammar}
 use Rattle.rat_table.specs.Limits.{meter}
-use Rattle.rat_grammar.specs.Values.{program}
+use Rattle.rat_parts.specs.Values.{program}
 use Rattle.rat_tree.specs.Commands.{Commands, RatRoutine, RatProgram}
 use Rattle.rat_check.specs.FirstFault.{fault_at, or_else}
 use Rattle.rat_lower.specs.Lowered.{lower_fault}
