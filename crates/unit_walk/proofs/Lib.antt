@@ -1,18 +1,12 @@
-mod Tests
 mod Spots
-mod ContentLemmas
-mod ComesLemmas
-mod StepLemmas
-mod PlanLemmas
-mod Sizes
-mod ShapeLemmas
 mod ValueLemmas
 mod StatementLemmas
 mod LoopLemmas
-mod ClosingLemmas
 mod WriteLemmas
+mod ShapeLemmas
+mod ComesLemmas
+mod ClosingLemmas
+mod StepLemmas
 mod RunLemmas
 mod WholeLemmas
-pub mod BuiltLemmas
-mod NameLemmas
-mod ReachLemmas
+mod PlanLemmas

@@ -1,12 +1,5 @@
-pub mod Contents
-pub mod Sorts
-pub mod Meaning
-pub mod Reaching
-pub mod Declarations
-pub mod Walked
-pub mod Steps
+pub mod Values
 pub mod Walking
-pub mod Formats
 pub mod Leaving
 pub mod Loops
 pub mod Running
