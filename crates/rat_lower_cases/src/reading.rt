@@ -99,7 +99,8 @@ pub fn read(alloc: Global, text: &[u8]) -> Result<List<RatStmt>, AllocError> {
         reading.take(*byte)?;
         reading.within_number = byte.is_ascii_digit();
     }
-    Ok(reading.current.statements)
+    let current = reading.current;
+    Ok(current.statements)
 }
 
 impl Reading {
