@@ -1,9 +1,8 @@
 #!/bin/sh
-# How fast trees of Ratfor become units of FORTRAN: the time of lowering one unit of 20,000 statements against that of ten
-# units of 2,000, and whether it is at most 1.2 times as long, so that ten times the size takes at most 12 times the time.
-# Ten units need as much memory as the large one, which a single one of 2,000 does not: its time stands beside them, and is
-# a better one where all fits into the cache of the processor. Reading a text and making its tree take no part. Wants
-# crates/lower_bench/out/lower_bench (`rt run` in that folder makes it).
+# How fast trees of Ratfor become units of FORTRAN: the time of lowering one unit of 20,000 statements against that of one of
+# 2,000, and whether it is at most 12 times as long. The time of ten units of 2,000, which need as much memory as the large
+# one, stands beside them. Reading a text and making its tree take no part. Wants crates/lower_bench/out/lower_bench (`rt run`
+# in that folder makes it).
 here=$(CDPATH= cd -- "$(dirname -- "$0")/.." && pwd) || exit 1
 program=$here/crates/lower_bench/out/lower_bench
 if [ ! -x "$program" ]; then
@@ -27,9 +26,9 @@ if [ -z "$single" ] || [ -z "$ten" ] || [ -z "$large" ]; then
 fi
 awk -v s="$single" -v t="$ten" -v l="$large" 'BEGIN {
     printf "one unit of 2,000 statements: %.2f ms; ten such: %.2f ms; one of 20,000: %.2f ms\n", s / 1e6, t / 1e6, l / 1e6
-    printf "one of 20,000 against one of ten: %.1f; against a single one: %.1f\n", 10 * l / t, l / s
+    printf "one of 20,000 against one of 2,000: %.1f; against a tenth of ten: %.1f\n", l / s, 10 * l / t
 }'
-if [ $((10 * large)) -gt $((12 * ten)) ]; then
+if [ "$large" -gt $((12 * single)) ]; then
     echo "ten times the statements take more than 12 times as long" >&2
     exit 1
 fi
