@@ -1,3 +1,2 @@
-pub mod LesserLemmas
 pub mod PartLemmas
 pub mod SoundLemmas

@@ -1,7 +1,6 @@
 -- The parts of a unit one after another, and a unit as the tables of its names and of its labels see it.
 use Rattle.std.proofs.Common.{◌≡◌, ◌<◌, ◌≤◌, ◌+◌, ◌-◌, ℕ, zero, suc, Bool, true, false, Option, Some, None, List, [], ◌∷◌, map, length, MatchOption, option_map, refl, ap, sym, ◌∙◌, subst, arith, add-one, inl, inr}
 use Rattle.std.specs.Prelude.{Result, Ok, Err, IfOk, not, if◌then◌else◌}
-use Rattle.std.specs.Borrow.{Bor}
 use Rattle.std.specs.declared.alloc.AllocError.{AllocError}
 use Rattle.std.specs.List.{slice_get}
 use Rattle.std.proofs.lemmas.Option.{slice_get-map, slice_get_past}
@@ -17,10 +16,10 @@ use Rattle.f66_tree.specs.Forms.{Act, Line, Routine}
 use Rattle.f66_tree.specs.Units.{Context, is_main}
 use Rattle.f66_tree.specs.Views.{act_of, line_of, lines_of, header_of, routine_of}
 use Rattle.f66_tree.specs.declared.statement.Stmt.{Stmt}
-use Rattle.f66_tree.specs.declared.statement.StmtKind.{StmtKind}
+use Rattle.f66_names.specs.declared.saying.Saying.{Saying}
 use Rattle.f66_tree.specs.declared.unit.Unit.{Unit}
 use Rattle.f66_names.specs.declared.declarations.Declarations.{Declarations}
-use Rattle.f66_names.specs.ActViews.{acts_of as kinds_say}
+use Rattle.f66_names.specs.ActViews.{acts_of as said_by}
 use Rattle.f66_names.specs.BuiltActs.{is_built}
 use Rattle.f66_names.specs.Declaring.{context_by}
 use Rattle.f66_names.specs.DeclarationViews.{context_in, acts_in}
@@ -86,9 +85,9 @@ acts_are [] = refl
 acts_are (s ∷ rest) = ap (λ acts. act_of s.kind ∷ acts) (acts_are rest)
 
 -- what the statements of a unit say, and what its names mean, by the tables of its names
-pub acts_told : (d : Declarations) (unit : Unit) (kinds : List (Bor StmtKind)) → d.acts.now ≡ kinds →
-    map (λ k. act_of k.now) kinds ≡ map (λ s. act_of s.kind) unit.statements.items → acts_in d ≡ acts_of (lines_of unit.statements.items)
-acts_told d unit kinds e h = ap kinds_say e ∙ h ∙ sym (acts_are unit.statements.items)
+pub acts_told : (d : Declarations) (unit : Unit) (sayings : List Saying) → d.sayings.now ≡ sayings →
+    said_by sayings ≡ map (λ s. act_of s.kind) unit.statements.items → acts_in d ≡ acts_of (lines_of unit.statements.items)
+acts_told d unit sayings e h = ap said_by e ∙ h ∙ sym (acts_are unit.statements.items)
 
 pub context_told : (d : Declarations) (unit : Unit) → d.header.now ≡ unit.header → acts_in d ≡ acts_of (lines_of unit.statements.items) → context_in d ≡ context_of (routine_of unit)
 context_told d unit e h = ap (λ x. context_by (header_of x) (acts_in d)) e ∙ ap (context_by (header_of unit.header)) h

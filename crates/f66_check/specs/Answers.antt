@@ -1,34 +1,24 @@
 -- What the checks of a unit answer: that nothing is at fault, or the first fault.
-use Rattle.std.specs.Prelude.{◌≡◌, ℕ, zero, suc, nat_le, Option, Some, None, option_map, if◌then◌else◌, ⊤}
+use Rattle.std.specs.Prelude.{◌≡◌, ℕ, zero, suc, Option, Some, None, option_map, ⊤}
 use Rattle.std.specs.List.{slice_get}
 use Rattle.ground.specs.FaultNames.{fault_number}
 use Rattle.ground.specs.declared.place.Place.{Place}
 use Rattle.ground.specs.declared.fault.FaultKind.{FaultKind}
-use Rattle.ground.specs.declared.fault.FaultKind.TheVariants.{Limit, Unbuilt}
+use Rattle.ground.specs.declared.fault.FaultKind.TheVariants.{Unbuilt}
 use Rattle.ground.specs.declared.fault.Fault.{Fault}
 use Rattle.ground.specs.declared.fault.Refusal.{Refusal}
 use Rattle.ground.specs.declared.fault.Refusal.TheVariants.{Fault as AFault, Memory}
 use Rattle.rule_table.specs.First.{IsFirst, IsClean}
+use Rattle.rule_table.specs.FaultRules.{limit_of}
 use Rattle.f66_tree.specs.Forms.{Routine}
 use Rattle.f66_flow.specs.declared.scope.Scope.{Scope}
 use Rattle.f66_flow.specs.declared.scope.Scope.TheVariants.{Whole}
 use Rattle.f66_check.specs.CheckRules.{breaks_at, first_unbuilt}
 
--- of what two tables tell, the kind with the smaller number
-abbrev pub lesser : Option FaultKind → Option FaultKind → Option FaultKind
-lesser None o = o
-lesser (Some k) None = Some k
-lesser (Some k) (Some l) = if nat_le (fault_number k) (fault_number l) then Some k else Some l
-
 -- the place of a unit's header, or of a statement
 abbrev pub place_at : Routine → ℕ → Option Place
 place_at u zero = Some u.place
 place_at u (suc i) = option_map (λ s. s.place) (slice_get u.lines i)
-
--- the number of the limit that a fault tells
-abbrev pub limit_of : FaultKind → ℕ
-limit_of Limit = 7
-limit_of _ = 0
 
 -- each part of the unit is built, and none breaks a rule
 pub record IsFaultless (w : Scope) (u : Routine) : Type 0 where

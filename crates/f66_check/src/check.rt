@@ -3,14 +3,16 @@ ghost use Rattle.std.specs.Prelude.{◌≡◌, ◌≤◌, ◌-◌, ◌^◌, ◌<
 ghost use Rattle.f66_tree.specs.Views.{routine_of};
 ghost use Rattle.f66_flow.specs.declared.scope.Scope.TheVariants.{Part};
 ghost use Rattle.f66_check.specs.CheckRules.{first_unbuilt};
-ghost use Rattle.f66_check.specs.Answers.{IsFaultless, IsSound, IsFirstKind, IsFirstFault, IsRightRefusal, place_at, limit_of as limit_by};
+ghost use Rattle.f66_check.specs.Answers.{IsFaultless, IsSound, IsFirstKind, IsFirstFault, IsRightRefusal, place_at};
+ghost use Rattle.rule_table.specs.FaultRules.{limit_of as limit_by};
 
 use crate::parts::first_broken;
-use crate::unbuilt::{is_main, kinds_of, unbuilt_statement};
+use crate::unbuilt::{is_main, sayings_of, unbuilt_statement};
 use f66_flow::{Scope, flow_of};
 use f66_names::names_of;
 use f66_tree::Unit;
 use ground::{Fault, FaultKind, Memory, Place, Refusal};
+use rule_table::limit_of;
 use std::alloc::{AllocError, Global};
 use std::marker::Model;
 
@@ -27,23 +29,14 @@ fn first_of(
     if !is_main(&unit.header) {
         return Ok(Some((0, FaultKind::Unbuilt)));
     }
-    let kinds = kinds_of(alloc, &unit.statements)?;
-    let names = names_of(alloc, &unit.header, &kinds)?;
+    let sayings = sayings_of(alloc, &unit.statements)?;
+    let names = names_of(alloc, &unit.header, &sayings)?;
     let unbuilt = unbuilt_statement(alloc, &names, &unit.statements)?;
     if let Some(i) = unbuilt {
         return Ok(Some((i + 1, FaultKind::Unbuilt)));
     }
     let flow = flow_of(alloc, &unit.statements)?;
     first_broken(alloc, scope, &flow, &names)
-}
-
-fn limit_of(kind: FaultKind) -> u64
-    ensures { result ≡ limit_by kind }
-{
-    match kind {
-        FaultKind::Limit => 7,
-        _ => 0,
-    }
 }
 
 /// The place of the part with a number.

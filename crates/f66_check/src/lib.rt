@@ -3,7 +3,6 @@
 
 mod check;
 mod laws;
-mod lesser;
 mod parts;
 mod unbuilt;
 

@@ -10,11 +10,11 @@ ghost use Rattle.f66_flow.specs.FlowRules.{breaks_flow_at};
 ghost use Rattle.f66_flow.specs.Under.{lines_under};
 ghost use Rattle.f66_check.specs.CheckRules.{breaks_line, breaks_part};
 
-use crate::lesser::lesser;
 use f66_flow::{Flow, Scope, header_rule};
 use f66_names::Names;
 use f66_tree::Stmt;
 use ground::FaultKind;
+use rule_table::lesser;
 use std::alloc::{AllocError, Global};
 
 /// The rule with the smallest number that the statement with the number i breaks, where no earlier one breaks a rule of

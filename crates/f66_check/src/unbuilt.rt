@@ -4,10 +4,11 @@ ghost use Rattle.rule_table.specs.Words.{first_place};
 ghost use Rattle.f66_tree.specs.Units.{is_main as is_main_header};
 ghost use Rattle.f66_tree.specs.Views.{header_of, act_of};
 ghost use Rattle.f66_names.specs.BuiltActs.{is_built as is_built_act};
+ghost use Rattle.f66_names.specs.ActViews.{acts_of};
 ghost use Rattle.f66_names.specs.DeclarationViews.{context_in};
 
-use f66_names::{Names, is_built};
-use f66_tree::{Header, Stmt, StmtKind};
+use f66_names::{Names, Saying, is_built};
+use f66_tree::{Header, Stmt};
 use std::alloc::{AllocError, Global};
 
 pub fn is_main(header: &Header) -> bool
@@ -17,14 +18,14 @@ pub fn is_main(header: &Header) -> bool
 }
 
 /// What the statements say, in reading order.
-pub fn kinds_of(alloc: Global, statements: &[Stmt]) -> Result<Vec<&StmtKind>, AllocError>
-    ensures { IfOk result (λ kinds. map (λ k. act_of k.now) kinds.items ≡ map (λ s. act_of s.kind) statements.now) }
+pub fn sayings_of(alloc: Global, statements: &[Stmt]) -> Result<Vec<Saying>, AllocError>
+    ensures { IfOk result (λ sayings. acts_of sayings.items ≡ map (λ s. act_of s.kind) statements.now) }
 {
-    let mut kinds = Vec::new(alloc);
+    let mut sayings = Vec::new(alloc);
     for statement in statements {
-        kinds.push(&statement.kind)?;
+        sayings.push(Saying::Act(&statement.kind))?;
     }
-    Ok(kinds)
+    Ok(sayings)
 }
 
 /// The place of the first statement that is not built.

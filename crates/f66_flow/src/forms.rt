@@ -11,7 +11,8 @@ pub(crate) fn is_executable(kind: &StmtKind) -> bool
     !(is_specification(kind) || is_data(kind) || is_format(kind))
 }
 
-pub(crate) fn is_specification(kind: &StmtKind) -> bool
+/// Whether it is a type statement, DIMENSION, COMMON or EQUIVALENCE (X3.9-1966, section 7.2.1).
+pub fn is_specification(kind: &StmtKind) -> bool
     ensures { result ≡ acts.is_specification (act_of kind.now) }
 {
     matches!(
@@ -29,7 +30,8 @@ pub(crate) fn is_data(kind: &StmtKind) -> bool
     matches!(kind, StmtKind::Preset(_))
 }
 
-pub(crate) fn is_format(kind: &StmtKind) -> bool
+/// Whether it is a FORMAT (section 7.2.3).
+pub fn is_format(kind: &StmtKind) -> bool
     ensures { result ≡ acts.is_format (act_of kind.now) }
 {
     matches!(kind, StmtKind::Format(_))

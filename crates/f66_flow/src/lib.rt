@@ -10,6 +10,7 @@ mod rows;
 mod scope;
 
 pub use flow::{Flow, flow_of};
+pub use forms::{is_format, is_specification};
 pub use labels::Labels;
 pub use rows::{broken_rule, header_rule};
 pub use scope::Scope;

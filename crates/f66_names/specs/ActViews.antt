@@ -1,9 +1,16 @@
--- The statements of a unit in memory.
+-- What a unit in memory says of names, as statements of FORTRAN.
 use Rattle.std.specs.Prelude.{List, map}
-use Rattle.std.specs.Borrow.{Bor}
-use Rattle.f66_tree.specs.declared.statement.StmtKind.{StmtKind}
-use Rattle.f66_tree.specs.Forms.{Act}
-use Rattle.f66_tree.specs.Views.{act_of}
+use Rattle.f66_tree.specs.Forms.{Act, Signs, Chooses, Loops, Passes}
+use Rattle.f66_tree.specs.Views.{formula_of, par_of, act_of}
+use Rattle.f66_names.specs.declared.saying.Saying.{Saying}
+use Rattle.f66_names.specs.declared.saying.Saying.TheVariants as says
 
-abbrev pub acts_of : List (Bor StmtKind) → List Act
-acts_of kinds = map (λ k. act_of k.now) kinds
+-- the statement with the same names, each standing in the same way
+abbrev pub act_said : Saying → Act
+act_said (says.Act a) = act_of a.now
+act_said (says.Condition e) = Chooses (formula_of e.now) Passes
+act_said (says.Value e) = Signs (formula_of e.now) 0 0 0
+act_said (says.Counting x a b c) = Loops 0 x.now (par_of a.now) (par_of b.now) (par_of c.now)
+
+abbrev pub acts_of : List Saying → List Act
+acts_of sayings = map act_said sayings

@@ -3,6 +3,7 @@ ghost use Rattle.std.specs.Prelude.{◌≡◌, IfOk, map};
 ghost use Rattle.std.specs.List.{list_any};
 ghost use Rattle.f66_tree.specs.Views.{formula_of, par_of, entry_of, entries_of, act_of};
 ghost use Rattle.f66_tree.specs.Built.{is_printer};
+ghost use Rattle.f66_names.specs.ActViews.{act_said};
 ghost use Rattle.f66_names.specs.UseViews.{use_of};
 ghost use Rattle.f66_names.specs.BuiltActs.{is_one_place, is_one_entry, is_one_item, is_function_by, is_function, is_built_form, is_built};
 ghost use Rattle.f66_names.specs.DeclarationViews.{context_in};
@@ -11,8 +12,8 @@ use crate::declarations::Declarations;
 use crate::names::Names;
 use crate::sorts::{form_of, is_array};
 use crate::store_rules::one_field;
-use crate::uses::{Use, uses_of_statement};
-use crate::{Manner, NameForm};
+use crate::uses::{Use, uses_of_saying, uses_of_statement};
+use crate::{Manner, NameForm, Saying};
 use f66_tree::{Entry, Expr, Par, StmtKind};
 use std::alloc::{AllocError, Global};
 
@@ -23,6 +24,24 @@ pub fn is_built(alloc: Global, names: &Names, kind: &StmtKind) -> Result<bool, A
     let uses = uses_of_statement(alloc, kind)?;
     let declarations = &names.declarations;
     Ok(is_built_form(declarations, kind) && !has_function(declarations, &uses))
+}
+
+/// Whether a statement or a part of one is built so far.
+pub fn is_built_saying(alloc: Global, names: &Names, saying: &Saying) -> Result<bool, AllocError>
+    ensures { IfOk result (λ b. b ≡ is_built (context_in names.now.declarations) (act_said saying.now)) }
+{
+    let uses = uses_of_saying(alloc, saying)?;
+    let declarations = &names.declarations;
+    Ok(has_built_form(declarations, saying) && !has_function(declarations, &uses))
+}
+
+fn has_built_form(declarations: &Declarations, saying: &Saying) -> bool
+    ensures { result ≡ is_built_form (context_in declarations.now) (act_said saying.now) }
+{
+    match *saying {
+        Saying::Act(kind) => is_built_form(declarations, kind),
+        Saying::Condition(_) | Saying::Value(_) | Saying::Counting(_, _, _, _) => true,
+    }
 }
 
 fn is_built_form(declarations: &Declarations, kind: &StmtKind) -> bool

@@ -13,9 +13,8 @@ ghost use Rattle.f66_names.specs.DeclarationViews.{context_in, acts_in};
 
 use crate::declarations::Declarations;
 use crate::sorts::form_of;
-use crate::uses::{Use, collect_in};
-use crate::{Class, Manner, NameForm};
-use f66_tree::StmtKind;
+use crate::uses::{Use, collect_in_saying};
+use crate::{Class, Manner, NameForm, Saying};
 use rule_table::note;
 use std::alloc::{AllocError, Global};
 use std::collections::HashMap;
@@ -28,7 +27,7 @@ pub fn class_table<'a>(
     ensures { IfOk result
         (λ m. (q : List ℕ) → get_by (λ k. bytes_eq q k.now) m ≡ class_of (context_in declarations.now) (acts_in declarations.now) q) }
 {
-    let uses = uses_of_acts(alloc, declarations.acts)?;
+    let uses = uses_of_sayings(alloc, declarations.sayings)?;
     classes_of(alloc, declarations, &uses)
 }
 
@@ -47,13 +46,13 @@ fn classes_of<'a>(
     Ok(table)
 }
 
-/// The names that statements use.
-fn uses_of_acts<'a>(alloc: Global, acts: &'a [&'a StmtKind]) -> Result<Vec<Use<'a>>, AllocError>
-    ensures { IfOk result (λ v. map use_of v.items ≡ flat_map uses_in (acts_of acts.now)) }
+/// The names that a unit uses.
+fn uses_of_sayings<'a>(alloc: Global, sayings: &[Saying<'a>]) -> Result<Vec<Use<'a>>, AllocError>
+    ensures { IfOk result (λ v. map use_of v.items ≡ flat_map uses_in (acts_of sayings.now)) }
 {
     let mut uses = Vec::new(alloc);
-    for kind in acts {
-        collect_in(*kind, &mut uses)?;
+    for saying in sayings {
+        collect_in_saying(saying, &mut uses)?;
     }
     Ok(uses)
 }

@@ -6,10 +6,10 @@ ghost use Rattle.std.proofs.Props.{props};
 ghost use Rattle.f66_names.specs.NameRules.{class_of};
 ghost use Rattle.f66_names.specs.DeclarationViews.{context_in, acts_in};
 
-use crate::Class;
 use crate::classes::class_table;
 use crate::declarations::{Declarations, declarations_of};
-use f66_tree::{Header, StmtKind};
+use crate::{Class, Saying};
+use f66_tree::Header;
 use std::alloc::{AllocError, Global};
 use std::collections::HashMap;
 
@@ -21,16 +21,16 @@ pub struct Names<'a> {
     ghost classes_are: { (q : List ℕ) → get_by (λ k. bytes_eq q k.now) classes ≡ class_of (context_in declarations) (acts_in declarations) q } by { Prim.hlevel props },
 }
 
-/// The names of a unit with this header and these statements, all of them in reading order.
+/// The names of a unit with this header that says this, all of it in reading order.
 pub fn names_of<'a>(
     alloc: Global,
     header: &'a Header,
-    acts: &'a [&'a StmtKind],
+    sayings: &'a [Saying<'a>],
 ) -> Result<Names<'a>, AllocError>
     ensures header { IfOk result (λ n. n.declarations.header.now ≡ header.now) }
-    ensures acts { IfOk result (λ n. n.declarations.acts.now ≡ acts.now) }
+    ensures sayings { IfOk result (λ n. n.declarations.sayings.now ≡ sayings.now) }
 {
-    let declarations = declarations_of(alloc, header, acts)?;
+    let declarations = declarations_of(alloc, header, sayings)?;
     let classes = class_table(alloc, &declarations)?;
     Ok(Names {
         declarations,

@@ -4,11 +4,13 @@ ghost use Rattle.rule_table.specs.FaultRules.{first_rule};
 ghost use Rattle.f66_tree.specs.Forms.{Signs, Chooses, Loops, Passes};
 ghost use Rattle.f66_tree.specs.Views.{formula_of, par_of, act_of};
 ghost use Rattle.f66_names.specs.Uses.{uses_in, uses_of};
+ghost use Rattle.f66_names.specs.ActViews.{act_said};
 ghost use Rattle.f66_names.specs.UseViews.{use_of};
 ghost use Rattle.f66_names.specs.NameRules.{is_duplicate};
 ghost use Rattle.f66_names.specs.Rules.{breaks_name, breaks_expression};
 ghost use Rattle.f66_names.specs.DeclarationViews.{context_in, acts_in};
 
+use crate::Saying;
 use crate::kinds::{clashes, counts_integers, has_kind};
 use crate::name_rules::{
     has_long_name, has_long_use, has_misuse, has_other_type, has_other_use, has_wrong_count,
@@ -68,6 +70,26 @@ pub fn broken_rule(
         return Ok(Some(FaultKind::Limit));
     }
     Ok(None)
+}
+
+/// The same of a statement or a part of one, the i-th that the unit says.
+pub fn saying_rule(
+    alloc: Global,
+    names: &Names,
+    i: usize,
+    saying: &Saying,
+) -> Result<Option<FaultKind>, AllocError>
+    ensures { IfOk result
+        (λ o. o ≡ first_rule (breaks_name (context_in names.now.declarations) (acts_in names.now.declarations) i (act_said saying.now))) }
+{
+    match *saying {
+        Saying::Act(kind) => broken_rule(alloc, names, i, kind),
+        Saying::Condition(e) => condition_rule(alloc, names, e),
+        Saying::Value(e) => value_rule(alloc, names, e),
+        Saying::Counting(variable, first, last, step) => {
+            counting_rule(alloc, names, variable, first, last, step)
+        }
+    }
 }
 
 /// What a condition breaks, as that of a logical IF (section 7.1.2.3).

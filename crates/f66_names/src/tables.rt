@@ -1,4 +1,4 @@
-// Tables of what the statements of a unit declare.
+// Tables of what a unit declares.
 ghost use Rattle.std.specs.Prelude.{◌≡◌, List, ℕ, IfOk, OnOk, Some, None, if◌then◌else◌, ◌&&◌, map, filter};
 ghost use Rattle.std.specs.HashMap.{get_by};
 ghost use Rattle.std.specs.List.{list_any, flat_map};
@@ -6,9 +6,11 @@ ghost use Rattle.std.specs.Option.{option_or};
 ghost use Rattle.std.specs.Str.{bytes_eq};
 ghost use Rattle.rule_table.specs.Words.{first_place, find_map};
 ghost use Rattle.f66_tree.specs.Views.{declared_of, area_of, act_of};
-ghost use Rattle.f66_names.specs.ActViews.{acts_of};
+ghost use Rattle.f66_names.specs.ActViews.{act_said, acts_of};
 ghost use Rattle.f66_names.specs.Declaring.{names, is_sized, typed_in, declared_in, sized_in, types, sizes, type_given, count_by, count_in};
 
+use crate::Saying;
+use crate::saying::{declared_in_saying, typed_in_saying};
 use f66_tree::{Area, Declared, StmtKind, TypeWord};
 use rule_table::note;
 use std::alloc::{AllocError, Global};
@@ -17,14 +19,14 @@ use std::collections::HashMap;
 /// The declared type of each name.
 pub fn word_table<'a>(
     alloc: Global,
-    acts: &'a [&'a StmtKind],
+    sayings: &[Saying<'a>],
 ) -> Result<HashMap<&'a [u8], TypeWord>, AllocError>
     ensures { IfOk result
-        (λ m. (q : List ℕ) → get_by (λ k. bytes_eq q k.now) m ≡ find_map (type_given q) (acts_of acts.now)) }
+        (λ m. (q : List ℕ) → get_by (λ k. bytes_eq q k.now) m ≡ find_map (type_given q) (acts_of sayings.now)) }
 {
     let mut table = HashMap::new(alloc);
-    for kind in acts {
-        note_word(&mut table, *kind)?;
+    for saying in sayings {
+        note_word(&mut table, saying)?;
     }
     Ok(table)
 }
@@ -32,14 +34,14 @@ pub fn word_table<'a>(
 /// The number of dimensions of each name that has some.
 pub fn count_table<'a>(
     alloc: Global,
-    acts: &'a [&'a StmtKind],
+    sayings: &[Saying<'a>],
 ) -> Result<HashMap<&'a [u8], usize>, AllocError>
     ensures { IfOk result
-        (λ m. (q : List ℕ) → get_by (λ k. bytes_eq q k.now) m ≡ find_map (count_in q) (acts_of acts.now)) }
+        (λ m. (q : List ℕ) → get_by (λ k. bytes_eq q k.now) m ≡ find_map (count_in q) (acts_of sayings.now)) }
 {
     let mut table = HashMap::new(alloc);
-    for kind in acts {
-        note_counts_in(&mut table, *kind)?;
+    for saying in sayings {
+        note_counts_in(&mut table, saying)?;
     }
     Ok(table)
 }
@@ -47,14 +49,14 @@ pub fn count_table<'a>(
 /// The first statement that gives a name its type, for each name.
 pub fn typed_table<'a>(
     alloc: Global,
-    acts: &'a [&'a StmtKind],
+    sayings: &[Saying<'a>],
 ) -> Result<HashMap<&'a [u8], usize>, AllocError>
     ensures { IfOk result
-        (λ m. (q : List ℕ) → get_by (λ k. bytes_eq q k.now) m ≡ first_place (types q) (acts_of acts.now)) }
+        (λ m. (q : List ℕ) → get_by (λ k. bytes_eq q k.now) m ≡ first_place (types q) (acts_of sayings.now)) }
 {
     let mut table = HashMap::new(alloc);
-    for (i, kind) in acts.iter().enumerate() {
-        note_all(&mut table, typed_in(*kind), i)?;
+    for (i, saying) in sayings.iter().enumerate() {
+        note_all(&mut table, typed_in_saying(saying), i)?;
     }
     Ok(table)
 }
@@ -62,14 +64,14 @@ pub fn typed_table<'a>(
 /// The first type statement or DIMENSION that gives a name its dimensions, for each name.
 pub fn sized_table<'a>(
     alloc: Global,
-    acts: &'a [&'a StmtKind],
+    sayings: &[Saying<'a>],
 ) -> Result<HashMap<&'a [u8], usize>, AllocError>
     ensures { IfOk result
-        (λ m. (q : List ℕ) → get_by (λ k. bytes_eq q k.now) m ≡ first_place (sizes q) (acts_of acts.now)) }
+        (λ m. (q : List ℕ) → get_by (λ k. bytes_eq q k.now) m ≡ first_place (sizes q) (acts_of sayings.now)) }
 {
     let mut table = HashMap::new(alloc);
-    for (i, kind) in acts.iter().enumerate() {
-        note_all_sized(&mut table, declared_in(*kind), i)?;
+    for (i, saying) in sayings.iter().enumerate() {
+        note_all_sized(&mut table, declared_in_saying(saying), i)?;
     }
     Ok(table)
 }
@@ -97,14 +99,14 @@ pub fn declared_in(kind: &StmtKind) -> &[Declared]
 
 fn note_word<'a>(
     table: &mut HashMap<&'a [u8], TypeWord>,
-    kind: &'a StmtKind,
+    saying: &Saying<'a>,
 ) -> Result<(), AllocError>
     ensures { OnOk result
         ((q : List ℕ) → get_by (λ k. bytes_eq q k.now) table.new
-        ≡ option_or (get_by (λ k. bytes_eq q k.now) table.old) (type_given q (act_of kind.now))) }
+        ≡ option_or (get_by (λ k. bytes_eq q k.now) table.old) (type_given q (act_said saying.now))) }
 {
-    match kind {
-        StmtKind::Typed(word, list) => note_all(table, list.as_slice(), *word),
+    match *saying {
+        Saying::Act(StmtKind::Typed(word, list)) => note_all(table, list.as_slice(), *word),
         _ => Ok(()),
     }
 }
@@ -201,16 +203,16 @@ fn note_areas<'a>(table: &mut HashMap<&'a [u8], usize>, areas: &'a [Area]) -> Re
 /// Notes the numbers of dimensions that a statement gives.
 fn note_counts_in<'a>(
     table: &mut HashMap<&'a [u8], usize>,
-    kind: &'a StmtKind,
+    saying: &Saying<'a>,
 ) -> Result<(), AllocError>
     ensures { OnOk result
         ((q : List ℕ) → get_by (λ k. bytes_eq q k.now) table.new
-        ≡ option_or (get_by (λ k. bytes_eq q k.now) table.old) (count_in q (act_of kind.now))) }
+        ≡ option_or (get_by (λ k. bytes_eq q k.now) table.old) (count_in q (act_said saying.now))) }
 {
-    match kind {
-        StmtKind::Typed(_, list) => note_counts(table, list),
-        StmtKind::Dimension(list) => note_counts(table, list),
-        StmtKind::Common(areas) => note_areas(table, areas),
+    match *saying {
+        Saying::Act(StmtKind::Typed(_, list)) => note_counts(table, list),
+        Saying::Act(StmtKind::Dimension(list)) => note_counts(table, list),
+        Saying::Act(StmtKind::Common(areas)) => note_areas(table, areas),
         _ => Ok(()),
     }
 }

@@ -1,6 +1,6 @@
 // The fault of the last of some statements, by the standard's rules.
 
-use crate::{broken_rule, names_of};
+use crate::{Saying, broken_rule, names_of};
 use f66_tree::{Declared, Expr, Field, Header, Name, Operator, Par, StmtKind, TypeWord};
 use ground::{FaultKind, List, Text};
 use std::alloc::{AllocError, Global};
@@ -174,7 +174,7 @@ fn fault_of(alloc: Global, acts: &[StmtKind]) -> Result<Option<FaultKind>, Alloc
     let header = Header::Main;
     let mut all = Vec::new(alloc);
     for act in acts {
-        all.push(act)?;
+        all.push(Saying::Act(act))?;
     }
     let names = names_of(alloc, &header, &all)?;
     match acts.split_last() {

@@ -4,8 +4,9 @@ ghost use Rattle.std.specs.List.{flat_map};
 ghost use Rattle.f66_tree.specs.Views.{formula_of, formulas_of, par_of, declared_of, entry_of, entries_of, act_of};
 ghost use Rattle.f66_names.specs.Uses.{usage, uses_of, uses_of_all, uses_of_target, uses_of_par, uses_of_entry, uses_of_entries, uses_of_sizes, uses_in};
 ghost use Rattle.f66_names.specs.UseViews.{use_of};
+ghost use Rattle.f66_names.specs.ActViews.{act_said};
 
-use crate::Manner;
+use crate::{Manner, Saying};
 use f66_tree::{Declared, Entry, Expr, Name, Par, StmtKind};
 use std::alloc::{AllocError, Global};
 
@@ -22,6 +23,15 @@ pub fn uses_of_statement<'a>(alloc: Global, kind: &'a StmtKind) -> Result<Vec<Us
 {
     let mut uses = Vec::new(alloc);
     collect_in(kind, &mut uses)?;
+    Ok(uses)
+}
+
+/// The names that a statement or a part of one uses.
+pub fn uses_of_saying<'a>(alloc: Global, saying: &Saying<'a>) -> Result<Vec<Use<'a>>, AllocError>
+    ensures { IfOk result (λ v. map use_of v.items ≡ uses_in (act_said saying.now)) }
+{
+    let mut uses = Vec::new(alloc);
+    collect_in_saying(saying, &mut uses)?;
     Ok(uses)
 }
 
@@ -76,6 +86,20 @@ pub fn collect_in<'a>(kind: &'a StmtKind, uses: &mut Vec<Use<'a>>) -> Result<(),
         StmtKind::Typed(_, list) => collect_sizes(list, uses),
         StmtKind::Dimension(list) => collect_sizes(list, uses),
         _ => Ok(()),
+    }
+}
+
+/// Adds the names that a statement or a part of one uses.
+pub fn collect_in_saying<'a>(saying: &Saying<'a>, uses: &mut Vec<Use<'a>>) -> Result<(), AllocError>
+    ensures { OnOk result (map use_of uses.new.items ≡ map use_of uses.old.items ++ uses_in (act_said saying.now)) }
+{
+    match *saying {
+        Saying::Act(kind) => collect_in(kind, uses),
+        Saying::Condition(e) => collect(e, uses),
+        Saying::Value(e) => collect(e, uses),
+        Saying::Counting(variable, first, last, step) => {
+            collect_counting(variable, first, last, step, uses)
+        }
     }
 }
 

@@ -14,8 +14,8 @@ returns-in-Some-clause-first c =
     let unit = c.args.unit.now in
     let names = c.in_ok-names.names.declarations in
     let main : is_main (header_of unit.header) ≡ true = sym c.is_main.ensures ∙ c.if-not-is_main.false in
-    let same_acts = acts_told names unit c.in_ok-kinds.kinds.items (c.in_ok-names.ensures.acts ∙ c.deref-2.ensures.value)
-    (c.in_ok-kinds.ensures ∙ ap (map (λ s. act_of s.kind)) c.deref.ensures.value) in
+    let same_acts = acts_told names unit c.in_ok-sayings.sayings.items (c.in_ok-names.ensures.sayings ∙ c.deref-2.ensures.value)
+    (c.in_ok-sayings.ensures ∙ ap (map (λ s. act_of s.kind)) c.deref.ensures.value) in
     let same_context = context_told names unit c.in_ok-names.ensures.header same_acts in
     let found = unbuilt_told (context_in names) unit c.in_ok-unbuilt.unbuilt same_context
     (c.in_ok-unbuilt.ensures.first ∙ ap (first_place (λ s. not (is_built (context_in names) (act_of s.kind)))) c.deref-3.ensures.value) in
@@ -26,8 +26,8 @@ returns-clause-first c =
     let unit = c.args.unit.now in
     let names = c.in_ok-names.names.declarations in
     let main : is_main (header_of unit.header) ≡ true = sym c.is_main.ensures ∙ c.if-not-is_main.false in
-    let same_acts = acts_told names unit c.in_ok-kinds.kinds.items (c.in_ok-names.ensures.acts ∙ c.deref-2.ensures.value)
-    (c.in_ok-kinds.ensures ∙ ap (map (λ s. act_of s.kind)) c.deref.ensures.value) in
+    let same_acts = acts_told names unit c.in_ok-sayings.sayings.items (c.in_ok-names.ensures.sayings ∙ c.deref-2.ensures.value)
+    (c.in_ok-sayings.ensures ∙ ap (map (λ s. act_of s.kind)) c.deref.ensures.value) in
     let same_context = context_told names unit c.in_ok-names.ensures.header same_acts in
     let found = unbuilt_told (context_in names) unit c.in_ok-unbuilt.unbuilt same_context
     (c.in_ok-unbuilt.ensures.first ∙ ap (first_place (λ s. not (is_built (context_in names) (act_of s.kind)))) c.deref-3.ensures.value) in

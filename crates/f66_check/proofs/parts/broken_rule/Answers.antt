@@ -1,12 +1,11 @@
 use Rattle.std.proofs.Common.{◌∙◌, sym, ap}
 use Rattle.f66_tree.specs.Views.{line_of, act_of}
-use Rattle.rule_table.specs.FaultRules.{first_rule}
+use Rattle.rule_table.specs.FaultRules.{first_rule, lesser}
 use Rattle.f66_names.specs.DeclarationViews.{context_in, acts_in}
 use Rattle.f66_names.specs.Rules.{breaks_name}
 use Rattle.f66_flow.specs.FlowRules.{breaks_flow}
 use Rattle.f66_flow.specs.Under.{lines_under}
-use Rattle.f66_check.specs.Answers.{lesser}
-use Rattle.f66_check.proofs.LesserLemmas.{first_either}
+use Rattle.rule_table.proofs.LesserLemmas.{first_either}
 use Rattle.f66_check.proofs.parts.broken_rule.Goals as goal
 
 pub returns : goal.returns

@@ -3,5 +3,5 @@ use Rattle.std.proofs.Common.{arith}
 use Rattle.rule_table.proofs.WordLemmas.{place_steps}
 use Rattle.f66_names.proofs.tables.count_table.Goals as goal
 
-pub loop-kind-preserved : goal.loop-kind-preserved
-loop-kind-preserved c = λ q. grind (arith, place_steps, c.loop-kind.invariant q)
+pub loop-saying-preserved : goal.loop-saying-preserved
+loop-saying-preserved c = λ q. grind (arith, place_steps, c.loop-saying.invariant q)

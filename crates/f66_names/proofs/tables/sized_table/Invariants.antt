@@ -8,4 +8,4 @@ use Rattle.f66_names.specs.Declaring.{sizes}
 use Rattle.f66_names.proofs.tables.sized_table.Given as goal
 
 abbrev pub invariant-loop-i : goal.invariant-loop-i
-invariant-loop-i l = (q : List ℕ) → get_by (λ k. bytes_eq q k.now) l.table ≡ first_place (sizes q) (acts_of (take l.i l.acts))
+invariant-loop-i l = (q : List ℕ) → get_by (λ k. bytes_eq q k.now) l.table ≡ first_place (sizes q) (acts_of (take l.i l.sayings))

@@ -1,11 +1,11 @@
 -- Two tables of rules over one statement: what they tell together is the lesser of what each tells.
-use Rattle.std.proofs.Common.{◌≡◌, ◌≤◌, ◌<◌, Bool, true, false, cond, Option, Some, List, [], ◌∷◌, find, ◌||◌, refl, sym, arith}
+use Rattle.std.proofs.Common.{◌≡◌, ◌≤◌, ◌<◌, ◌⊎◌, inl, inr, ap, ◌∙◌, Bool, true, false, cond, Option, Some, None, List, [], ◌∷◌, find, ◌||◌, refl, sym, arith}
+use Rattle.std.proofs.lemmas.Bool.{cases_lt}
 use Rattle.ground.specs.FaultNames.{fault_number}
 use Rattle.ground.specs.declared.fault.FaultKind.{FaultKind}
-use Rattle.rule_table.specs.FaultRules.{rules, first_rule}
+use Rattle.rule_table.specs.FaultRules.{rules, first_rule, lesser}
 use Rattle.rule_table.proofs.FirstLemmas.{IsAbove, IsRising}
 use Rattle.rule_table.proofs.RuleLemmas.{rules-rise}
-use Rattle.f66_check.specs.Answers.{lesser}
 
 lesser_left : (k l : FaultKind) → fault_number k ≤ fault_number l → lesser (Some k) (Some l) ≡ Some k
 lesser_left k l h = grind arith
@@ -41,6 +41,26 @@ step x b c xs false false h rest = rest
 find_either : (b c : FaultKind → Bool) (xs : List FaultKind) → IsRising fault_number xs → find (λ k. b k || c k) xs ≡ lesser (find b xs) (find c xs)
 find_either b c [] h = refl
 find_either b c (x ∷ xs) h = step x b c xs (b x) (c x) h.0 (find_either b c xs h.1)
+
+pub lesser-none : (o : Option FaultKind) → lesser o None ≡ o
+lesser-none None = refl
+lesser-none (Some k) = refl
+
+assoc_some : (k l m : FaultKind) → (fault_number l < fault_number k) ⊎ (fault_number k ≤ fault_number l) → (fault_number m < fault_number l) ⊎ (fault_number l ≤ fault_number m) →
+    lesser (lesser (Some k) (Some l)) (Some m) ≡ lesser (Some k) (lesser (Some l) (Some m))
+assoc_some k l m (inl a) (inl b) =
+    ap (λ o. lesser o (Some m)) (lesser_right k l a) ∙ lesser_right l m b ∙ sym (ap (lesser (Some k)) (lesser_right l m b) ∙ lesser_right k m (omega (arith, a, b)))
+assoc_some k l m (inl a) (inr b) =
+    ap (λ o. lesser o (Some m)) (lesser_right k l a) ∙ lesser_left l m b ∙ sym (ap (lesser (Some k)) (lesser_left l m b) ∙ lesser_right k l a)
+assoc_some k l m (inr a) (inl b) = ap (λ o. lesser o (Some m)) (lesser_left k l a) ∙ sym (ap (lesser (Some k)) (lesser_right l m b))
+assoc_some k l m (inr a) (inr b) =
+    ap (λ o. lesser o (Some m)) (lesser_left k l a) ∙ lesser_left k m (omega (arith, a, b)) ∙ sym (ap (lesser (Some k)) (lesser_left l m b) ∙ lesser_left k l a)
+
+pub lesser-assoc : (a b c : Option FaultKind) → lesser (lesser a b) c ≡ lesser a (lesser b c)
+lesser-assoc None b c = refl
+lesser-assoc (Some k) None c = refl
+lesser-assoc (Some k) (Some l) None = lesser-none (lesser (Some k) (Some l))
+lesser-assoc (Some k) (Some l) (Some m) = assoc_some k l m (cases_lt (fault_number l) (fault_number k)) (cases_lt (fault_number m) (fault_number l))
 
 -- of two tables of rules, the first rule that is broken in one of them
 pub first_either : (b c : FaultKind → Bool) → first_rule (λ k. b k || c k) ≡ lesser (first_rule b) (first_rule c)

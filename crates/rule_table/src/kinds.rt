@@ -1,6 +1,6 @@
-// The smaller of two faults at one statement.
+// The kinds of faults that two tables tell, and the limits that they name.
 ghost use Rattle.std.specs.Prelude.{◌≡◌};
-ghost use Rattle.f66_check.specs.Answers.{lesser as lesser_of};
+ghost use Rattle.rule_table.specs.FaultRules.{lesser as lesser_of, limit_of as limit_by};
 
 use ground::FaultKind;
 
@@ -14,5 +14,15 @@ pub fn lesser(first: Option<FaultKind>, second: Option<FaultKind>) -> Option<Fau
             _ => Some(one),
         },
         None => second,
+    }
+}
+
+/// The number of the limit that a fault of one statement tells.
+pub fn limit_of(kind: FaultKind) -> u64
+    ensures { result ≡ limit_by kind }
+{
+    match kind {
+        FaultKind::Limit => 7,
+        _ => 0,
     }
 }
