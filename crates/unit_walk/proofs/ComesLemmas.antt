@@ -1,7 +1,7 @@
 -- Parts of a run, one after the other.
 use Rattle.std.proofs.Common.{◌≡◌, List, refl, ◌∙◌, ap}
 use Rattle.f66_tree.specs.World.{Record, World, Out, bind}
-use Rattle.unit_walk.specs.Values.{Values}
+use Rattle.unit_walk.specs.Contents.{Values}
 use Rattle.unit_walk.specs.Walking.{Holds, Comes}
 
 pub comes_at_once : {A : Type 0} (f : World → Out A) (w : World) (values : Values) (records : List Record) → Holds values records w → Comes (f w) f w values records

@@ -1,12 +1,18 @@
+mod Conjunctions
 mod Spots
+mod ContentLemmas
+mod ComesLemmas
+mod StepLemmas
+mod PlanLemmas
+mod Sizes
+mod ShapeLemmas
 mod ValueLemmas
 mod StatementLemmas
 mod LoopLemmas
-mod WriteLemmas
-mod ShapeLemmas
-mod ComesLemmas
 mod ClosingLemmas
-mod StepLemmas
+mod WriteLemmas
 mod RunLemmas
 mod WholeLemmas
-mod PlanLemmas
+pub mod BuiltLemmas
+mod NameLemmas
+mod ReachLemmas

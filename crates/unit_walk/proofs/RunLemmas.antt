@@ -4,27 +4,32 @@ use Rattle.std.proofs.lemmas.Bool.Decides.{nat_tests}
 use Rattle.std.proofs.lemmas.List.{drop_more}
 use Rattle.std.specs.Prelude.{⊤}
 use Rattle.ground.specs.declared.place.Place.{Place}
-use Rattle.ground.specs.declared.trap.Trap.{Trap}
 use Rattle.f66_tree.specs.declared.statement.Stmt.{Stmt}
 use Rattle.f66_tree.specs.Forms.{Text, Formula, Par, Act, Chooses, Loops, Line}
-use Rattle.f66_tree.specs.World.{World, Out, Halts, GoesOn, bind, settle, lifted, choose, take_from}
+use Rattle.f66_tree.specs.World.{World, Out, Halts, GoesOn, bind, settle, choose, take_from}
 use Rattle.f66_tree.specs.Units.{Setting, Note, is_note, notes_of}
 use Rattle.f66_tree.specs.Statements.{Next, Loop}
 use Rattle.f66_tree.specs.Execution.{Progress, Onward, stand, runnable, begun, leads, perform, fetch, exec, nowhere}
 use Rattle.f66_tree.specs.OneUnit.{one_unit}
 use Rattle.f66_tree.specs.Views.{act_of, line_of, lines_of}
-use Rattle.f66_tree.specs.Built.{is_plain, is_built, are_built, is_condition}
+use Rattle.unit_walk.specs.Walked.{is_plain, is_walked, are_walked}
 use Rattle.unit_walk.specs.declared.statement.RunEnd.TheVariants as ends
 use Rattle.unit_walk.specs.declared.do_loop.Pass.{Pass}
 use Rattle.unit_walk.specs.declared.do_loop.Lead.{Lead}
 use Rattle.unit_walk.specs.declared.do_loop.Lead.TheVariants.{At, Over}
 use Rattle.unit_walk.specs.declared.run.Run.{Run}
-use Rattle.unit_walk.specs.Values.{Values, value_under, truth}
-use Rattle.unit_walk.specs.Walking.{HoldsValues, AreNotes, main_at, around_main}
-use Rattle.unit_walk.specs.Loops.{loop_of, Begins}
+use Rattle.unit_walk.specs.declared.stuck.Stuck.{Stuck}
+use Rattle.unit_walk.specs.declared.stuck.Stuck.TheVariants.{Trapped, Wrong}
+use Rattle.unit_walk.specs.Contents.{Values, values_in, tried}
+use Rattle.unit_walk.specs.Steps.{condition}
+use Rattle.unit_walk.specs.Declarations.{context_of}
+use Rattle.unit_walk.specs.Leaving.{end_of, end_of_stuck}
+use Rattle.unit_walk.specs.Walking.{HoldsValues, main_at, around_main}
+use Rattle.unit_walk.specs.Loops.{loop_of, begun_with, Begins}
 use Rattle.unit_walk.specs.Running.{LoopsAre, Part, led_to, Leads}
 use Rattle.unit_walk.specs.Standing.{plainly, runs, performs, Stands, led, LeadsTo}
-use Rattle.unit_walk.proofs.ValueLemmas.{both_first, both_second, condition_is}
+use Rattle.unit_walk.proofs.Conjunctions.{both_first, both_second}
+use Rattle.unit_walk.proofs.StatementLemmas.{condition_is}
 use Rattle.unit_walk.proofs.StepLemmas.{drop_lines}
 
 -- the fuel of a run with so many statements left, and what is around its statements
@@ -63,7 +68,7 @@ module _ (code : List Line) where
 
   module _ (limit : ℕ) (run : Run) (w : World) (pr : Progress) (stands : Stands code limit run w pr) where
     -- what led somewhere with the same loops in progress
-    pub lifts : (part : Part) (lead : Lead) (after : Run) → Leads code run.passes.items part (led_to code lead) (value_under run.variables) run.records.items (value_under after.variables) after.records.items
+    pub lifts : (part : Part) (lead : Lead) (after : Run) → Leads code run.passes.items part (led_to code lead) (values_in run.places.cells) run.records.items (values_in after.places.cells) after.records.items
         → after.passes.items ≡ run.passes.items → after.begun ≡ run.begun → LeadsTo code limit (part (around_from code (suc w.left)) (main_from code (suc w.left)) pr w) lead after
     lifts part lead after leads passes begun =
         let comes = leads.is (suc w.left) (exec (one_unit (notes_of code)) (λ u. code) (suc w.left)) (main_from code (suc w.left)) pr stands.loops w stands.holds in
@@ -87,9 +92,9 @@ module _ (code : List Line) where
     pub leads_here : (o : Out ⊤) (lead : Lead) → o ≡ led code lead pr w → LeadsTo code limit o lead run
     leads_here o lead is = record { after = w; progress = pr; is = is; stands = stands }
 
-    pub stands_started : (m : ℕ) (after : Run) → w.left ≡ suc m → after.variables ≡ run.variables → after.records.items ≡ run.records.items → after.passes.items ≡ run.passes.items → after.begun ≡ run.begun + 1 → Stands code limit after (started m w) pr
-    stands_started m after left variables records passes begun = record {
-      holds = rw (variables, records) (record { store = record { under = stands.holds.store.under }; written = stands.holds.written });
+    pub stands_started : (m : ℕ) (after : Run) → w.left ≡ suc m → after.places ≡ run.places → after.records.items ≡ run.records.items → after.passes.items ≡ run.passes.items → after.begun ≡ run.begun + 1 → Stands code limit after (started m w) pr
+    stands_started m after left places records passes begun = record {
+      holds = rw (places, records) (record { store = record { at = stands.holds.store.at }; written = stands.holds.written });
       count = omega (arith, stands.count, begun);
       left = omega (arith, left, begun, stands.left);
       loops = subst (λ (ps : List Pass). LoopsAre code ps pr) (sym passes) stands.loops;
@@ -104,13 +109,18 @@ performs_plain notes s p code label index _ go pr w is = refl
 
 -- ---- logical IF ----
 
-pub conditioned : (code : List Line) → AreNotes (notes_of code) → (w : World) (values : Values) → HoldsValues values w.state.store → (label : Option ℕ) (p : Place) (e : Formula) (a : Act) (rest : List Line) (pr : Progress) (r : Result Bool Trap)
-    → is_condition e ≡ true → r ≡ truth values e
+pub conditioned : (code : List Line) (w : World) (values : Values) → HoldsValues values w.state.store → (label : Option ℕ) (p : Place) (e : Formula) (a : Act) (rest : List Line) (pr : Progress) (r : Result Bool Stuck)
+    → r ≡ condition (context_of code) values e
     → performs code w (record { label = label; place = p; act = Chooses e a }) rest pr
-    ≡ bind (settle p (lifted r) w) (λ holds w1. choose holds (main_from code (suc w.left) (stand (record { label = label; place = p; act = a } ∷ rest) pr) w1) (leads (around_from code (suc w.left)) (main_at p) code label rest (main_from code (suc w.left)) pr Next w1))
-conditioned code are w values holds label p e a rest pr r built is =
+    ≡ bind (settle p (tried r) w) (λ holds w1. choose holds (main_from code (suc w.left) (stand (record { label = label; place = p; act = a } ∷ rest) pr) w1) (leads (around_from code (suc w.left)) (main_at p) code label rest (main_from code (suc w.left)) pr Next w1))
+conditioned code w values holds label p e a rest pr r is =
     ap (λ (o : Out Bool). bind o (λ holds w1. choose holds (main_from code (suc w.left) (stand (record { label = label; place = p; act = a } ∷ rest) pr) w1) (leads (around_from code (suc w.left)) (main_at p) code label rest (main_from code (suc w.left)) pr Next w1)))
-    (condition_is (notes_of code) are code (suc w.left) (exec (one_unit (notes_of code)) (λ u. code) (suc w.left)) values p w holds e built ∙ ap (λ (t : Result Bool Trap). settle p (lifted t) w) (sym is))
+    (condition_is code (suc w.left) (exec (one_unit (notes_of code)) (λ u. code) (suc w.left)) values p w holds e ∙ ap (λ (t : Result Bool Stuck). settle p (tried t) w) (sym is))
+
+-- a part that is stuck ends the run
+pub stuck_ends : {A : Type 0} (code : List Line) (pr : Progress) (p : Place) (w : World) (s : Stuck) (go : A → World → Out ⊤) → bind (settle p (tried (Err s)) w) go ≡ led code (Over (end_of_stuck s p)) pr w
+stuck_ends code pr p w (Trapped t) go = refl
+stuck_ends code pr p w Wrong go = refl
 
 -- ---- DO ----
 
@@ -127,15 +137,15 @@ loops_set code passes pr index k within size loops i q lt here = by_test (nat_eq
         let apart : i ≢ index = λ same. cc (ap (λ (j : ℕ). nat_eq (length (drop (j + 1) code)) (length (drop (index + 1) code))) same, is, eq-eqb (length (drop (index + 1) code)) (length (drop (index + 1) code)) refl) in
         loops i q lt (here ∙ get_or-set_other passes index i k q apart)
 
-module _ (code : List Line) (limit : ℕ) (run : Run) (w : World) (pr : Progress) (stands : Stands code limit run w pr) (are : AreNotes (notes_of code)) (label : Option ℕ) (p : Place) (l : ℕ) (x : Text) (a b c : Par) (index : ℕ) where
+module _ (code : List Line) (limit : ℕ) (run : Run) (w : World) (pr : Progress) (stands : Stands code limit run w pr) (label : Option ℕ) (p : Place) (l : ℕ) (x : Text) (a b c : Par) (index : ℕ) where
   abbrev loop_line : Line
   loop_line = record { label = label; place = p; act = Loops l x a b c }
 
-  pub loop_on : (k : Pass) (after : Run) → index < length code → length code ≡ length run.passes.items → Begins x a b c (value_under run.variables) (Ok k) (value_under after.variables) → after.records.items ≡ run.records.items → after.passes.items ≡ set run.passes.items index k → after.begun ≡ run.begun
+  pub loop_on : (k : Pass) (after : Run) → index < length code → length code ≡ length run.passes.items → Begins code x a b c (values_in run.places.cells) (Ok k) (values_in after.places.cells) → after.records.items ≡ run.records.items → after.passes.items ≡ set run.passes.items index k → after.begun ≡ run.begun
       → LeadsTo code limit (performs code w loop_line (drop (index + 1) code) pr) (At (index + 1)) after
   loop_on k after within size begins records passes count =
       let s : Setting = around_from code (suc w.left) in
-      let comes = begins.is code are (suc w.left) (exec (one_unit (notes_of code)) (λ u. code) (suc w.left)) p run.records.items w stands.holds in
+      let comes = begins.is (suc w.left) (exec (one_unit (notes_of code)) (λ u. code) (suc w.left)) p run.records.items w stands.holds in
       let next : Progress = begun (length (drop (index + 1) code)) (loop_of k) pr in
       record {
         after = comes.after;
@@ -151,14 +161,14 @@ module _ (code : List Line) (limit : ℕ) (run : Run) (w : World) (pr : Progress
         };
       }
 
-  pub loop_out : (t : Trap) (after : Run) → Begins x a b c (value_under run.variables) (Err t) (value_under after.variables) → after.records.items ≡ run.records.items → after.passes.items ≡ run.passes.items → after.begun ≡ run.begun
-      → LeadsTo code limit (performs code w loop_line (drop (index + 1) code) pr) (Over (ends.Trapped t p)) after
-  loop_out t after begins records passes count =
-      let comes = begins.is code are (suc w.left) (exec (one_unit (notes_of code)) (λ u. code) (suc w.left)) p run.records.items w stands.holds in
+  pub loop_out : (s : Stuck) (after : Run) → Begins code x a b c (values_in run.places.cells) (Err s) (values_in after.places.cells) → after.records.items ≡ run.records.items → after.passes.items ≡ run.passes.items → after.begun ≡ run.begun
+      → LeadsTo code limit (performs code w loop_line (drop (index + 1) code) pr) (Over (end_of_stuck s p)) after
+  loop_out s after begins records passes count =
+      let comes = begins.is (suc w.left) (exec (one_unit (notes_of code)) (λ u. code) (suc w.left)) p run.records.items w stands.holds in
       record {
         after = comes.after;
         progress = pr;
-        is = ap (λ (o : Out Loop). bind o (λ q w1. main_from code (suc w.left) (stand (drop (index + 1) code) (begun (length (drop (index + 1) code)) q pr)) w1)) comes.is;
+        is = ap (λ (o : Out Loop). bind o (λ q w1. main_from code (suc w.left) (stand (drop (index + 1) code) (begun (length (drop (index + 1) code)) q pr)) w1)) comes.is ∙ loop_stuck s comes.after;
         stands = record {
           holds = rw records comes.holds;
           count = comes.same.count ∙ stands.count ∙ sym count;
@@ -166,6 +176,10 @@ module _ (code : List Line) (limit : ℕ) (run : Run) (w : World) (pr : Progress
           loops = subst (λ (ps : List Pass). LoopsAre code ps pr) (sym passes) stands.loops;
         };
       }
+    where
+      loop_stuck : (q : Stuck) (w1 : World) → bind (settle p (tried (begun_with (Err q))) w1) (λ k w2. main_from code (suc w.left) (stand (drop (index + 1) code) (begun (length (drop (index + 1) code)) k pr)) w2) ≡ Halts (end_of (end_of_stuck q p)) w1
+      loop_stuck (Trapped t) w1 = refl
+      loop_stuck Wrong w1 = refl
 
 -- ---- lines of the code ----
 
@@ -185,10 +199,10 @@ line_at all i s within is =
     ∙ ap (λ (x : Stmt). line_of x ∷ lines_of (drop (i + 1) all)) (sym is)
     ∙ ap (λ (l : List Line). line_of s ∷ l) (sym (drop_lines all (i + 1)))
 
-pub built_at : (notes : List Note) (all : List Stmt) (i : ℕ) (s : Stmt) → are_built notes (lines_of all) ≡ true → i < length all → s ≡ get_or all i s → is_built notes (act_of s.kind) ≡ true
-built_at notes [] i s built within is = absurd (omega (arith, within))
-built_at notes (x ∷ all) zero s built within is = ap (λ (y : Stmt). is_built notes (act_of y.kind)) is ∙ both_first (is_built notes (act_of x.kind)) (are_built notes (lines_of all)) built
-built_at notes (x ∷ all) (suc i) s built within is = built_at notes all i s (both_second (is_built notes (act_of x.kind)) (are_built notes (lines_of all)) built) (omega (arith, within)) is
+pub walked_at : (notes : List Note) (all : List Stmt) (i : ℕ) (s : Stmt) → are_walked notes (lines_of all) ≡ true → i < length all → s ≡ get_or all i s → is_walked notes (act_of s.kind) ≡ true
+walked_at notes [] i s walked within is = absurd (omega (arith, within))
+walked_at notes (x ∷ all) zero s walked within is = ap (λ (y : Stmt). is_walked notes (act_of y.kind)) is ∙ both_first (is_walked notes (act_of x.kind)) (are_walked notes (lines_of all)) walked
+walked_at notes (x ∷ all) (suc i) s walked within is = walked_at notes all i s (both_second (is_walked notes (act_of x.kind)) (are_walked notes (lines_of all)) walked) (omega (arith, within)) is
 
 -- no further statement may begin
 pub stops_at_limit : (code : List Line) (limit : ℕ) (run : Run) (w : World) (pr : Progress) → Stands code limit run w pr → (line : Line) (rest : List Line) → is_note line.act ≡ false → run.begun ≡ limit → LeadsTo code limit (runs code w (line ∷ rest) pr) (Over ends.GoesOn) run
@@ -196,5 +210,5 @@ stops_at_limit code limit run w pr stands line rest executed full = record {
   after = record { state = w.state; left = 0; count = w.count };
   progress = pr;
   is = begins_not code w line rest pr executed (omega (arith, stands.left, full));
-  stands = record { holds = record { store = record { under = stands.holds.store.under }; written = stands.holds.written }; count = stands.count; left = omega (arith, full); loops = stands.loops };
+  stands = record { holds = record { store = record { at = stands.holds.store.at }; written = stands.holds.written }; count = stands.count; left = omega (arith, full); loops = stands.loops };
 }

@@ -1,32 +1,124 @@
--- The shapes of formats and lists that are built.
-use Rattle.std.proofs.Common.{false, refl, arith, length, ◌≢◌, Bool, ◌≡◌, ℕ, true, List, [], ◌∷◌, get_or, sym, ap}
+-- The shapes of the parts of walked units.
+use Rattle.std.proofs.Common.{◌≡◌, ℕ, zero, suc, ◌+◌, ◌<◌, ◌≤◌, length, map, true, false, Bool, if◌then◌else◌, ◌&&◌, List, [], ◌∷◌, ◌++◌, take, drop, set, get_or, Vec, Global, Result, Ok, Err, refl, sym, ◌∙◌, ap, subst, append_assoc, arith}
+use Rattle.std.proofs.Math.Seq.{take-suc-set}
+use Rattle.std.specs.Prelude.{nat_le}
+use Rattle.std.specs.Str.{bytes_eq}
+use Rattle.std.proofs.lemmas.Bool.Decides.{nat_tests}
+use Rattle.std.proofs.lemmas.List.{drop_more, length-map}
+use Rattle.ground.specs.declared.value.Value.{Value}
+use Rattle.f66_tree.specs.declared.declaration.Par.{Par}
+use Rattle.f66_tree.specs.declared.expression.Expr.{Expr}
+use Rattle.f66_tree.specs.declared.expression.Expr.TheVariants.{Item}
 use Rattle.f66_tree.specs.declared.format.Field.{Field}
 use Rattle.f66_tree.specs.declared.format.Field as f
 use Rattle.f66_tree.specs.declared.statement.Entry.{Entry}
 use Rattle.f66_tree.specs.declared.editing.EditKind.TheVariants as edits
 use Rattle.f66_tree.specs.Fields.{Fields, NoField, Single, Takes}
 use Rattle.f66_tree.specs.Forms as forms
-use Rattle.f66_tree.specs.Forms.{Formula, Number, Fact, Letter, Variable, Applied, Grouped, Positive, Negative, Negated, Joined, One, Many, Entries, NoEntry, AndEntry}
-use Rattle.f66_tree.specs.Views.{field_then, fields_of, entry_of, entries_of}
-use Rattle.f66_tree.specs.Built.{is_one_field, is_one_variable}
+use Rattle.f66_tree.specs.Forms.{Text, Formulas, Applied, Also, One, Many, Entries, NoEntry, AndEntry}
+use Rattle.f66_tree.specs.Units.{Note, Context, sizes_of, places_of}
+use Rattle.f66_tree.specs.Evaluation.{Sort, AnArray, AnIntrinsic, AFunction, known, intrinsics, array_or}
+use Rattle.f66_tree.specs.Evaluation as meaning
+use Rattle.f66_tree.specs.Views.{par_of, formula_of, formulas_of, field_then, fields_of, entry_of, entries_of}
+use Rattle.f66_tree.specs.Built.{is_par, is_one_field}
+use Rattle.f66_tree.proofs.Rows.{item_formula}
+use Rattle.unit_walk.specs.declared.stuck.Stuck.{Stuck}
+use Rattle.unit_walk.specs.declared.stuck.Stuck.TheVariants.{Wrong}
+use Rattle.unit_walk.specs.declared.operate.Intrinsic.{Intrinsic}
+use Rattle.unit_walk.specs.declared.operate.Intrinsic.TheVariants.{Iabs, Mod, Isign, Idim, Max0, Min0}
+use Rattle.unit_walk.specs.Contents.{Values, ◌then◌}
+use Rattle.unit_walk.specs.Meaning.{value, values_of, par_value, par_values}
+use Rattle.unit_walk.specs.Sorts.{meant, takes_few}
+use Rattle.unit_walk.specs.Steps.{is_one_entry, element}
+use Rattle.unit_walk.specs.Walked.{are_few, is_count, is_formula, are_formulas, are_pars, are_dimensions}
+use Rattle.unit_walk.proofs.Conjunctions.{both_first, both_second}
 
-two_entries : (a b : forms.Entry) (rest : Entries) → is_one_variable (AndEntry a (AndEntry b rest)) ≡ true → ⊥
-two_entries (One (Variable x)) b rest is = cc is
-two_entries (One (Number z)) b rest is = cc is
-two_entries (One (Fact z)) b rest is = cc is
-two_entries (One (Letter z)) b rest is = cc is
-two_entries (One (Applied z es)) b rest is = cc is
-two_entries (One (Grouped z)) b rest is = cc is
-two_entries (One (Positive z)) b rest is = cc is
-two_entries (One (Negative z)) b rest is = cc is
-two_entries (One (Negated z)) b rest is = cc is
-two_entries (One (Joined op y z)) b rest is = cc is
-two_entries (Many es x c d e) b rest is = cc is
+-- ---- names with arguments ----
 
-pub one_entry : (all : List Entry) (x : Entry) → is_one_variable (entries_of all) ≡ true → x ≡ get_or all 0 x → entries_of all ≡ AndEntry (entry_of x) NoEntry
-one_entry [] x built is = cc built
-one_entry (a ∷ []) x built is = ap (λ (e : Entry). AndEntry (entry_of e) NoEntry) (sym is)
-one_entry (a ∷ b ∷ rest) x built is = absurd (two_entries (entry_of a) (entry_of b) (entries_of rest) built)
+pub item_is : (e : Expr) (x : Text) (list : Vec Expr Global) (seen : List Expr) → e ≡ Item x list → seen ≡ list.items → formula_of e ≡ Applied x (formulas_of seen)
+item_is e x list seen is same = ap formula_of is ∙ item_formula x list ∙ ap (λ (l : List Expr). Applied x (formulas_of l)) (sym same)
+
+pub walked_item : (notes : List Note) (e : Expr) (x : Text) (list : Vec Expr Global) (seen : List Expr) → e ≡ Item x list → seen ≡ list.items → is_formula notes (formula_of e) ≡ true → is_formula notes (Applied x (formulas_of seen)) ≡ true
+walked_item notes e x list seen is same walked = subst (λ (f : forms.Formula). is_formula notes f ≡ true) (item_is e x list seen is same) walked
+
+pub array_few : (sizes : List Par) (x : Text) (es : Formulas) → 0 < length sizes → is_count (array_or (map par_of sizes) x) es ≡ true → are_few es ≡ true
+array_few [] x es full is = absurd (omega (arith, full))
+array_few (n ∷ ns) x es full is = is
+
+pub function_few : (g : Intrinsic) (es : Formulas) → takes_few g ≡ true → is_count (AnIntrinsic (meant g)) es ≡ true → are_few es ≡ true
+function_few Iabs es few is = is
+function_few Mod es few is = is
+function_few Isign es few is = is
+function_few Idim es few is = is
+function_few Max0 es few is = cc few
+function_few Min0 es few is = cc few
+
+pub few_length : (list : List Expr) → are_few (formulas_of list) ≡ true → length list ≤ 3
+few_length [] is = omega arith
+few_length (a ∷ []) is = omega arith
+few_length (a ∷ b ∷ []) is = omega arith
+few_length (a ∷ b ∷ d ∷ []) is = omega arith
+few_length (a ∷ b ∷ d ∷ e ∷ rest) is = cc is
+
+pub few_arguments : (notes : List Note) (x : Text) (list : List Expr) (g : Intrinsic) → sizes_of x notes ≡ [] → takes_few g ≡ true → known intrinsics x ≡ AnIntrinsic (meant g)
+    → is_count (array_or (sizes_of x notes) x) (formulas_of list) && are_formulas notes (formulas_of list) ≡ true → length list ≤ 3
+few_arguments notes x list g none few is walked =
+    let count : is_count (array_or (sizes_of x notes) x) (formulas_of list) ≡ true = both_first (is_count (array_or (sizes_of x notes) x) (formulas_of list)) (are_formulas notes (formulas_of list)) walked in
+    let plain : is_count (known intrinsics x) (formulas_of list) ≡ true = subst (λ (ns : List forms.Par). is_count (array_or ns x) (formulas_of list) ≡ true) none count in
+    few_length list (function_few g (formulas_of list) few (subst (λ (s : Sort). is_count s (formulas_of list) ≡ true) is plain))
+
+-- ---- lists, element by element ----
+
+pub par_at : (all : List Par) (i : ℕ) (p : Par) → are_pars (map par_of all) ≡ true → i < length all → p ≡ get_or all i p → is_par (par_of p) ≡ true
+par_at [] i p are within is = absurd (omega arith)
+par_at (n ∷ all) zero p are within is = ap (λ (q : Par). is_par (par_of q)) is ∙ both_first (is_par (par_of n)) (are_pars (map par_of all)) are
+par_at (n ∷ all) (suc i) p are within is = par_at all i p (both_second (is_par (par_of n)) (are_pars (map par_of all)) are) (omega (arith, within)) is
+
+pub pars_behind : (all : List Par) (i : ℕ) (p : Par) → i < length all → are_pars (map par_of (drop i all)) ≡ true → are_pars (map par_of (drop (i + 1) all)) ≡ true
+pars_behind all i p within are =
+    both_second (is_par (par_of (get_or all i p))) (are_pars (map par_of (drop (i + 1) all))) (subst (λ (l : List Par). are_pars (map par_of l) ≡ true) (drop_more all i p within) are)
+
+pub formulas_behind : (notes : List Note) (all : List Expr) (i : ℕ) (e : Expr) → i < length all → are_formulas notes (formulas_of (drop i all)) ≡ true → are_formulas notes (formulas_of (drop (i + 1) all)) ≡ true
+formulas_behind notes all i e within are =
+    both_second (is_formula notes (formula_of (get_or all i e))) (are_formulas notes (formulas_of (drop (i + 1) all))) (subst (λ (l : List Expr). are_formulas notes (formulas_of l) ≡ true) (drop_more all i e within) are)
+
+pub formula_at : (notes : List Note) (all : List Expr) (i : ℕ) (e : Expr) → i < length all → e ≡ get_or all i e → are_formulas notes (formulas_of (drop i all)) ≡ true → is_formula notes (formula_of e) ≡ true
+formula_at notes all i e within here are =
+    subst (λ (x : Expr). is_formula notes (formula_of x) ≡ true) (sym here)
+    (both_first (is_formula notes (formula_of (get_or all i e))) (are_formulas notes (formulas_of (drop (i + 1) all))) (subst (λ (l : List Expr). are_formulas notes (formulas_of l) ≡ true) (drop_more all i e within) are))
+
+-- one more value is kept
+kept_more : (rest : Result (List Value) Stuck) (i : ℕ) (kept : List Value) (v : Value) → i < length kept
+    → ((rest then (λ vs. Ok (v ∷ vs))) then (λ vs. Ok (take i kept ++ vs))) ≡ (rest then (λ vs. Ok (take (i + 1) (set kept i v) ++ vs)))
+kept_more (Err s) i kept v within = refl
+kept_more (Ok vs) i kept v within =
+    let next : i + 1 ≡ suc i = omega arith in
+    let taken : take (i + 1) (set kept i v) ≡ take i kept ++ (v ∷ []) = ap (λ (n : ℕ). take n (set kept i v)) next ∙ take-suc-set kept i v within in
+    let joined : (take i kept ++ (v ∷ [])) ++ vs ≡ take i kept ++ (v ∷ vs) = append_assoc (take i kept) (v ∷ []) vs in
+    ap (λ (l : List Value). let r : Result (List Value) Stuck = Ok l in r) (sym joined ∙ sym (ap (λ (l : List Value). l ++ vs) taken))
+
+module _ (c : Context) (values : Values) where
+  pub arguments_more : (all : List Expr) (i : ℕ) (e : Expr) (v : Value) (kept : List Value) → i < length all → e ≡ get_or all i e → Ok v ≡ value c values (formula_of e) → i < length kept
+      → values_of c values (formulas_of all) ≡ (values_of c values (formulas_of (drop i all)) then (λ vs. Ok (take i kept ++ vs)))
+      → values_of c values (formulas_of all) ≡ (values_of c values (formulas_of (drop (i + 1) all)) then (λ vs. Ok (take (i + 1) (set kept i v) ++ vs)))
+  arguments_more all i e v kept within here is inside so_far =
+      so_far
+      ∙ ap (λ (l : List Expr). values_of c values (formulas_of l) then (λ vs. Ok (take i kept ++ vs))) (drop_more all i e within)
+      ∙ ap (λ (x : Expr). values_of c values (Also (formula_of x) (formulas_of (drop (i + 1) all))) then (λ vs. Ok (take i kept ++ vs))) (sym here)
+      ∙ ap (λ (r : Result Value Stuck). (r then (λ u. values_of c values (formulas_of (drop (i + 1) all)) then (λ vs. Ok (u ∷ vs)))) then (λ vs. Ok (take i kept ++ vs))) (sym is)
+      ∙ kept_more (values_of c values (formulas_of (drop (i + 1) all))) i kept v inside
+
+  pub dimensions_more : (all : List Par) (i : ℕ) (p : Par) (v : Value) (kept : List Value) → i < length all → p ≡ get_or all i p → Ok v ≡ par_value c values (par_of p) → i < length kept
+      → par_values c values (map par_of all) ≡ (par_values c values (map par_of (drop i all)) then (λ vs. Ok (take i kept ++ vs)))
+      → par_values c values (map par_of all) ≡ (par_values c values (map par_of (drop (i + 1) all)) then (λ vs. Ok (take (i + 1) (set kept i v) ++ vs)))
+  dimensions_more all i p v kept within here is inside so_far =
+      so_far
+      ∙ ap (λ (l : List Par). par_values c values (map par_of l) then (λ vs. Ok (take i kept ++ vs))) (drop_more all i p within)
+      ∙ ap (λ (x : Par). (par_value c values (par_of x) then (λ u. par_values c values (map par_of (drop (i + 1) all)) then (λ vs. Ok (u ∷ vs)))) then (λ vs. Ok (take i kept ++ vs))) (sym here)
+      ∙ ap (λ (r : Result Value Stuck). (r then (λ u. par_values c values (map par_of (drop (i + 1) all)) then (λ vs. Ok (u ∷ vs)))) then (λ vs. Ok (take i kept ++ vs))) (sym is)
+      ∙ kept_more (par_values c values (map par_of (drop (i + 1) all))) i kept v inside
+
+-- ---- formats and lists of one item ----
 
 whole_then : (n w : ℕ) (b : Field) (rest : Fields) → is_one_field (Single n (Takes edits.Whole w) (field_then b rest)) ≡ true → ⊥
 whole_then n w (f.Whole m v) rest is = cc is
@@ -51,30 +143,48 @@ one_of [] x built is = cc built
 one_of (a ∷ []) x built is = ap (λ (e : Field). field_then e NoField) (sym is)
 one_of (a ∷ b ∷ rest) x built is = absurd (two_fields a b (fields_of rest) built)
 
-pub not_one_field : (all : List Field) → length all ≢ 1 → false ≡ is_one_field (fields_of all)
-not_one_field [] other = refl
-not_one_field (a ∷ []) other = absurd (other refl)
-not_one_field (a ∷ b ∷ rest) other = by_test (is_one_field (fields_of (a ∷ b ∷ rest))) (two_fields a b (fields_of rest))
+two_entries : (a b : forms.Entry) (rest : Entries) → is_one_entry (AndEntry a (AndEntry b rest)) ≡ true → ⊥
+two_entries (One e) b rest is = cc is
+two_entries (Many es x d e g) b rest is = cc is
+
+pub one_entry : (all : List Entry) (x : Entry) → is_one_entry (entries_of all) ≡ true → x ≡ get_or all 0 x → entries_of all ≡ AndEntry (entry_of x) NoEntry
+one_entry [] x one is = cc one
+one_entry (a ∷ []) x one is = ap (λ (e : Entry). AndEntry (entry_of e) NoEntry) (sym is)
+one_entry (a ∷ b ∷ rest) x one is = absurd (two_entries (entry_of a) (entry_of b) (entries_of rest) one)
+
+-- an element of an array that a unit declares
+pub array_arguments : (notes : List Note) (x : Text) (list : List Expr) (sizes : List Par) → 0 < length sizes → map par_of sizes ≡ sizes_of x notes → is_formula notes (Applied x (formulas_of list)) ≡ true → length list ≤ 3
+array_arguments notes x list sizes full same walked =
+    let count : is_count (array_or (sizes_of x notes) x) (formulas_of list) ≡ true = both_first (is_count (array_or (sizes_of x notes) x) (formulas_of list)) (are_formulas notes (formulas_of list)) walked in
+    few_length list (array_few sizes x (formulas_of list) full (subst (λ (ns : List forms.Par). is_count (array_or ns x) (formulas_of list) ≡ true) (sym same) count))
+
+pub record Fits (sizes : List Par) : Type 0 where
+  pub pars : are_pars (map par_of sizes) ≡ true
+  pub few : length sizes ≤ 3
+  pub places : places_of (map par_of sizes) ≤ 32767
+
+pub dimensions_fit : (sizes : List Par) → are_dimensions (map par_of sizes) ≡ true → Fits sizes
+dimensions_fit sizes fit =
+    let bounds : nat_le (length (map par_of sizes)) 3 && nat_le (places_of (map par_of sizes)) 32767 ≡ true = both_second (are_pars (map par_of sizes)) (nat_le (length (map par_of sizes)) 3 && nat_le (places_of (map par_of sizes)) 32767) fit in
+    let short : nat_le (length (map par_of sizes)) 3 ≡ true = both_first (nat_le (length (map par_of sizes)) 3) (nat_le (places_of (map par_of sizes)) 32767) bounds in
+    let small : nat_le (places_of (map par_of sizes)) 32767 ≡ true = both_second (nat_le (length (map par_of sizes)) 3) (nat_le (places_of (map par_of sizes)) 32767) bounds in
+    let long : length (map par_of sizes) ≡ length sizes = length-map sizes par_of in
+    record { pars = both_first (are_pars (map par_of sizes)) (nat_le (length (map par_of sizes)) 3 && nat_le (places_of (map par_of sizes)) 32767) fit; few = grind (arith, nat_tests); places = grind (arith, nat_tests) }
+
+known_is : (table : List (Text × meaning.Intrinsic)) (x : Text) (ns : List forms.Par) → known table x ≡ AnArray ns → ⊥
+known_is [] x ns is = cc is
+known_is (e ∷ es) x ns is = by_test (bytes_eq e.0 x) (known_is es x ns) is
   where
-    by_test : (t : Bool) → (t ≡ true → ⊥) → false ≡ t
-    by_test true never = absurd (never refl)
-    by_test false never = refl
+    by_test : (b : Bool) → (known es x ≡ AnArray ns → ⊥) → (if b then AnIntrinsic e.1 else known es x) ≡ AnArray ns → ⊥
+    by_test true others here = cc here
+    by_test false others here = others here
 
-pub not_one_entry : (all : List Entry) → length all ≢ 1 → false ≡ is_one_variable (entries_of all)
-not_one_entry [] other = refl
-not_one_entry (a ∷ []) other = absurd (other refl)
-not_one_entry (a ∷ b ∷ rest) other = by_test (is_one_variable (entries_of (a ∷ b ∷ rest))) (two_entries (entry_of a) (entry_of b) (entries_of rest))
-  where
-    by_test : (t : Bool) → (t ≡ true → ⊥) → false ≡ t
-    by_test true never = absurd (never refl)
-    by_test false never = refl
+-- a name without dimensions has no element
+no_sort : (c : Context) (values : Values) (x : Text) (s : Sort) (r : Result (List Value) Stuck) → s ≡ known intrinsics x → Err Wrong ≡ element c values x s r
+no_sort c values x (AnArray ns) r is = absurd (known_is intrinsics x ns (sym is))
+no_sort c values x (AnIntrinsic g) r is = refl
+no_sort c values x AFunction r is = refl
 
-pub lone_field : (all : List Field) (x : Field) → length all ≡ 1 → x ≡ get_or all 0 x → field_then x NoField ≡ fields_of all
-lone_field [] x size is = absurd (omega arith)
-lone_field (a ∷ []) x size is = ap (λ (e : Field). field_then e NoField) is
-lone_field (a ∷ b ∷ rest) x size is = absurd (omega (arith, size))
-
-pub lone_entry : (all : List Entry) (x : Entry) → length all ≡ 1 → x ≡ get_or all 0 x → AndEntry (entry_of x) NoEntry ≡ entries_of all
-lone_entry [] x size is = absurd (omega arith)
-lone_entry (a ∷ []) x size is = ap (λ (e : Entry). AndEntry (entry_of e) NoEntry) is
-lone_entry (a ∷ b ∷ rest) x size is = absurd (omega (arith, size))
+pub no_element : (c : Context) (values : Values) (x : Text) (list : List Expr) (sizes : List Par) → length sizes ≡ 0 → map par_of sizes ≡ sizes_of x c.notes → Err Wrong ≡ element c values x (array_or (sizes_of x c.notes) x) (values_of c values (formulas_of list))
+no_element c values x list [] empty same = no_sort c values x (array_or (sizes_of x c.notes) x) (values_of c values (formulas_of list)) (ap (λ (ns : List forms.Par). array_or ns x) (sym same))
+no_element c values x list (n ∷ ns) empty same = absurd (omega (arith, empty))

@@ -1,7 +1,7 @@
 -- Different names have different storage units.
-use Rattle.std.proofs.Common.{◌≡◌, ℕ, zero, suc, ◌+◌, ◌*◌, ◌^◌, ◌<◌, nat_eq, List, [], ◌∷◌, refl, sym, ◌∙◌, ap, arith}
+use Rattle.std.proofs.Common.{◌≡◌, ℕ, zero, suc, ◌+◌, ◌*◌, ◌^◌, ◌<◌, nat_eq, ◌&&◌, List, [], ◌∷◌, refl, sym, ◌∙◌, ap, arith}
 use Rattle.std.proofs.Math.Nat.{pow-suc}
-use Rattle.std.proofs.lemmas.Bool.Decides.{same_from_decides, Decides-eqb, Decides-like}
+use Rattle.std.proofs.lemmas.Bool.Decides.{same_from_decides, Decides-and, Decides-eqb, Decides-like}
 use Rattle.std.proofs.lemmas.Slice.Eq.{bytes_eq-Decides}
 use Rattle.std.specs.Bool.{Decides}
 use Rattle.std.specs.Str.{bytes_eq}
@@ -35,14 +35,17 @@ numbers_differ (c ∷ cs) (d ∷ ds) is =
     let tails : cs ≡ ds = numbers_differ cs ds same.1 in
     cc (same.0, tails)
 
-same_tail : (xs ys : List ℕ) → list_number (0 ∷ xs) ≡ list_number (0 ∷ ys) → xs ≡ ys
-same_tail xs ys is =
-    let same : (zero ≡ zero) × (list_number xs ≡ list_number ys) = odd_powers 0 0 (list_number xs) (list_number ys) is in
-    numbers_differ xs ys same.1
+same_parts : (o i : ℕ) (xs ys : List ℕ) → list_number (o ∷ xs) ≡ list_number (i ∷ ys) → (ys ≡ xs) × (i ≡ o)
+same_parts o i xs ys is =
+    let same : (o ≡ i) × (list_number xs ≡ list_number ys) = odd_powers o i (list_number xs) (list_number ys) is in
+    (sym (numbers_differ xs ys same.1), sym same.0)
 
--- the test of two units is that of their names
-pub same_unit : (xs ys : List ℕ) → nat_eq (list_number (0 ∷ xs)) (list_number (0 ∷ ys)) ≡ bytes_eq ys xs
-same_unit xs ys =
-    let units : Decides (nat_eq (list_number (0 ∷ xs)) (list_number (0 ∷ ys))) (ys ≡ xs) =
-    Decides-like (nat_eq (list_number (0 ∷ xs)) (list_number (0 ∷ ys))) (λ is. sym (same_tail xs ys is)) (λ is. ap (λ (l : List ℕ). list_number (0 ∷ l)) (sym is)) (Decides-eqb (list_number (0 ∷ xs)) (list_number (0 ∷ ys))) in
-    same_from_decides (nat_eq (list_number (0 ∷ xs)) (list_number (0 ∷ ys))) (bytes_eq ys xs) units (bytes_eq-Decides ys xs)
+same_place : (o i : ℕ) (xs ys : List ℕ) → (ys ≡ xs) × (i ≡ o) → list_number (o ∷ xs) ≡ list_number (i ∷ ys)
+same_place o i xs ys are = ap (λ (l : List ℕ). list_number (o ∷ l)) (sym are.0) ∙ ap (λ (n : ℕ). list_number (n ∷ ys)) (sym are.1)
+
+-- the test of two units is that of their names and of how far each is from its name's first one
+pub same_unit : (o i : ℕ) (xs ys : List ℕ) → nat_eq (list_number (o ∷ xs)) (list_number (i ∷ ys)) ≡ bytes_eq ys xs && nat_eq i o
+same_unit o i xs ys =
+    let units : Decides (nat_eq (list_number (o ∷ xs)) (list_number (i ∷ ys))) ((ys ≡ xs) × (i ≡ o)) =
+    Decides-like (nat_eq (list_number (o ∷ xs)) (list_number (i ∷ ys))) (same_parts o i xs ys) (same_place o i xs ys) (Decides-eqb (list_number (o ∷ xs)) (list_number (i ∷ ys))) in
+    same_from_decides (nat_eq (list_number (o ∷ xs)) (list_number (i ∷ ys))) (bytes_eq ys xs && nat_eq i o) units (Decides-and (bytes_eq ys xs) (nat_eq i o) (bytes_eq-Decides ys xs) (Decides-eqb i o))

@@ -14,8 +14,8 @@ use Rattle.unit_walk.specs.declared.do_loop.Pass.{Pass}
 use Rattle.unit_walk.specs.declared.do_loop.Closing.{Closing}
 use Rattle.unit_walk.specs.declared.do_loop.Lead.{Lead}
 use Rattle.unit_walk.specs.declared.do_loop.Lead.TheVariants.{At}
-use Rattle.unit_walk.specs.Values.{Values}
-use Rattle.unit_walk.specs.Walking.{AreNotes, main_at, around_main}
+use Rattle.unit_walk.specs.Contents.{Values}
+use Rattle.unit_walk.specs.Walking.{main_at, around_main}
 use Rattle.unit_walk.specs.Leaving.{leaves, Does}
 use Rattle.unit_walk.specs.Running.{led_to, Leads}
 use Rattle.unit_walk.specs.Closing.{Closes}
@@ -32,10 +32,10 @@ drop_lines [] (suc n) = refl
 drop_lines (s ∷ all) (suc n) = drop_lines all n
 
 module _ (code : List Line) (label : Option ℕ) (index : ℕ) (p : Place) (passes : List Pass) where
-  pub closes_onward : (closings : List Closing) (values : Values) (lead : Lead) (new : Values) → ClosesAt code label closings → length code ≡ length passes → AreNotes (notes_of code) → Closes passes closings (index + 1) p values lead new
+  pub closes_onward : (closings : List Closing) (values : Values) (lead : Lead) (new : Values) → ClosesAt code label closings → length code ≡ length passes → Closes passes closings (index + 1) p values lead new
       → (records : List Record) → Leads code passes (onward code label index p meant.Next) (led_to code lead) values records new records
-  closes_onward closings values lead new at size are closes records =
-      subst (λ (es : List Closer). Leads code passes (λ s go pr w. close s (main_at p) es (drop (index + 1) code) go pr w) (led_to code lead) values records new records) at.same (closes code size are records)
+  closes_onward closings values lead new at size closes records =
+      subst (λ (es : List Closer). Leads code passes (λ s go pr w. close s (main_at p) es (drop (index + 1) code) go pr w) (led_to code lead) values records new records) at.same (closes code size records)
 
   module _ (a : Act) (values : Values) (records : List Record) (mid : Values) (between : List Record) where
     pub plain_next : (lead : Lead) (new : Values) (more : List Record) → Does code p a values records Next mid between

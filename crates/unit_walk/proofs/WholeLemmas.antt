@@ -1,44 +1,22 @@
 -- A whole run: how it starts, goes on, and ends.
 use Rattle.std.proofs.Common.{◌≡◌, ℕ, Bool, true, false, List, [], ◌∷◌, drop, refl, sym, ◌∙◌, ap, arith, if◌then◌else◌}
 use Rattle.std.specs.Prelude.{⊤}
-use Rattle.f66_tree.specs.declared.declaration.TypeWord.TheVariants.{Integer}
-use Rattle.f66_tree.specs.Forms.{Act, Formats, Types, Dimensions, Commons, Equivalences, Presets, Line}
+use Rattle.f66_tree.specs.Forms.{Line}
 use Rattle.f66_tree.specs.World.{Record, World, Out, Shown, shown}
-use Rattle.f66_tree.specs.Units.{Note, is_note, notes_of}
+use Rattle.f66_tree.specs.Units.{is_note, notes_of}
 use Rattle.f66_tree.specs.Execution.{Progress, runnable, fetch, nowhere, start, no_loops}
 use Rattle.f66_tree.specs.OneUnit.{one_unit, executed}
-use Rattle.f66_tree.specs.Built.{is_built, are_built}
 use Rattle.unit_walk.specs.declared.statement.RunEnd.{RunEnd}
 use Rattle.unit_walk.specs.declared.statement.RunEnd.TheVariants as ends
 use Rattle.unit_walk.specs.declared.do_loop.Lead.{Lead}
 use Rattle.unit_walk.specs.declared.do_loop.Lead.TheVariants.{At, Over}
 use Rattle.unit_walk.specs.declared.run.Run.{Run}
-use Rattle.unit_walk.specs.Walking.{content_of, IsNote, AreNotes, main_at}
+use Rattle.unit_walk.specs.Contents.{content_of}
+use Rattle.unit_walk.specs.Walking.{main_at}
 use Rattle.unit_walk.specs.Leaving.{end_of}
 use Rattle.unit_walk.specs.Standing.{runs, Stands, LeadsTo, whole_run}
 use Rattle.unit_walk.specs.Shows.{IsFirst}
-use Rattle.unit_walk.proofs.ValueLemmas.{both_first, both_second}
 use Rattle.unit_walk.proofs.RunLemmas.{main_from, around_from}
-
--- ---- units of built statements ----
-
-is_built_note : (notes : List Note) (a : Act) → is_note a ≡ true → is_built notes a ≡ true → IsNote a
-is_built_note notes (Formats f) note built = tt
-is_built_note notes (Types Integer ds) note built = built
-is_built_note notes (Types _ ds) note built = cc built
-is_built_note notes (Dimensions ds) note built = cc built
-is_built_note notes (Commons ds) note built = cc built
-is_built_note notes (Equivalences ds) note built = cc built
-is_built_note notes (Presets ds) note built = cc built
-is_built_note notes _ note built = cc note
-
-pub notes_alone : (notes : List Note) (lines : List Line) → are_built notes lines ≡ true → AreNotes (notes_of lines)
-notes_alone notes [] built = tt
-notes_alone notes (s ∷ rest) built = by_test (is_note s.act) refl (notes_alone notes rest (both_second (is_built notes s.act) (are_built notes rest) built))
-  where
-    by_test : (b : Bool) → is_note s.act ≡ b → AreNotes (notes_of rest) → AreNotes (if b then (record { label = s.label; act = s.act } ∷ notes_of rest) else notes_of rest)
-    by_test true is others = (is_built_note notes s.act is (both_first (is_built notes s.act) (are_built notes rest) built), others)
-    by_test false is others = others
 
 -- ---- the next line ----
 
@@ -86,7 +64,7 @@ module _ (code : List Line) (limit : ℕ) where
     progress = no_loops;
     is = refl;
     stands = record {
-      holds = record { store = record { under = λ name. sym (ap content_of (first.values name)) }; written = sym first.records };
+      holds = record { store = record { at = λ name o. sym (ap content_of (first.values name o)) }; written = sym first.records };
       count = sym first.begun;
       left = omega (arith, first.begun);
       loops = first.loops;

@@ -1,5 +1,12 @@
-pub mod Values
+pub mod Contents
+pub mod Sorts
+pub mod Meaning
+pub mod Reaching
+pub mod Declarations
+pub mod Walked
+pub mod Steps
 pub mod Walking
+pub mod Formats
 pub mod Leaving
 pub mod Loops
 pub mod Running

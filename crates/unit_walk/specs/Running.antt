@@ -8,7 +8,7 @@ use Rattle.unit_walk.specs.declared.do_loop.Pass.{Pass}
 use Rattle.unit_walk.specs.declared.do_loop.Closing.{Closing}
 use Rattle.unit_walk.specs.declared.do_loop.Lead.{Lead}
 use Rattle.unit_walk.specs.declared.do_loop.Lead.TheVariants.{At, Over}
-use Rattle.unit_walk.specs.Values.{Values}
+use Rattle.unit_walk.specs.Contents.{Values}
 use Rattle.unit_walk.specs.Walking.{Holds, around_main, Comes}
 use Rattle.unit_walk.specs.Loops.{loop_of}
 use Rattle.unit_walk.specs.Leaving.{end_of}

@@ -1,11 +1,11 @@
 -- What a walk shows.
-use Rattle.std.specs.Prelude.{◌≡◌, List, [], None}
+use Rattle.std.specs.Prelude.{◌≡◌, ℕ, List, [], None}
 use Rattle.f66_tree.specs.Forms.{Line, Text}
 use Rattle.f66_tree.specs.World.{Shown}
 use Rattle.f66_tree.specs.Execution.{no_loops}
 use Rattle.unit_walk.specs.declared.run.Run.{Run}
 use Rattle.unit_walk.specs.declared.walked.Walked.{Walked}
-use Rattle.unit_walk.specs.Values.{value_under}
+use Rattle.unit_walk.specs.Contents.{values_in}
 use Rattle.unit_walk.specs.Leaving.{end_of}
 use Rattle.unit_walk.specs.Running.{LoopsAre}
 
@@ -14,7 +14,7 @@ shown_of w = record { records = w.records.items; end = end_of w.end; work = w.be
 
 -- nothing has been done yet
 pub record IsFirst (code : List Line) (run : Run) : Type 0 where
-  pub values : (name : Text) → value_under run.variables name ≡ None
+  pub values : (name : Text) (o : ℕ) → values_in run.places.cells name o ≡ None
   pub records : run.records.items ≡ []
   pub begun : run.begun ≡ 0
   pub loops : LoopsAre code run.passes.items no_loops

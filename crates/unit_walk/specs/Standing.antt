@@ -9,7 +9,6 @@ use Rattle.f66_tree.specs.Forms.{Act, Line}
 use Rattle.f66_tree.specs.World.{Record, World, Out, Halts, bind}
 use Rattle.f66_tree.specs.Units.{notes_of}
 use Rattle.f66_tree.specs.Views.{lines_of}
-use Rattle.f66_tree.specs.Built.{is_built_unit}
 use Rattle.f66_tree.specs.Statements.{Exit, does}
 use Rattle.f66_tree.specs.Execution.{Progress, stand, closers_at, nowhere, from_label, leads, perform, exec, start, no_loops}
 use Rattle.f66_tree.specs.OneUnit.{one_unit}
@@ -18,8 +17,11 @@ use Rattle.unit_walk.specs.declared.do_loop.Lead.{Lead}
 use Rattle.unit_walk.specs.declared.do_loop.Lead.TheVariants.{At, Over}
 use Rattle.unit_walk.specs.declared.plan.Plan.{Plan}
 use Rattle.unit_walk.specs.declared.run.Run.{Run}
-use Rattle.unit_walk.specs.Values.{value_under, AllInRange}
-use Rattle.unit_walk.specs.Walking.{Holds, AreNotes, main_at, around_main}
+use Rattle.unit_walk.specs.Contents.{values_in, AllInRange}
+use Rattle.unit_walk.specs.Declarations.{AreNames}
+use Rattle.unit_walk.specs.Formats.{AreWidths}
+use Rattle.unit_walk.specs.Walked.{is_walked_unit}
+use Rattle.unit_walk.specs.Walking.{Holds, main_at, around_main}
 use Rattle.unit_walk.specs.Loops.{PassesFit}
 use Rattle.unit_walk.specs.Leaving.{end_of}
 use Rattle.unit_walk.specs.Running.{LoopsAre, closer_at, Part}
@@ -38,16 +40,17 @@ Points all l rest (Some j) = from_label l rest ≡ lines_of (drop j all)
 abbrev pub LabelsAre : List Stmt → BTreeMap ℕ ℕ → List Line → Type 0
 LabelsAre all lines rest = (l : ℕ) → Points all l rest (get_by (nat_cmp l) lines)
 
--- the lines of a plan, the loops that end at each, and the labels
+-- the lines of a plan, its names and formats, the loops that end at each line, and the labels
 pub record IsPlan (plan : Plan) : Type 0 where
-  pub built : is_built_unit (lines_of plan.code.now) ≡ true
-  pub formats : AreNotes (notes_of (lines_of plan.code.now))
+  pub walked : is_walked_unit (lines_of plan.code.now) ≡ true
+  pub names : AreNames (notes_of (lines_of plan.code.now)) plan.names
+  pub widths : AreWidths (notes_of (lines_of plan.code.now)) plan.widths
   pub closes : (i : ℕ) (s : Stmt) (closings : Vec Closing Global) → i < length plan.code.now → s ≡ get_or plan.code.now i s → closings ≡ get_or plan.closings.items i closings → ClosesAt (lines_of plan.code.now) s.label closings.items
   pub size : length plan.closings.items ≡ length plan.code.now
   pub labels : LabelsAre plan.code.now plan.lines (lines_of plan.code.now)
 
 pub record IsSound (code : List Line) (run : Run) : Type 0 where
-  pub range : AllInRange (value_under run.variables)
+  pub range : AllInRange (values_in run.places.cells)
   pub fit : PassesFit run.passes.items
   pub size : length code ≡ length run.passes.items
 
@@ -71,7 +74,7 @@ performs code w line rest pr =
 
 -- a world is as a run has it
 pub record Stands (code : List Line) (limit : ℕ) (run : Run) (w : World) (pr : Progress) : Type 0 where
-  pub holds : Holds (value_under run.variables) run.records.items w
+  pub holds : Holds (values_in run.places.cells) run.records.items w
   pub count : w.count ≡ run.begun
   pub left : w.left + run.begun ≡ limit
   pub loops : LoopsAre code run.passes.items pr

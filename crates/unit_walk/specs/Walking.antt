@@ -1,40 +1,22 @@
--- What a walk keeps of a run: the variables that have a value, the records, and where the run stands.
-use Rattle.std.specs.Prelude.{◌≡◌, ℕ, ℤ, true, List, [], ◌∷◌, Option, Some, None, ⊤}
+-- What a walk keeps of a run: what the places hold, the records, and where the run stands.
+use Rattle.std.specs.Prelude.{◌≡◌, ℕ, List, [], ◌∷◌, ⊤}
 use Rattle.ground.specs.declared.place.Place.{Place}
-use Rattle.ground.specs.Content.{Content, Nothing, Whole}
 use Rattle.f66_tree.specs.declared.editing.EditKind.TheVariants as edits
 use Rattle.f66_tree.specs.Fields.{Takes, Fields, NoField, Single}
-use Rattle.f66_tree.specs.Forms.{Text, Variable, One, Entries, NoEntry, AndEntry, Act, Formats, Types, Line}
+use Rattle.f66_tree.specs.Forms.{Text, Line}
 use Rattle.f66_tree.specs.World.{Record, Store, World, Out}
 use Rattle.f66_tree.specs.Units.{Note, Frame, Setting}
 use Rattle.f66_tree.specs.Execution.{target, Stand}
-use Rattle.f66_tree.specs.declared.declaration.TypeWord.TheVariants.{Integer}
-use Rattle.f66_tree.specs.Built.{are_scalars}
 use Rattle.f66_tree.specs.OneUnit.{list_number, one_unit}
-use Rattle.unit_walk.specs.Values.{Values}
+use Rattle.unit_walk.specs.Contents.{Values, content_of}
 
-abbrev pub content_of : Option ℤ → Content
-content_of None = Nothing
-content_of (Some z) = Whole z
-
--- the store holds these values, and nothing under any other name
+-- the store holds these values, and nothing at any other place
 pub record HoldsValues (values : Values) (store : Store) : Type 0 where
-  pub under : (name : Text) → store (list_number (0 ∷ name)) ≡ content_of (values name)
+  pub at : (name : Text) (o : ℕ) → store (list_number (o ∷ name)) ≡ content_of (values name o)
 
 pub record Holds (values : Values) (records : List Record) (w : World) : Type 0 where
   pub store : HoldsValues values w.state.store
   pub written : w.state.tape.written ≡ records
-
--- a FORMAT, or a declaration of integers without dimensions
-abbrev pub IsNote : Act → Type 0
-IsNote (Formats fields) = ⊤
-IsNote (Types Integer ds) = are_scalars ds ≡ true
-IsNote _ = ⊥
-
--- of the statements that are not executed each is one of these
-abbrev pub AreNotes : List Note → Type 0
-AreNotes [] = ⊤
-AreNotes (s ∷ notes) = IsNote s.act × AreNotes notes
 
 -- a main unit at the statement of this place
 abbrev pub main_at : Place → Frame
@@ -59,7 +41,3 @@ pub record Comes {A : Type 0} (o : Out A) (leads : World → Out A) (w : World) 
 -- a format of one integer field of this width
 abbrev pub one_field : ℕ → Fields
 one_field width = Single 1 (Takes edits.Whole width) NoField
-
--- a list of one variable
-abbrev pub one_item : Text → Entries
-one_item x = AndEntry (One (Variable x)) NoEntry

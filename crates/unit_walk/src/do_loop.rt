@@ -2,17 +2,23 @@
 ghost use Rattle.std.specs.Prelude.{◌≡◌, ℕ, ◌<◌, List, length, true, IfOk, IfSome, All, slice_index_or};
 ghost use Rattle.ground.specs.Arithmetic.{IsInRange};
 ghost use Rattle.f66_tree.specs.Forms.{Line};
-ghost use Rattle.f66_tree.specs.Views.{par_of};
+ghost use Rattle.f66_tree.specs.Views.{par_of, lines_of};
 ghost use Rattle.f66_tree.specs.Built.{is_par};
-ghost use Rattle.unit_walk.specs.Values.{value_under, AllInRange};
-ghost use Rattle.unit_walk.specs.Loops.{FitsPass, PassesFit, loop_of, begun_loop, next_value as value_behind, Begins, Turns};
+ghost use Rattle.unit_walk.specs.Contents.{values_in, AllInRange};
+ghost use Rattle.unit_walk.specs.Declarations.{context_of};
+ghost use Rattle.unit_walk.specs.Loops.{FitsPass, PassesFit, loop_of, counted, begun_loop, next_value as value_behind, Begins, Turns};
 ghost use Rattle.unit_walk.specs.Closing.{Closes};
+ghost use Rattle.unit_walk.specs.Standing.{IsPlan};
 
-use crate::statement::RunEnd;
-use crate::value::{Variables, forget, set, value_of, value_of_par};
+use crate::evaluate::value_of_par;
+use crate::operate::number_of;
+use crate::places::Places;
+use crate::plan::Plan;
+use crate::statement::{RunEnd, end_by};
+use crate::stuck::Stuck;
 use f66_tree::{Name, Par};
-use ground::{Place, Trap};
-use std::alloc::AllocError;
+use ground::{Kind, Place, Trap, Value};
+use std::alloc::{AllocError, Global};
 
 /// The limit and the step of a DO, which are taken once.
 #[derive(Clone, Copy, Debug)]
@@ -37,78 +43,97 @@ pub(crate) enum Lead {
 
 /// A DO begins: its parameters are taken and tested, and its variable gets the first one.
 pub(crate) fn begin<'a>(
-    variables: &mut Variables<'a>,
+    alloc: Global,
+    plan: &Plan<'a>,
+    places: &mut Places<'a>,
     variable: &'a Name,
     first: &Par,
     last: &Par,
     step: &Par,
-) -> Result<Result<Pass, Trap>, AllocError>
+) -> Result<Result<Pass, Stuck>, AllocError>
+    requires plan { IsPlan plan.now }
     requires first { is_par (par_of first.now) ≡ true }
     requires last { is_par (par_of last.now) ≡ true }
     requires step { is_par (par_of step.now) ≡ true }
-    requires range { AllInRange (value_under variables.old) }
-    ensures begins { IfOk result (λ begun. Begins variable.now (par_of first.now) (par_of last.now) (par_of step.now) (value_under variables.old) begun (value_under variables.new)) }
-    ensures range { IfOk result (λ begun. AllInRange (value_under variables.new)) }
+    requires range { AllInRange (values_in places.old.cells) }
+    ensures begins { IfOk result (λ begun. Begins (lines_of plan.now.code.now) variable.now (par_of first.now) (par_of last.now) (par_of step.now) (values_in places.old.cells) begun (values_in places.new.cells)) }
+    ensures range { IfOk result (λ begun. AllInRange (values_in places.new.cells)) }
     ensures pass { IfOk result (λ begun. IfOk begun FitsPass) }
 {
-    match parameters(variables, first, last, step) {
+    match parameters(plan, places, first, last, step) {
         Ok((value, pass)) => {
-            set(variables, variable, value)?;
+            places.store(alloc, variable, 0, Some(Value::Int(value)))?;
             Ok(Ok(pass))
         }
-        Err(trap) => Ok(Err(trap)),
+        Err(stuck) => Ok(Err(stuck)),
     }
 }
 
 /// The first value of a DO's variable, with its limit and its step.
 fn parameters(
-    variables: &Variables<'_>,
+    plan: &Plan<'_>,
+    places: &Places<'_>,
     first: &Par,
     last: &Par,
     step: &Par,
-) -> Result<(i64, Pass), Trap>
+) -> Result<(i64, Pass), Stuck>
+    requires plan { IsPlan plan.now }
     requires first { is_par (par_of first.now) ≡ true }
     requires last { is_par (par_of last.now) ≡ true }
     requires step { is_par (par_of step.now) ≡ true }
-    requires range { AllInRange (value_under variables.now) }
-    ensures is { result ≡ begun_loop (value_under variables.now) (par_of first.now) (par_of last.now) (par_of step.now) }
+    requires range { AllInRange (values_in places.now.cells) }
+    ensures is { result ≡ begun_loop (context_of (lines_of plan.now.code.now)) (values_in places.now.cells) (par_of first.now) (par_of last.now) (par_of step.now) }
     ensures value { IfOk result (λ begun. IsInRange begun.0) }
     ensures pass { IfOk result (λ begun. FitsPass begun.1) }
 {
-    let value = value_of_par(variables, first)?;
-    let limit = value_of_par(variables, last)?;
-    let step = value_of_par(variables, step)?;
+    let first = value_of_par(plan, places, first)?;
+    let last = value_of_par(plan, places, last)?;
+    let step = value_of_par(plan, places, step)?;
+    let value = number_of(first)?;
+    let limit = number_of(last)?;
+    let step = number_of(step)?;
     if 1 <= value && value <= limit && 1 <= step {
         Ok((value, Pass { limit, step }))
     } else {
-        Err(Trap::BadDo)
+        Err(Stuck::Trapped(Trap::BadDo))
     }
 }
 
 /// After a turn of a DO its variable goes on by the step, where that is within the limit, and has no value where it is not.
 fn turn<'a>(
-    variables: &mut Variables<'a>,
+    alloc: Global,
+    places: &mut Places<'a>,
     variable: &'a Name,
     pass: Pass,
-) -> Result<Result<bool, Trap>, AllocError>
-    requires range { AllInRange (value_under variables.old) }
+) -> Result<Result<bool, Stuck>, AllocError>
+    requires range { AllInRange (values_in places.old.cells) }
     requires pass { FitsPass pass }
-    ensures turns { IfOk result (λ goes_on. Turns variable.now pass (value_under variables.old) goes_on (value_under variables.new)) }
-    ensures range { IfOk result (λ goes_on. AllInRange (value_under variables.new)) }
+    ensures turns { IfOk result (λ goes_on. Turns variable.now pass (values_in places.old.cells) goes_on (values_in places.new.cells)) }
+    ensures range { IfOk result (λ goes_on. AllInRange (values_in places.new.cells)) }
 {
-    match value_of(variables, variable) {
+    match number_at(places, variable) {
         Ok(value) => match next_value(value, pass) {
             Some(next) => {
-                set(variables, variable, next)?;
+                places.store(alloc, variable, 0, Some(Value::Int(next)))?;
                 Ok(Ok(true))
             }
             None => {
-                forget(variables, variable);
+                places.store(alloc, variable, 0, None)?;
                 Ok(Ok(false))
             }
         },
-        Err(trap) => Ok(Err(trap)),
+        Err(stuck) => Ok(Err(stuck)),
     }
+}
+
+/// The integer that the variable of a DO is.
+fn number_at(places: &Places<'_>, variable: &Name) -> Result<i64, Stuck>
+    requires { AllInRange (values_in places.now.cells) }
+    ensures is { result ≡ counted (values_in places.now.cells variable.now 0) }
+    ensures range { IfOk result IsInRange }
+{
+    let value = places.load(Kind::Integer, variable, 0)?;
+    number_of(value)
 }
 
 fn next_value(value: i64, pass: Pass) -> Option<i64>
@@ -123,24 +148,25 @@ fn next_value(value: i64, pass: Pass) -> Option<i64>
 
 /// After the last statement of some DO loops, the innermost first, and before the line at `next`.
 pub(crate) fn close<'a>(
-    variables: &mut Variables<'a>,
+    alloc: Global,
+    places: &mut Places<'a>,
     passes: &[Pass],
     closings: &[Closing<'a>],
     next: usize,
     place: Place,
 ) -> Result<Lead, AllocError>
-    requires range { AllInRange (value_under variables.old) }
+    requires range { AllInRange (values_in places.old.cells) }
     requires fit { PassesFit passes.now }
     requires within { All (λ e. e.index < length passes.now) closings.now }
-    ensures closes { IfOk result (λ lead. Closes passes.now closings.now next place (value_under variables.old) lead (value_under variables.new)) }
-    ensures range { IfOk result (λ lead. AllInRange (value_under variables.new)) }
+    ensures closes { IfOk result (λ lead. Closes passes.now closings.now next place (values_in places.old.cells) lead (values_in places.new.cells)) }
+    ensures range { IfOk result (λ lead. AllInRange (values_in places.new.cells)) }
 {
     for closing in closings {
         let pass = pass_at(passes, closing.index);
-        match turn(variables, closing.variable, pass)? {
+        match turn(alloc, places, closing.variable, pass)? {
             Ok(true) => return Ok(Lead::At(closing.index + 1)),
             Ok(false) => {}
-            Err(trap) => return Ok(Lead::Over(RunEnd::Trapped(trap, place))),
+            Err(stuck) => return Ok(Lead::Over(end_by(stuck, place))),
         }
     }
     Ok(Lead::At(next))

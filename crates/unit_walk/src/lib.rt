@@ -1,15 +1,20 @@
 //! A walk of one main unit of FORTRAN, statement by statement.
 #![tactic(auto)]
 
-mod built;
 mod do_loop;
+mod element;
+mod evaluate;
+mod formats;
+mod names;
+mod operate;
+mod places;
 mod plan;
 mod run;
 mod statement;
-mod value;
+mod stuck;
+mod target;
 mod walked;
 
-pub use built::is_built;
 pub use statement::RunEnd;
 pub use walked::{Walked, walk};
 

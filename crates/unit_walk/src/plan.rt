@@ -1,23 +1,28 @@
-// What is prepared of a unit before it runs: the DO loops that end at each line, and where its labels are.
+// What is prepared of a unit before it runs: its names and formats, the DO loops that end at each line, and where its labels are.
 ghost use Rattle.std.specs.Prelude.{◌≡◌, ℕ, ◌<◌, List, [], IfOk, length, drop, true, false, not, IfSome, MatchOption, slice_index_or};
 ghost use Rattle.f66_tree.specs.declared.statement.Stmt.{Stmt};
 ghost use Rattle.f66_tree.specs.Units.{is_note as notes};
 ghost use Rattle.f66_tree.specs.Forms.{Line};
 ghost use Rattle.f66_tree.specs.Execution.{Closer, closer_of, from_label, runnable};
 ghost use Rattle.f66_tree.specs.Views.{act_of, lines_of};
-ghost use Rattle.f66_tree.specs.Built.{is_built_unit};
+ghost use Rattle.unit_walk.specs.Walked.{is_walked_unit};
 ghost use Rattle.unit_walk.specs.Standing.{IsPlan, ClosesAt, LabelsAre};
 ghost use Rattle.unit_walk.specs.Prepared.{ClosesLines, closer_by};
 
 use crate::do_loop::Closing;
+use crate::formats::widths_of;
+use crate::names::Names;
 use f66_tree::{Name, Stmt, StmtKind};
 use std::alloc::{AllocError, Global};
-use std::collections::BTreeMap;
+use std::collections::{BTreeMap, HashMap};
 
 /// A unit's statements, with the DO loops that end at each, innermost first.
 #[derive(Debug, Drop)]
 pub(crate) struct Plan<'a> {
     pub code: &'a [Stmt],
+    pub names: Names<'a>,
+    /// The width of the one field of each FORMAT, by its label.
+    pub widths: HashMap<u32, u16>,
     pub closings: Vec<Vec<Closing<'a>>>,
     /// The index of the first line with each label.
     pub lines: BTreeMap<u32, usize>,
@@ -28,15 +33,19 @@ pub(crate) struct Plan<'a> {
 impl<'a> Plan<'a> {
     /// Prepares a unit of which at most `limit` statements may begin.
     pub(crate) fn new(alloc: Global, code: &'a [Stmt], limit: u64) -> Result<Plan<'a>, AllocError>
-        requires { is_built_unit (lines_of code.now) ≡ true }
+        requires { is_walked_unit (lines_of code.now) ≡ true }
         ensures plan { IfOk result IsPlan }
         ensures code { IfOk result (λ plan. plan.code.now ≡ code.now) }
         ensures limit { IfOk result (λ plan. plan.limit ≡ limit) }
     {
+        let names = Names::new(alloc, code)?;
+        let widths = widths_of(alloc, code)?;
         let closings = closings_of(alloc, code)?;
         let lines = lines_by_label(alloc, code)?;
         Ok(Plan {
             code,
+            names,
+            widths,
             closings,
             lines,
             limit,

@@ -6,26 +6,30 @@ ghost use Rattle.f66_tree.specs.World.{World};
 ghost use Rattle.f66_tree.specs.Units.{is_note, notes_of};
 ghost use Rattle.f66_tree.specs.Execution.{Progress};
 ghost use Rattle.f66_tree.specs.Statements.{Next};
-ghost use Rattle.f66_tree.specs.Views.{act_of, line_of, lines_of};
-ghost use Rattle.f66_tree.specs.Built.{is_plain, is_built};
-ghost use Rattle.unit_walk.specs.Values.{value_under};
+ghost use Rattle.f66_tree.specs.Views.{formula_of, act_of, line_of, lines_of};
+ghost use Rattle.unit_walk.specs.Walked.{is_formula, is_plain, is_walked};
+ghost use Rattle.unit_walk.specs.Contents.{values_in, AllInRange};
+ghost use Rattle.unit_walk.specs.Declarations.{context_of};
+ghost use Rattle.unit_walk.specs.Steps.{condition as tested};
 ghost use Rattle.unit_walk.specs.Running.{led_to, Leads};
 ghost use Rattle.unit_walk.specs.Shows.{IsFirst};
 ghost use Rattle.unit_walk.specs.Standing.{IsPlan, IsSound, plainly, onward, branch_line, runs, performs, Stands, LeadsTo, Rises};
 
 use crate::do_loop::{Lead, Pass, begin, close};
+use crate::evaluate::evaluate;
+use crate::operate::fact_of;
+use crate::places::Places;
 use crate::plan::{Plan, is_note};
-use crate::statement::{Exit, RunEnd, perform};
-use crate::value::{Variables, holds};
-use f66_tree::{Stmt, StmtKind};
+use crate::statement::{Exit, RunEnd, end_by, perform};
+use crate::stuck::Stuck;
+use f66_tree::{Expr, Stmt, StmtKind};
 use ground::Text;
 use std::alloc::{AllocError, Global};
-use std::collections::BTreeMap;
 
 /// What a run has done so far.
 #[derive(Debug, Drop)]
 pub(crate) struct Run<'a> {
-    pub variables: Variables<'a>,
+    pub places: Places<'a>,
     /// The last limit and step of each line that is a DO.
     pub passes: Vec<Pass>,
     pub records: Vec<Text>,
@@ -42,7 +46,7 @@ impl<'a> Run<'a> {
         let mut passes = Vec::new(alloc);
         passes.resize(lines, Pass { limit: 0, step: 1 })?;
         Ok(Run {
-            variables: BTreeMap::new(alloc),
+            places: Places::new(alloc),
             passes,
             records: Vec::new(alloc),
             begun: 0,
@@ -84,7 +88,7 @@ fn line<'a>(
 ) -> Result<Lead, AllocError>
     requires within { index < length plan.now.code.now }
     requires here { statement.now ≡ slice_index_or plan.now.code.now index statement.now }
-    requires built { is_built (notes_of (lines_of plan.now.code.now)) (act_of statement.now.kind) ≡ true }
+    requires walked { is_walked (notes_of (lines_of plan.now.code.now)) (act_of statement.now.kind) ≡ true }
     requires executed { is_note (act_of statement.now.kind) ≡ false }
     requires plan { IsPlan plan.now }
     requires sound { IsSound (lines_of plan.now.code.now) run.old }
@@ -94,22 +98,33 @@ fn line<'a>(
     ensures count { IfOk result (λ lead. (run.old.begun ≤ run.new.begun) × (run.new.begun ≤ plan.now.limit)) }
 {
     match &statement.kind {
-        StmtKind::When(test, inner) => match holds(&run.variables, test) {
+        StmtKind::When(test, inner) => match holds(plan, &run.places, test) {
             Ok(true) => branch(alloc, plan, run, index, statement, inner),
-            Ok(false) => next_line(plan, run, index, statement),
-            Err(trap) => Ok(Lead::Over(RunEnd::Trapped(trap, statement.place))),
+            Ok(false) => next_line(alloc, plan, run, index, statement),
+            Err(stuck) => Ok(Lead::Over(end_by(stuck, statement.place))),
         },
         StmtKind::Loop(_, variable, first, last, step) => {
-            match begin(&mut run.variables, variable, first, last, step)? {
+            match begin(alloc, plan, &mut run.places, variable, first, last, step)? {
                 Ok(pass) => {
                     run.passes[index] = pass;
                     Ok(Lead::At(index + 1))
                 }
-                Err(trap) => Ok(Lead::Over(RunEnd::Trapped(trap, statement.place))),
+                Err(stuck) => Ok(Lead::Over(end_by(stuck, statement.place))),
             }
         }
         kind => plain(alloc, plan, run, index, statement, kind),
     }
+}
+
+/// Whether a condition holds, or why it has no value.
+fn holds(plan: &Plan<'_>, places: &Places<'_>, test: &Expr) -> Result<bool, Stuck>
+    requires plan { IsPlan plan.now }
+    requires walked { is_formula (notes_of (lines_of plan.now.code.now)) (formula_of test.now) ≡ true }
+    requires range { AllInRange (values_in places.now.cells) }
+    ensures { result ≡ tested (context_of (lines_of plan.now.code.now)) (values_in places.now.cells) (formula_of test.now) }
+{
+    let value = evaluate(plan, places, test)?;
+    fact_of(value)
 }
 
 /// The statement of a logical IF that holds, which begins for itself.
@@ -123,7 +138,7 @@ fn branch<'a>(
 ) -> Result<Lead, AllocError>
     requires within { index < length plan.now.code.now }
     requires here { statement.now ≡ slice_index_or plan.now.code.now index statement.now }
-    requires built { is_plain (notes_of (lines_of plan.now.code.now)) (act_of inner.now) ≡ true }
+    requires walked { is_plain (notes_of (lines_of plan.now.code.now)) (act_of inner.now) ≡ true }
     requires plan { IsPlan plan.now }
     requires sound { IsSound (lines_of plan.now.code.now) run.old }
     requires count { run.old.begun ≤ plan.now.limit }
@@ -152,25 +167,18 @@ fn plain<'a>(
 ) -> Result<Lead, AllocError>
     requires within { index < length plan.now.code.now }
     requires here { statement.now ≡ slice_index_or plan.now.code.now index statement.now }
-    requires built { is_plain (notes_of (lines_of plan.now.code.now)) (act_of kind.now) ≡ true }
+    requires walked { is_plain (notes_of (lines_of plan.now.code.now)) (act_of kind.now) ≡ true }
     requires executed { is_note (act_of kind.now) ≡ false }
     requires plan { IsPlan plan.now }
     requires sound { IsSound (lines_of plan.now.code.now) run.old }
-    ensures leads { IfOk result (λ lead. let code = lines_of plan.now.code.now in Leads code run.old.passes.items (plainly code statement.now.label index statement.now.place (act_of kind.now)) (led_to code lead) (value_under run.old.variables) run.old.records.items (value_under run.new.variables) run.new.records.items) }
+    ensures leads { IfOk result (λ lead. let code = lines_of plan.now.code.now in Leads code run.old.passes.items (plainly code statement.now.label index statement.now.place (act_of kind.now)) (led_to code lead) (values_in run.old.places.cells) run.old.records.items (values_in run.new.places.cells) run.new.records.items) }
     ensures sound { IfOk result (λ lead. IsSound (lines_of plan.now.code.now) run.new) }
     ensures passes { run.new.passes.items ≡ run.old.passes.items }
     ensures count { run.new.begun ≡ run.old.begun }
 {
     let place = statement.place;
-    match perform(
-        alloc,
-        plan.code,
-        &mut run.variables,
-        &mut run.records,
-        kind,
-        place,
-    )? {
-        Exit::Next => next_line(plan, run, index, statement),
+    match perform(alloc, plan, &mut run.places, &mut run.records, kind, place)? {
+        Exit::Next => next_line(alloc, plan, run, index, statement),
         Exit::To(label) => Ok(Lead::At(plan.line_with(label))),
         Exit::Ends(end) => Ok(Lead::Over(end)),
     }
@@ -178,6 +186,7 @@ fn plain<'a>(
 
 /// What comes after a line: the DO loops that end there have their turn, and then the next line.
 fn next_line<'a>(
+    alloc: Global,
     plan: &Plan<'a>,
     run: &mut Run<'a>,
     index: usize,
@@ -187,7 +196,7 @@ fn next_line<'a>(
     requires here { statement.now ≡ slice_index_or plan.now.code.now index statement.now }
     requires plan { IsPlan plan.now }
     requires sound { IsSound (lines_of plan.now.code.now) run.old }
-    ensures leads { IfOk result (λ lead. let code = lines_of plan.now.code.now in Leads code run.old.passes.items (onward code statement.now.label index statement.now.place Next) (led_to code lead) (value_under run.old.variables) run.old.records.items (value_under run.new.variables) run.new.records.items) }
+    ensures leads { IfOk result (λ lead. let code = lines_of plan.now.code.now in Leads code run.old.passes.items (onward code statement.now.label index statement.now.place Next) (led_to code lead) (values_in run.old.places.cells) run.old.records.items (values_in run.new.places.cells) run.new.records.items) }
     ensures sound { IfOk result (λ lead. IsSound (lines_of plan.now.code.now) run.new) }
     ensures passes { run.new.passes.items ≡ run.old.passes.items }
     ensures records { run.new.records.items ≡ run.old.records.items }
@@ -195,7 +204,8 @@ fn next_line<'a>(
 {
     let closings = plan.closings_at(index);
     close(
-        &mut run.variables,
+        alloc,
+        &mut run.places,
         &run.passes,
         closings,
         index + 1,

@@ -1,22 +1,27 @@
 // Plain statements: assignments, jumps, STOP and WRITE (X3.9-1966, section 7.1).
-ghost use Rattle.std.specs.Prelude.{◌≡◌, ℕ, ◌≤◌, List, true, false, IfOk, map};
+ghost use Rattle.std.specs.Prelude.{◌≡◌, ℕ, nat_eq, List, true, false, Ok, IfOk};
+ghost use Rattle.std.specs.HashMap.{get};
 ghost use Rattle.ground.specs.Arithmetic.{IsInRange};
-ghost use Rattle.ground.specs.Content.{Whole};
 ghost use Rattle.f66_tree.specs.Fielded.{whole_text};
-ghost use Rattle.f66_tree.specs.Fields.{NoField};
-ghost use Rattle.f66_tree.specs.Forms.{Line, Par, Assigns, Selects, Writes, Variable, One, NoEntry, AndEntry};
-ghost use Rattle.f66_tree.specs.World.{lifted};
-ghost use Rattle.f66_tree.specs.Statements.{label_at};
-ghost use Rattle.f66_tree.specs.Units.{is_note, notes_of, format_of};
-ghost use Rattle.f66_tree.specs.Views.{formula_of, par_of, field_then, fields_of, entry_of, entries_of, act_of, lines_of};
-ghost use Rattle.f66_tree.specs.Built.{is_variable, is_whole, is_printer, is_one_variable, is_one_field, is_one_field_of, is_plain};
-ghost use Rattle.unit_walk.specs.Values.{value_under, AllInRange};
-ghost use Rattle.unit_walk.specs.Walking.{AreNotes, one_field, one_item};
-ghost use Rattle.unit_walk.specs.Leaving.{Does, DoesAnywhere};
+ghost use Rattle.f66_tree.specs.Forms.{Par, Assigns, Selects, Signs, Writes, One, NoEntry, AndEntry};
+ghost use Rattle.f66_tree.specs.Units.{is_note, notes_of, kind_of};
+ghost use Rattle.f66_tree.specs.Views.{formula_of, entry_of, entries_of, act_of, lines_of};
+ghost use Rattle.f66_tree.specs.Built.{is_printer};
+ghost use Rattle.unit_walk.specs.Contents.{values_in, AllInRange, IsSmall, ◌then◌};
+ghost use Rattle.unit_walk.specs.Declarations.{context_of};
+ghost use Rattle.unit_walk.specs.Steps.{assigning, selecting, selecting_by_sign, label_at, label_by_sign, writing, written_number, fitted_field, is_one_entry};
+ghost use Rattle.unit_walk.specs.Walked.{is_formula, is_item as is_one_place, is_plain};
+ghost use Rattle.unit_walk.specs.Leaving.{Does, end_of_stuck, jumped};
+ghost use Rattle.unit_walk.specs.Standing.{IsPlan};
 
-use crate::value::{Variables, evaluate, set, value_of};
-use f66_tree::{Entry, Expr, Field, Name, Stmt, StmtKind};
-use ground::{Place, Text, Trap};
+use crate::evaluate::{evaluate, value_of};
+use crate::operate::number_of;
+use crate::places::Places;
+use crate::plan::Plan;
+use crate::stuck::Stuck;
+use crate::target::{Target, target_of};
+use f66_tree::{Entry, Expr, Name, StmtKind};
+use ground::{Kind, Place, Text, Trap, Value};
 use itoa::Buffer;
 use std::alloc::{AllocError, Global};
 
@@ -33,6 +38,8 @@ pub enum RunEnd {
     Trapped(Trap, Place),
     /// A further statement would begin after as many as the limit allows.
     GoesOn,
+    /// What no sound unit does.
+    Wrong,
 }
 
 /// How a plain statement is left: for the next one, for a label, or with the run's end.
@@ -43,172 +50,285 @@ pub(crate) enum Exit {
     Ends(RunEnd),
 }
 
+/// The end of a run whose statement at this place is stuck.
+pub(crate) fn end_by(stuck: Stuck, place: Place) -> RunEnd
+    ensures { result ≡ end_of_stuck stuck place }
+{
+    match stuck {
+        Stuck::Trapped(trap) => RunEnd::Trapped(trap, place),
+        Stuck::Wrong => RunEnd::Wrong,
+    }
+}
+
 /// Does a plain statement of a unit, in the unit's statement at this place.
 pub(crate) fn perform<'a>(
     alloc: Global,
-    code: &[Stmt],
-    variables: &mut Variables<'a>,
+    plan: &Plan<'a>,
+    places: &mut Places<'a>,
     records: &mut Vec<Text>,
     kind: &'a StmtKind,
     place: Place,
 ) -> Result<Exit, AllocError>
-    requires built { is_plain (notes_of (lines_of code.now)) (act_of kind.now) ≡ true }
+    requires plan { IsPlan plan.now }
+    requires walked { is_plain (notes_of (lines_of plan.now.code.now)) (act_of kind.now) ≡ true }
     requires executed { is_note (act_of kind.now) ≡ false }
-    requires formats { AreNotes (notes_of (lines_of code.now)) }
-    requires range { AllInRange (value_under variables.old) }
-    ensures does { IfOk result (λ exit. Does (lines_of code.now) place (act_of kind.now) (value_under variables.old) records.old.items exit (value_under variables.new) records.new.items) }
-    ensures range { IfOk result (λ exit. AllInRange (value_under variables.new)) }
+    requires range { AllInRange (values_in places.old.cells) }
+    ensures does { IfOk result (λ exit. Does (lines_of plan.now.code.now) place (act_of kind.now) (values_in places.old.cells) records.old.items exit (values_in places.new.cells) records.new.items) }
+    ensures range { IfOk result (λ exit. AllInRange (values_in places.new.cells)) }
 {
     match kind {
-        StmtKind::Assign(left, right) => assign(variables, left, right, place),
+        StmtKind::Assign(left, right) => assign(alloc, plan, places, left, right, place),
         StmtKind::Goto(label) => Ok(Exit::To(*label)),
-        StmtKind::Computed(labels, index) => Ok(select(variables, labels, index, place)),
+        StmtKind::Computed(labels, index) => Ok(select(plan, places, labels, index, place)),
+        StmtKind::Sign(e, below, zero, above) => {
+            Ok(select_by_sign(plan, places, e, *below, *zero, *above, place))
+        }
+        StmtKind::Invoke(_, _) => Ok(Exit::Ends(RunEnd::Wrong)),
         StmtKind::Continue => Ok(Exit::Next),
         StmtKind::Stop(None) => Ok(Exit::Ends(RunEnd::Done)),
         StmtKind::Stop(Some(number)) => Ok(Exit::Ends(RunEnd::Stopped(*number))),
-        StmtKind::Write(unit, label, entries) => {
-            let columns = format_width(code, *label);
-            write(alloc, variables, records, columns, item(entries), place)
+        StmtKind::Return => Ok(Exit::Ends(RunEnd::Done)),
+        StmtKind::Write(_, label, entries) => {
+            write(alloc, plan, places, records, *label, item(entries), place)
         }
         _ => unreachable!(),
     }
 }
 
-/// An assignment of an integer.
+/// An assignment.
 fn assign<'a>(
-    variables: &mut Variables<'a>,
+    alloc: Global,
+    plan: &Plan<'a>,
+    places: &mut Places<'a>,
     left: &'a Expr,
     right: &Expr,
     place: Place,
 ) -> Result<Exit, AllocError>
-    requires left { is_variable (formula_of left.now) ≡ true }
-    requires right { is_whole (formula_of right.now) ≡ true }
-    requires range { AllInRange (value_under variables.old) }
-    ensures does { IfOk result (λ exit. (records : List (List ℕ)) → DoesAnywhere place (Assigns (formula_of left.now) (formula_of right.now)) (value_under variables.old) records exit (value_under variables.new)) }
-    ensures range { IfOk result (λ exit. AllInRange (value_under variables.new)) }
+    requires plan { IsPlan plan.now }
+    requires left { is_formula (notes_of (lines_of plan.now.code.now)) (formula_of left.now) ≡ true }
+    requires right { is_formula (notes_of (lines_of plan.now.code.now)) (formula_of right.now) ≡ true }
+    requires range { AllInRange (values_in places.old.cells) }
+    ensures does { IfOk result (λ exit. (records : List (List ℕ)) → Does (lines_of plan.now.code.now) place (Assigns (formula_of left.now) (formula_of right.now)) (values_in places.old.cells) records exit (values_in places.new.cells) records) }
+    ensures range { IfOk result (λ exit. AllInRange (values_in places.new.cells)) }
 {
-    match evaluate(variables, right) {
-        Ok(value) => {
-            set(variables, variable(left), value)?;
+    match assigned(plan, places, left, right) {
+        Ok((target, value)) => {
+            places.store(alloc, target.name, target.offset, Some(value))?;
             Ok(Exit::Next)
         }
-        Err(trap) => Ok(Exit::Ends(RunEnd::Trapped(trap, place))),
+        Err(stuck) => Ok(Exit::Ends(end_by(stuck, place))),
     }
 }
 
-/// The name that an expression is.
-fn variable(e: &Expr) -> &Name
-    requires { is_variable (formula_of e.now) ≡ true }
-    ensures { formula_of e.now ≡ Variable result.now }
+/// Where an assignment stores, and what.
+fn assigned<'a>(
+    plan: &Plan<'_>,
+    places: &Places<'_>,
+    left: &'a Expr,
+    right: &Expr,
+) -> Result<(Target<'a>, Value), Stuck>
+    requires plan { IsPlan plan.now }
+    requires left { is_formula (notes_of (lines_of plan.now.code.now)) (formula_of left.now) ≡ true }
+    requires right { is_formula (notes_of (lines_of plan.now.code.now)) (formula_of right.now) ≡ true }
+    requires range { AllInRange (values_in places.now.cells) }
+    ensures is { (result then (λ r. Ok (r.0.name.now, r.0.offset, r.1))) ≡ assigning (context_of (lines_of plan.now.code.now)) (values_in places.now.cells) (formula_of left.now) (formula_of right.now) }
+    ensures range { IfOk result (λ r. IsSmall r.1) }
 {
-    match e {
-        Expr::Ref(name) => name,
-        _ => unreachable!(),
-    }
+    let target = target_of(plan, places, left)?;
+    let value = evaluate(plan, places, right)?;
+    Ok((target, value))
 }
 
 /// A computed GO TO.
-fn select(variables: &Variables<'_>, labels: &[u32], index: &Name, place: Place) -> Exit
-    requires { AllInRange (value_under variables.now) }
-    ensures { (records : List (List ℕ)) → DoesAnywhere place (Selects labels.now index.now) (value_under variables.now) records result (value_under variables.now) }
+fn select(plan: &Plan<'_>, places: &Places<'_>, labels: &[u32], index: &Name, place: Place) -> Exit
+    requires plan { IsPlan plan.now }
+    requires range { AllInRange (values_in places.now.cells) }
+    ensures { (records : List (List ℕ)) → Does (lines_of plan.now.code.now) place (Selects labels.now index.now) (values_in places.now.cells) records result (values_in places.now.cells) records }
 {
-    match value_of(variables, index) {
-        Ok(value) => match chosen(labels, value) {
-            Ok(label) => Exit::To(label),
-            Err(trap) => Exit::Ends(RunEnd::Trapped(trap, place)),
-        },
-        Err(trap) => Exit::Ends(RunEnd::Trapped(trap, place)),
+    jump(selected(plan, places, labels, index), place)
+}
+
+/// An arithmetic IF.
+fn select_by_sign(
+    plan: &Plan<'_>,
+    places: &Places<'_>,
+    e: &Expr,
+    below: u32,
+    zero: u32,
+    above: u32,
+    place: Place,
+) -> Exit
+    requires plan { IsPlan plan.now }
+    requires walked { is_formula (notes_of (lines_of plan.now.code.now)) (formula_of e.now) ≡ true }
+    requires range { AllInRange (values_in places.now.cells) }
+    ensures { (records : List (List ℕ)) → Does (lines_of plan.now.code.now) place (Signs (formula_of e.now) below zero above) (values_in places.now.cells) records result (values_in places.now.cells) records }
+{
+    jump(selected_by_sign(plan, places, e, below, zero, above), place)
+}
+
+/// A jump to a label, or the run's end.
+fn jump(label: Result<u32, Stuck>, place: Place) -> Exit
+    ensures { result ≡ jumped label place }
+{
+    match label {
+        Ok(label) => Exit::To(label),
+        Err(stuck) => Exit::Ends(end_by(stuck, place)),
     }
+}
+
+/// The label of a computed GO TO.
+fn selected(
+    plan: &Plan<'_>,
+    places: &Places<'_>,
+    labels: &[u32],
+    index: &Name,
+) -> Result<u32, Stuck>
+    requires plan { IsPlan plan.now }
+    requires range { AllInRange (values_in places.now.cells) }
+    ensures { result ≡ selecting (context_of (lines_of plan.now.code.now)) (values_in places.now.cells) labels.now index.now }
+{
+    let value = value_of(plan, places, index)?;
+    let number = number_of(value)?;
+    chosen(labels, number)
 }
 
 /// The label at an index, the first of which is one.
-fn chosen(labels: &[u32], index: i64) -> Result<u32, Trap>
+fn chosen(labels: &[u32], index: i64) -> Result<u32, Stuck>
     requires { IsInRange index }
-    ensures { lifted result ≡ label_at labels.now (Whole index) }
+    ensures { result ≡ label_at labels.now index }
 {
     if index < 1 {
-        return Err(Trap::BadBranch);
+        return Err(Stuck::Trapped(Trap::BadBranch));
     }
     match labels.get(index as usize - 1) {
         Some(label) => Ok(*label),
-        None => Err(Trap::BadBranch),
+        None => Err(Stuck::Trapped(Trap::BadBranch)),
     }
 }
 
-/// A WRITE of a variable on unit 6 by a format of one field of this width.
+/// The label of an arithmetic IF.
+fn selected_by_sign(
+    plan: &Plan<'_>,
+    places: &Places<'_>,
+    e: &Expr,
+    below: u32,
+    zero: u32,
+    above: u32,
+) -> Result<u32, Stuck>
+    requires plan { IsPlan plan.now }
+    requires walked { is_formula (notes_of (lines_of plan.now.code.now)) (formula_of e.now) ≡ true }
+    requires range { AllInRange (values_in places.now.cells) }
+    ensures { result ≡ selecting_by_sign (context_of (lines_of plan.now.code.now)) (values_in places.now.cells) (formula_of e.now) below zero above }
+{
+    let value = evaluate(plan, places, e)?;
+    let number = number_of(value)?;
+    Ok(by_sign(number, below, zero, above))
+}
+
+fn by_sign(number: i64, below: u32, zero: u32, above: u32) -> u32
+    ensures { result ≡ label_by_sign below zero above number }
+{
+    if number < 0 {
+        below
+    } else if number == 0 {
+        zero
+    } else {
+        above
+    }
+}
+
+/// A WRITE of one item on unit 6.
 fn write(
     alloc: Global,
-    variables: &Variables<'_>,
+    plan: &Plan<'_>,
+    places: &Places<'_>,
     records: &mut Vec<Text>,
-    columns: u16,
-    name: &Name,
+    label: u32,
+    item: &Expr,
     place: Place,
 ) -> Result<Exit, AllocError>
-    requires { AllInRange (value_under variables.now) }
-    ensures { IfOk result (λ exit. (code : List Line) (unit : Par) (label : ℕ) → AreNotes (notes_of code) → is_printer unit ≡ true → format_of label (notes_of code) ≡ Some (one_field columns) → Does code place (Writes unit label (one_item name.now)) (value_under variables.now) records.old.items exit (value_under variables.now) records.new.items) }
+    requires plan { IsPlan plan.now }
+    requires item { is_one_place (notes_of (lines_of plan.now.code.now)) (formula_of item.now) ≡ true }
+    requires range { AllInRange (values_in places.now.cells) }
+    ensures { IfOk result (λ exit. (unit : Par) → is_printer unit ≡ true → Does (lines_of plan.now.code.now) place (Writes unit label (AndEntry (One (formula_of item.now)) NoEntry)) (values_in places.now.cells) records.old.items exit (values_in places.now.cells) records.new.items) }
 {
-    match value_of(variables, name) {
-        Ok(_) if columns > LONGEST => Ok(Exit::Ends(RunEnd::Trapped(Trap::LongRecord, place))),
-        Ok(value) => {
-            records.push(record(alloc, columns, value)?)?;
+    match written(plan, places, label, item) {
+        Ok((columns, number)) => {
+            records.push(record(alloc, columns, number)?)?;
             Ok(Exit::Next)
         }
-        Err(trap) => Ok(Exit::Ends(RunEnd::Trapped(trap, place))),
+        Err(stuck) => Ok(Exit::Ends(end_by(stuck, place))),
     }
 }
 
-/// The width of the one field of the format with this label.
-fn format_width(code: &[Stmt], label: u32) -> u16
-    requires { is_one_field_of (format_of label (notes_of (lines_of code.now))) ≡ true }
-    ensures { format_of label (notes_of (lines_of code.now)) ≡ Some (one_field result) }
+/// The width of the field of a WRITE, and the integer in it.
+fn written(
+    plan: &Plan<'_>,
+    places: &Places<'_>,
+    label: u32,
+    item: &Expr,
+) -> Result<(u16, i64), Stuck>
+    requires plan { IsPlan plan.now }
+    requires item { is_one_place (notes_of (lines_of plan.now.code.now)) (formula_of item.now) ≡ true }
+    requires range { AllInRange (values_in places.now.cells) }
+    ensures is { result ≡ writing (context_of (lines_of plan.now.code.now)) (values_in places.now.cells) (get nat_eq plan.now.widths label) (formula_of item.now) }
+    ensures range { IfOk result (λ r. IsInRange r.1) }
 {
-    for statement in code {
-        match &statement.kind {
-            StmtKind::Format(fields) if statement.label == Some(label) => return width(fields),
-            _ => {}
+    match plan.widths.get(&label) {
+        Some(columns) => {
+            let target = target_of(plan, places, item)?;
+            let number = number_for(plan, places, &target)?;
+            fitting(*columns, number)
         }
+        None => Err(Stuck::Wrong),
     }
-    unreachable!()
 }
 
-/// The width of the one field of a format.
-fn width(fields: &[Field]) -> u16
-    requires { is_one_field (fields_of fields.now) ≡ true }
-    ensures { fields_of fields.now ≡ one_field result }
+/// The integer at a place, for an integer field.
+fn number_for(plan: &Plan<'_>, places: &Places<'_>, target: &Target<'_>) -> Result<i64, Stuck>
+    requires plan { IsPlan plan.now }
+    requires range { AllInRange (values_in places.now.cells) }
+    ensures is { result ≡ written_number (kind_of (context_of (lines_of plan.now.code.now)) target.now.name.now) (values_in places.now.cells target.now.name.now target.now.offset) }
+    ensures range { IfOk result IsInRange }
 {
-    match fields.first() {
-        Some(field) => field_width(field),
-        None => unreachable!(),
+    match plan.names.kind_of(target.name) {
+        Kind::Integer => {
+            let value = places.load(Kind::Integer, target.name, target.offset)?;
+            number_of(value)
+        }
+        Kind::Logical => Err(Stuck::Trapped(Trap::FormatMismatch)),
     }
 }
 
-fn field_width(field: &Field) -> u16
-    requires { is_one_field (field_then field.now NoField) ≡ true }
-    ensures { field_then field.now NoField ≡ one_field result }
+/// A field that fits a record of output.
+fn fitting(columns: u16, number: i64) -> Result<(u16, i64), Stuck>
+    requires { IsInRange number }
+    ensures is { result ≡ fitted_field columns number }
+    ensures range { IfOk result (λ r. IsInRange r.1) }
 {
-    match field {
-        Field::Whole(_, width) => *width,
-        _ => unreachable!(),
+    if columns > LONGEST {
+        return Err(Stuck::Trapped(Trap::LongRecord));
     }
+    Ok((columns, number))
 }
 
-/// The one name that a WRITE goes over.
-fn item(entries: &[Entry]) -> &Name
-    requires { is_one_variable (entries_of entries.now) ≡ true }
-    ensures { entries_of entries.now ≡ one_item result.now }
+/// The one item that a WRITE goes over.
+fn item(entries: &[Entry]) -> &Expr
+    requires { is_one_entry (entries_of entries.now) ≡ true }
+    ensures { entries_of entries.now ≡ AndEntry (One (formula_of result.now)) NoEntry }
 {
     match entries.first() {
-        Some(entry) => entry_name(entry),
+        Some(entry) => entry_item(entry),
         None => unreachable!(),
     }
 }
 
-fn entry_name(entry: &Entry) -> &Name
-    requires { is_one_variable (AndEntry (entry_of entry.now) NoEntry) ≡ true }
-    ensures { entry_of entry.now ≡ One (Variable result.now) }
+fn entry_item(entry: &Entry) -> &Expr
+    requires { is_one_entry (AndEntry (entry_of entry.now) NoEntry) ≡ true }
+    ensures { entry_of entry.now ≡ One (formula_of result.now) }
 {
     match entry {
-        Entry::Item(e) => variable(e),
+        Entry::Item(e) => e,
         Entry::Many(_, _, _, _, _) => unreachable!(),
     }
 }

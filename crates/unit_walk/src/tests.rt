@@ -1,7 +1,7 @@
 // Small programs with what they show, worked out by hand from the standard.
 
-use crate::{RunEnd, Walked, is_built, walk};
-use f66_tree::{Entry, Expr, Field, Name, Operator, Par, Stmt, StmtKind};
+use crate::{RunEnd, Walked, walk};
+use f66_tree::{Declared, Entry, Expr, Field, Name, Operator, Par, Stmt, StmtKind, TypeWord};
 use ground::{Place, Text};
 use std::alloc::{AllocError, Global};
 use std::test::Fail;
@@ -96,11 +96,11 @@ impl Reading {
         self.ends(alloc, StmtKind::Computed(labels, index))
     }
 
-    /// A WRITE of a variable by the format 9 (`!`).
+    /// A WRITE of an item by the format 9 (`!`).
     fn ends_write(&mut self, alloc: Global) -> Result<(), AllocError> {
-        let item = self.named(alloc)?;
+        let item = self.value();
         let mut entries = Vec::new(alloc);
-        entries.push(Entry::Item(Expr::Ref(item)))?;
+        entries.push(Entry::Item(item))?;
         self.ends(alloc, StmtKind::Write(Par::Number(6), 9, entries))
     }
 
@@ -110,6 +110,57 @@ impl Reading {
         let mut fields = Vec::new(alloc);
         fields.push(Field::Whole(1, width))?;
         self.ends(alloc, StmtKind::Format(fields))
+    }
+
+    /// An arithmetic IF (`J`), whose labels stand behind its expression.
+    fn ends_sign(&mut self, alloc: Global) -> Result<(), AllocError> {
+        let above = u32::from(self.number());
+        let zero = u32::from(self.number());
+        let below = u32::from(self.number());
+        let e = self.value();
+        self.ends(alloc, StmtKind::Sign(e, below, zero, above))
+    }
+
+    /// A name without dimensions that is LOGICAL (`L`).
+    fn ends_logical(&mut self, alloc: Global) -> Result<(), AllocError> {
+        let name = self.named(alloc)?;
+        let mut list = Vec::new(alloc);
+        let sizes = Vec::new(alloc);
+        list.push(Declared { name, sizes })?;
+        self.ends(alloc, StmtKind::Typed(TypeWord::Logical, list))
+    }
+
+    /// A DIMENSION of one array (`Z`): its name, its dimensions and how many there are.
+    fn ends_dimension(&mut self, alloc: Global) -> Result<(), AllocError> {
+        let count = self.number();
+        let mut sizes = Vec::new(alloc);
+        for _ in 0..count {
+            sizes.push(self.par())?;
+        }
+        sizes.reverse();
+        let name = self.named(alloc)?;
+        let mut list = Vec::new(alloc);
+        list.push(Declared { name, sizes })?;
+        self.ends(alloc, StmtKind::Dimension(list))
+    }
+
+    /// A name with arguments (`[`): the name, the arguments and how many there are.
+    fn item(&mut self, alloc: Global) -> Result<(), AllocError> {
+        let count = self.number();
+        let mut list = Vec::new(alloc);
+        for _ in 0..count {
+            list.push(self.value())?;
+        }
+        list.reverse();
+        let name = self.named(alloc)?;
+        self.stack.push(Expr::Item(name, list))?;
+        Ok(())
+    }
+
+    fn word(&mut self, alloc: Global, word: &[u8]) -> Result<(), AllocError> {
+        let name = Name::new(Text::new(word.to_vec(alloc)?));
+        self.stack.push(Expr::Ref(name))?;
+        Ok(())
     }
 
     fn ends_assignment(&mut self, alloc: Global) -> Result<(), AllocError> {
@@ -125,6 +176,9 @@ impl Reading {
             b'F' => self.ends_format(alloc),
             b'D' => self.ends_loop(alloc),
             b'C' => self.ends_choice(alloc),
+            b'J' => self.ends_sign(alloc),
+            b'L' => self.ends_logical(alloc),
+            b'Z' => self.ends_dimension(alloc),
             b'.' => self.ends(alloc, StmtKind::Continue),
             b'#' => self.ends(alloc, StmtKind::Stop(None)),
             b'S' => {
@@ -170,6 +224,17 @@ impl Reading {
                 self.test = Some(self.value());
                 Ok(())
             }
+            b'T' => {
+                self.stack.push(Expr::Truth(true))?;
+                Ok(())
+            }
+            b'[' => self.item(alloc),
+            b'I' => self.word(alloc, b"IABS"),
+            b'M' => self.word(alloc, b"MOD"),
+            b'N' => self.word(alloc, b"ISIGN"),
+            b'P' => self.word(alloc, b"IDIM"),
+            b'X' => self.word(alloc, b"MAX0"),
+            b'Y' => self.word(alloc, b"MIN0"),
             b'+' => self.pair(alloc, Operator::Add),
             b'*' => self.pair(alloc, Operator::Mul),
             b'/' => self.pair(alloc, Operator::Div),
@@ -213,6 +278,7 @@ fn shown(alloc: Global, walked: &Walked) -> Result<String, AllocError> {
             write!(shown, "trap {number} at {line}")?;
         }
         RunEnd::GoesOn => shown.push_str("goes on")?,
+        RunEnd::Wrong => shown.push_str("wrong")?,
     }
     let begun = walked.begun;
     write!(shown, " {begun}")?;
@@ -221,7 +287,7 @@ fn shown(alloc: Global, walked: &Walked) -> Result<String, AllocError> {
 
 #[test]
 fn programs(rt: HostRuntime) -> Result<(), Fail> {
-    let rows: [(&[u8], u64, &str); 34] = [
+    let rows: [(&[u8], u64, &str); 70] = [
         (b"", 0, "done 0"),
         (b".", 0, "goes on 0"),
         (b".", 1, "done 1"),
@@ -256,11 +322,57 @@ fn programs(rt: HostRuntime) -> Result<(), Fail> {
         (b"1k=?k1:", 9, "trap 5 at 1 1"),
         (b"11=?9@2F.", 9, "done 2"),
         (b"12=10/1=|?.", 9, "trap 2 at 1 1"),
+        (b"9@2Fa31Za11[4:a31[7:a31[!a11[!", 9, " 7/ 4/done 4"),
+        (b"a31Za01[4:", 9, "trap 4 at 2 1"),
+        (b"a31Za41[4:", 9, "trap 4 at 2 1"),
+        (b"9@2Fa31Za21[!", 9, "trap 5 at 3 1"),
+        (
+            b"9@2Fa2323Za2113[5:a1223[6:a2113[!a1223[!",
+            9,
+            " 5/ 6/done 4",
+        ),
+        (b"a2323Za1333[1:", 9, "trap 4 at 2 1"),
+        (b"a21Z", 9, "done 0"),
+        (b"a31Za910/1[4:", 9, "wrong 1"),
+        (b"a31Za10/1[4:", 9, "trap 2 at 2 1"),
+        (b"a332Za910/2[1:", 9, "trap 2 at 2 1"),
+        (b"a3n2Za112[1:", 9, "trap 5 at 2 1"),
+        (b"a3n2Zn1:a912[1:", 9, "trap 4 at 3 2"),
+        (b"a31Za112[1:", 9, "wrong 1"),
+        (b"pLpT:p?3S.", 9, "stop 3 3"),
+        (b"kT:kk1+:", 9, "trap 5 at 2 2"),
+        (b"pLp1:pp:", 9, "trap 5 at 3 2"),
+        (b"9@2FpLpT:p!", 9, "trap 13 at 4 2"),
+        (b"k1T+:", 9, "wrong 1"),
+        (b"1?k1:", 9, "wrong 1"),
+        (b"k1:k!", 9, "wrong 2"),
+        (b"kf11[:", 9, "wrong 1"),
+        (
+            b"9@3FkI7~1[:k!kM7~32[:k!kM73~2[:k!",
+            9,
+            "  7/ -1/  1/done 6",
+        ),
+        (b"kM702[:", 9, "trap 2 at 1 1"),
+        (
+            b"9@3FkN7~02[:k!kN71~2[:k!kN7~32[:k!",
+            9,
+            "  7/ -7/  7/done 6",
+        ),
+        (b"9@3FkP732[:k!kP372[:k!", 9, "  4/  0/done 4"),
+        (b"kPBB~2[:", 9, "trap 1 at 1 1"),
+        (b"9@3FkX28~954[:k!kY28~954[:k!", 9, "  9/ -8/done 4"),
+        (b"kX1T2[:", 9, "wrong 1"),
+        (b"kXT10/2[:", 9, "trap 2 at 1 1"),
+        (b"kI122[:", 9, "wrong 1"),
+        (b"k3~:k123J1@1S2@2S3@3S", 9, "stop 1 3"),
+        (b"k0:k123J1@1S2@2S3@3S", 9, "stop 2 3"),
+        (b"k3:k123J1@1S2@2S3@3S", 9, "stop 3 3"),
+        (b"iL5i131D5@.", 9, "done 4"),
+        (b"pLpT:5ip31D5@.", 9, "wrong 2"),
+        (b"5i131D5@iT:", 9, "trap 5 at 2 2"),
     ];
     for (text, limit, wanted) in rows {
         let code = lines_of(rt.alloc(), text)?;
-        let built = is_built(&code);
-        assert!(rt; built, "not built");
         let walked = walk(rt.alloc(), &code, limit).ok().ok_or("memory")?;
         let found = shown(rt.alloc(), &walked)?;
         assert_eq!(rt; found.as_str(), wanted);

@@ -2,7 +2,7 @@
 ghost use Rattle.std.specs.Prelude.{◌≡◌, ℕ, ◌≤◌, List, true, IfOk};
 ghost use Rattle.f66_tree.specs.World.{Record};
 ghost use Rattle.f66_tree.specs.Views.{lines_of};
-ghost use Rattle.f66_tree.specs.Built.{is_built_unit};
+ghost use Rattle.unit_walk.specs.Walked.{is_walked_unit};
 ghost use Rattle.f66_tree.specs.OneUnit.{executed};
 ghost use Rattle.unit_walk.specs.Leaving.{end_of};
 ghost use Rattle.unit_walk.specs.Standing.{IsPlan, IsSound};
@@ -25,9 +25,9 @@ pub struct Walked {
     pub begun: u64,
 }
 
-/// Runs a main unit of built statements, of which at most `limit` begin. An error is want of memory.
+/// Runs a main unit of walked statements, of which at most `limit` begin. An error is want of memory.
 pub fn walk(alloc: Global, code: &[Stmt], limit: u64) -> Result<Walked, Memory>
-    requires { is_built_unit (lines_of code.now) ≡ true }
+    requires { is_walked_unit (lines_of code.now) ≡ true }
     ensures { IfOk result (λ walked. (input : List Record) → shown_of walked ≡ executed (lines_of code.now) input limit) }
 {
     let plan = Plan::new(alloc, code, limit)?;

@@ -1,9 +1,9 @@
-use Rattle.unit_walk.specs.Values.{value_under, AllInRange}
+use Rattle.unit_walk.specs.Contents.{values_in, AllInRange}
 use Rattle.unit_walk.specs.Closing.{ClosedTo}
 use Rattle.unit_walk.proofs.do_loop.close.Given as goal
 
 abbrev pub invariant-loop-closing : goal.invariant-loop-closing
 invariant-loop-closing l = record {
-  range : AllInRange (value_under l.variables);
-  closed : ClosedTo l.passes l.closings l.next l.place (value_under l.initial.variables) l.closing-index (value_under l.variables);
+  range : AllInRange (values_in l.places.cells);
+  closed : ClosedTo l.passes l.closings l.next l.place (values_in l.initial.places.cells) l.closing-index (values_in l.places.cells);
 }

@@ -1,5 +1,4 @@
 use Rattle.std.proofs.Common.{rules, ◌≡◌, ℕ, suc, ◌+◌, ◌<◌, ◌∷◌, List, drop, true, false, Result, Ok, Err, ◌∙◌, ap, sym, refl, subst}
-use Rattle.ground.specs.declared.trap.Trap.{Trap}
 use Rattle.f66_tree.specs.declared.statement.StmtKind.{StmtKind}
 use Rattle.f66_tree.specs.Forms.{Formula, Act, Chooses, Loops, Line}
 use Rattle.f66_tree.specs.World.{World}
@@ -7,16 +6,20 @@ use Rattle.f66_tree.specs.Units.{notes_of}
 use Rattle.f66_tree.specs.Statements.{Next}
 use Rattle.f66_tree.specs.Execution.{Progress}
 use Rattle.f66_tree.specs.Views.{formula_of, par_of, act_of, line_of, lines_of}
-use Rattle.f66_tree.specs.Built.{is_condition, is_plain}
-use Rattle.unit_walk.specs.declared.statement.RunEnd.TheVariants.{Trapped}
+use Rattle.unit_walk.specs.Walked.{is_plain}
+use Rattle.unit_walk.specs.declared.statement.RunEnd.{RunEnd}
 use Rattle.unit_walk.specs.declared.do_loop.Pass.{Pass}
+use Rattle.unit_walk.specs.declared.run.Run.{Run}
 use Rattle.unit_walk.specs.declared.do_loop.Lead.TheVariants.{At, Over}
-use Rattle.unit_walk.specs.Values.{value_under, truth}
+use Rattle.unit_walk.specs.declared.stuck.Stuck.{Stuck}
+use Rattle.unit_walk.specs.Contents.{values_in}
+use Rattle.unit_walk.specs.Declarations.{context_of}
+use Rattle.unit_walk.specs.Steps.{condition}
+use Rattle.unit_walk.specs.Leaving.{end_of_stuck}
 use Rattle.unit_walk.specs.Loops.{Begins}
-use Rattle.unit_walk.specs.Standing.{plainly, onward, runs, performs, branch_line}
-use Rattle.unit_walk.proofs.ValueLemmas.{both_first}
+use Rattle.unit_walk.specs.Standing.{plainly, onward, runs, performs, branch_line, LeadsTo}
 use Rattle.unit_walk.proofs.StepLemmas.{if_ok}
-use Rattle.unit_walk.proofs.RunLemmas.{lifts, leads_as, leads_here, performs_plain, conditioned, loop_on, loop_out, as_many, around_from, main_from}
+use Rattle.unit_walk.proofs.RunLemmas.{lifts, leads_as, leads_here, performs_plain, conditioned, stuck_ends, loop_on, loop_out, as_many, around_from, main_from}
 use Rattle.unit_walk.proofs.run.line.Goals as goal
 
 -- a line by what it says
@@ -31,12 +34,11 @@ returns-in-Ok-true-clause-leads c =
     let e : Formula = formula_of c.in-When.test in
     let a : Act = act_of c.deref.result.now in
     let said : act_of c.args.statement.now.kind ≡ Chooses e a = ap act_of c.in-When.is ∙ ap (λ (k : StmtKind). Chooses e (act_of k)) (sym c.deref.ensures) in
-    let condition : is_condition e ≡ true = both_first (is_condition e) (is_plain (notes_of code) a) (rw said at c.requires.built) in
-    let value : Ok true ≡ truth (value_under c.args.run.now.variables) e = search rules in
+    let value : Ok true ≡ condition (context_of code) (values_in c.args.run.now.places.cells) e = search rules in
     if_ok _ _ c.branch-alloc.result (λ lead leads w pr stands.
     leads_as code limit (performs code w (line_of c.args.statement.now) rest pr) (runs code w (branch_line c.args.statement.now a ∷ rest) pr) lead c.branch-alloc.new.run
     (as_said code w (line_of c.args.statement.now) (Chooses e a) rest pr said
-    ∙ conditioned code c.requires.plan.formats w (value_under c.args.run.now.variables) stands.holds.store c.args.statement.now.label c.args.statement.now.place e a rest pr (Ok true) condition value)
+    ∙ conditioned code w (values_in c.args.run.now.places.cells) stands.holds.store c.args.statement.now.label c.args.statement.now.place e a rest pr (Ok true) value)
     (leads w pr stands)) c.branch-alloc.ensures.leads
 
 pub returns-in-Ok-false-clause-leads : goal.returns-in-Ok-false-clause-leads
@@ -47,12 +49,11 @@ returns-in-Ok-false-clause-leads c =
     let e : Formula = formula_of c.in-When.test in
     let a : Act = act_of c.in-When.inner.value in
     let said : act_of c.args.statement.now.kind ≡ Chooses e a = ap act_of c.in-When.is in
-    let condition : is_condition e ≡ true = both_first (is_condition e) (is_plain (notes_of code) a) (rw said at c.requires.built) in
-    let value : Ok false ≡ truth (value_under c.args.run.now.variables) e = search rules in
+    let value : Ok false ≡ condition (context_of code) (values_in c.args.run.now.places.cells) e = search rules in
     if_ok _ _ c.next_line.result (λ lead leads w pr stands.
     leads_as code limit (performs code w (line_of c.args.statement.now) rest pr) (onward code c.args.statement.now.label c.args.index c.args.statement.now.place Next (around_from code (suc w.left)) (main_from code (suc w.left)) pr w) lead c.next_line.new.run
     (as_said code w (line_of c.args.statement.now) (Chooses e a) rest pr said
-    ∙ conditioned code c.requires.plan.formats w (value_under c.args.run.now.variables) stands.holds.store c.args.statement.now.label c.args.statement.now.place e a rest pr (Ok false) condition value)
+    ∙ conditioned code w (values_in c.args.run.now.places.cells) stands.holds.store c.args.statement.now.label c.args.statement.now.place e a rest pr (Ok false) value)
     (lifts code limit c.args.run.now w pr stands (onward code c.args.statement.now.label c.args.index c.args.statement.now.place Next) lead c.next_line.new.run leads c.next_line.ensures.passes c.next_line.ensures.count)) c.next_line.ensures.leads
 
 pub returns-in-Err-clause-leads : goal.returns-in-Err-clause-leads
@@ -63,11 +64,11 @@ returns-in-Err-clause-leads c w pr stands =
     let e : Formula = formula_of c.in-When.test in
     let a : Act = act_of c.in-When.inner.value in
     let said : act_of c.args.statement.now.kind ≡ Chooses e a = ap act_of c.in-When.is in
-    let condition : is_condition e ≡ true = both_first (is_condition e) (is_plain (notes_of code) a) (rw said at c.requires.built) in
-    let value : Err c.in-Err.trap ≡ truth (value_under c.args.run.now.variables) e = search rules in
-    leads_here code limit c.args.run.now w pr stands (performs code w (line_of c.args.statement.now) rest pr) (Over (Trapped c.in-Err.trap c.args.statement.now.place))
+    let value : Err c.in-Err.stuck ≡ condition (context_of code) (values_in c.args.run.now.places.cells) e = search rules in
+    subst (λ (x : RunEnd). LeadsTo code limit (performs code w (line_of c.args.statement.now) rest pr) (Over x) c.args.run.now) (sym c.end_by.ensures)
+    (leads_here code limit c.args.run.now w pr stands (performs code w (line_of c.args.statement.now) rest pr) (Over (end_of_stuck c.in-Err.stuck c.args.statement.now.place))
     (as_said code w (line_of c.args.statement.now) (Chooses e a) rest pr said
-    ∙ conditioned code c.requires.plan.formats w (value_under c.args.run.now.variables) stands.holds.store c.args.statement.now.label c.args.statement.now.place e a rest pr (Err c.in-Err.trap) condition value)
+    ∙ conditioned code w (values_in c.args.run.now.places.cells) stands.holds.store c.args.statement.now.label c.args.statement.now.place e a rest pr (Err c.in-Err.stuck) value ∙ stuck_ends code pr c.args.statement.now.place w c.in-Err.stuck _))
 
 pub returns-in-Ok-clause-leads : goal.returns-in-Ok-clause-leads
 returns-in-Ok-clause-leads c w pr stands =
@@ -76,11 +77,11 @@ returns-in-Ok-clause-leads c w pr stands =
     let rest : List Line = drop (c.args.index + 1) code in
     let l : ℕ = c.in-Loop.field-0 in
     let said : act_of c.args.statement.now.kind ≡ Loops l c.in-Loop.variable (par_of c.in-Loop.first) (par_of c.in-Loop.last) (par_of c.in-Loop.step) = ap act_of c.in-Loop.is in
-    let begins : Begins c.in-Loop.variable (par_of c.in-Loop.first) (par_of c.in-Loop.last) (par_of c.in-Loop.step) (value_under c.args.run.now.variables) (Ok c.in-Ok.pass) (value_under c.begin.new.variables) =
-    subst (λ (r : Result Pass Trap). Begins c.in-Loop.variable (par_of c.in-Loop.first) (par_of c.in-Loop.last) (par_of c.in-Loop.step) (value_under c.args.run.now.variables) r (value_under c.begin.new.variables)) c.in-Ok.is c.in_ok-pass-in-Loop.ensures.begins in
+    let begins : Begins code c.in-Loop.variable (par_of c.in-Loop.first) (par_of c.in-Loop.last) (par_of c.in-Loop.step) (values_in c.args.run.now.places.cells) (Ok c.in-Ok.pass) (values_in c.begin.new.places.cells) =
+    subst (λ (r : Result Pass Stuck). Begins code c.in-Loop.variable (par_of c.in-Loop.first) (par_of c.in-Loop.last) (par_of c.in-Loop.step) (values_in c.args.run.now.places.cells) r (values_in c.begin.new.places.cells)) c.in-Ok.is c.in_ok-pass-in-Loop.ensures.begins in
     leads_as code limit (performs code w (line_of c.args.statement.now) rest pr) (performs code w (record { label = c.args.statement.now.label; place = c.args.statement.now.place; act = Loops l c.in-Loop.variable (par_of c.in-Loop.first) (par_of c.in-Loop.last) (par_of c.in-Loop.step) }) rest pr) (At (c.args.index + 1)) _
     (as_said code w (line_of c.args.statement.now) (Loops l c.in-Loop.variable (par_of c.in-Loop.first) (par_of c.in-Loop.last) (par_of c.in-Loop.step)) rest pr said)
-    (loop_on code limit c.args.run.now w pr stands c.requires.plan.formats c.args.statement.now.label c.args.statement.now.place l c.in-Loop.variable (par_of c.in-Loop.first) (par_of c.in-Loop.last) (par_of c.in-Loop.step) c.args.index c.in-Ok.pass _ (subst (λ (n : ℕ). c.args.index < n) (sym (as_many c.args.plan.now.code.now)) c.requires.within) c.requires.sound.size begins refl refl refl)
+    (loop_on code limit c.args.run.now w pr stands c.args.statement.now.label c.args.statement.now.place l c.in-Loop.variable (par_of c.in-Loop.first) (par_of c.in-Loop.last) (par_of c.in-Loop.step) c.args.index c.in-Ok.pass _ (subst (λ (n : ℕ). c.args.index < n) (sym (as_many c.args.plan.now.code.now)) c.requires.within) c.requires.sound.size begins refl refl refl)
 
 pub returns-in-Err-2-clause-leads : goal.returns-in-Err-2-clause-leads
 returns-in-Err-2-clause-leads c w pr stands =
@@ -89,11 +90,13 @@ returns-in-Err-2-clause-leads c w pr stands =
     let rest : List Line = drop (c.args.index + 1) code in
     let l : ℕ = c.in-Loop.field-0 in
     let said : act_of c.args.statement.now.kind ≡ Loops l c.in-Loop.variable (par_of c.in-Loop.first) (par_of c.in-Loop.last) (par_of c.in-Loop.step) = ap act_of c.in-Loop.is in
-    let begins : Begins c.in-Loop.variable (par_of c.in-Loop.first) (par_of c.in-Loop.last) (par_of c.in-Loop.step) (value_under c.args.run.now.variables) (Err c.in-Err-2.trap) (value_under c.begin.new.variables) =
-    subst (λ (r : Result Pass Trap). Begins c.in-Loop.variable (par_of c.in-Loop.first) (par_of c.in-Loop.last) (par_of c.in-Loop.step) (value_under c.args.run.now.variables) r (value_under c.begin.new.variables)) c.in-Err-2.is c.in_ok-pass-in-Loop.ensures.begins in
-    leads_as code limit (performs code w (line_of c.args.statement.now) rest pr) (performs code w (record { label = c.args.statement.now.label; place = c.args.statement.now.place; act = Loops l c.in-Loop.variable (par_of c.in-Loop.first) (par_of c.in-Loop.last) (par_of c.in-Loop.step) }) rest pr) (Over (Trapped c.in-Err-2.trap c.args.statement.now.place)) _
+    let begins : Begins code c.in-Loop.variable (par_of c.in-Loop.first) (par_of c.in-Loop.last) (par_of c.in-Loop.step) (values_in c.args.run.now.places.cells) (Err c.in-Err-2.stuck) (values_in c.begin.new.places.cells) =
+    subst (λ (r : Result Pass Stuck). Begins code c.in-Loop.variable (par_of c.in-Loop.first) (par_of c.in-Loop.last) (par_of c.in-Loop.step) (values_in c.args.run.now.places.cells) r (values_in c.begin.new.places.cells)) c.in-Err-2.is c.in_ok-pass-in-Loop.ensures.begins in
+    let run1 : Run = record { places = c.begin.new.places; passes = c.args.run.now.passes; records = c.args.run.now.records; begun = c.args.run.now.begun } in
+    subst (λ (x : RunEnd). LeadsTo code limit (performs code w (line_of c.args.statement.now) rest pr) (Over x) run1) (sym c.end_by-in-Err-2.ensures)
+    (leads_as code limit (performs code w (line_of c.args.statement.now) rest pr) (performs code w (record { label = c.args.statement.now.label; place = c.args.statement.now.place; act = Loops l c.in-Loop.variable (par_of c.in-Loop.first) (par_of c.in-Loop.last) (par_of c.in-Loop.step) }) rest pr) (Over (end_of_stuck c.in-Err-2.stuck c.args.statement.now.place)) run1
     (as_said code w (line_of c.args.statement.now) (Loops l c.in-Loop.variable (par_of c.in-Loop.first) (par_of c.in-Loop.last) (par_of c.in-Loop.step)) rest pr said)
-    (loop_out code limit c.args.run.now w pr stands c.requires.plan.formats c.args.statement.now.label c.args.statement.now.place l c.in-Loop.variable (par_of c.in-Loop.first) (par_of c.in-Loop.last) (par_of c.in-Loop.step) c.args.index c.in-Err-2.trap _ begins refl refl refl)
+    (loop_out code limit c.args.run.now w pr stands c.args.statement.now.label c.args.statement.now.place l c.in-Loop.variable (par_of c.in-Loop.first) (par_of c.in-Loop.last) (par_of c.in-Loop.step) c.args.index c.in-Err-2.stuck run1 begins refl refl refl))
 
 pub returns-in_default-clause-leads : goal.returns-in_default-clause-leads
 returns-in_default-clause-leads c =
@@ -103,8 +106,8 @@ returns-in_default-clause-leads c =
     let a : Act = act_of c.args.statement.now.kind in
     let p = c.args.statement.now.place in
     let label = c.args.statement.now.label in
-    let built : is_plain (notes_of code) a ≡ true = search rules in
+    let walked : is_plain (notes_of code) a ≡ true = search rules in
     if_ok _ _ c.plain.result (λ lead leads w pr stands.
     leads_as code limit (performs code w (line_of c.args.statement.now) rest pr) (plainly code label c.args.index p a (around_from code (suc w.left)) (main_from code (suc w.left)) pr w) lead c.plain.new.run
-    (performs_plain (notes_of code) (around_from code (suc w.left)) p code label c.args.index a (main_from code (suc w.left)) pr w built)
+    (performs_plain (notes_of code) (around_from code (suc w.left)) p code label c.args.index a (main_from code (suc w.left)) pr w walked)
     (lifts code limit c.args.run.now w pr stands (plainly code label c.args.index p a) lead c.plain.new.run leads c.plain.ensures.passes c.plain.ensures.count)) c.plain.ensures.leads

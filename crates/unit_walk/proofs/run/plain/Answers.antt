@@ -3,7 +3,7 @@ use Rattle.f66_tree.specs.Forms.{Line}
 use Rattle.f66_tree.specs.Views.{act_of, lines_of}
 use Rattle.unit_walk.specs.declared.statement.Exit.{Exit}
 use Rattle.unit_walk.specs.declared.statement.Exit.TheVariants.{Next, To}
-use Rattle.unit_walk.specs.Values.{value_under}
+use Rattle.unit_walk.specs.Contents.{values_in}
 use Rattle.unit_walk.specs.Leaving.{Does}
 use Rattle.unit_walk.proofs.StepLemmas.{if_ok, drop_lines, plain_next, plain_jumps}
 use Rattle.unit_walk.proofs.run.plain.Goals as goal
@@ -11,13 +11,13 @@ use Rattle.unit_walk.proofs.run.plain.Goals as goal
 pub returns-in-Next-clause-leads : goal.returns-in-Next-clause-leads
 returns-in-Next-clause-leads c =
     let code : List Line = lines_of c.args.plan.now.code.now in
-    let does : Does code c.args.statement.now.place (act_of c.args.kind.now) (value_under c.args.run.now.variables) c.args.run.now.records.items Next (value_under c.perform.new.variables) c.perform.new.records.items =
-    subst (λ (y : Exit). Does code c.args.statement.now.place (act_of c.args.kind.now) (value_under c.args.run.now.variables) c.args.run.now.records.items y (value_under c.perform.new.variables) c.perform.new.records.items) c.in-Next.is c.in_ok-perform.ensures.does in
-    if_ok _ _ c.next_line.result (λ lead leads. plain_next code c.args.statement.now.label c.args.index c.args.statement.now.place c.args.run.now.passes.items (act_of c.args.kind.now) (value_under c.args.run.now.variables) c.args.run.now.records.items (value_under c.perform.new.variables) c.perform.new.records.items lead (value_under c.next_line.new.run.variables) c.next_line.new.run.records.items does leads) c.next_line.ensures.leads
+    let does : Does code c.args.statement.now.place (act_of c.args.kind.now) (values_in c.args.run.now.places.cells) c.args.run.now.records.items Next (values_in c.perform.new.places.cells) c.perform.new.records.items =
+    subst (λ (y : Exit). Does code c.args.statement.now.place (act_of c.args.kind.now) (values_in c.args.run.now.places.cells) c.args.run.now.records.items y (values_in c.perform.new.places.cells) c.perform.new.records.items) c.in-Next.is c.in_ok-perform.ensures.does in
+    if_ok _ _ c.next_line.result (λ lead leads. plain_next code c.args.statement.now.label c.args.index c.args.statement.now.place c.args.run.now.passes.items (act_of c.args.kind.now) (values_in c.args.run.now.places.cells) c.args.run.now.records.items (values_in c.perform.new.places.cells) c.perform.new.records.items lead (values_in c.next_line.new.run.places.cells) c.next_line.new.run.records.items does leads) c.next_line.ensures.leads
 
 pub returns-in-To-clause-leads : goal.returns-in-To-clause-leads
 returns-in-To-clause-leads c =
     let code : List Line = lines_of c.args.plan.now.code.now in
-    let does : Does code c.args.statement.now.place (act_of c.args.kind.now) (value_under c.args.run.now.variables) c.args.run.now.records.items (To c.in-To.label) (value_under c.perform.new.variables) c.perform.new.records.items =
-    subst (λ (y : Exit). Does code c.args.statement.now.place (act_of c.args.kind.now) (value_under c.args.run.now.variables) c.args.run.now.records.items y (value_under c.perform.new.variables) c.perform.new.records.items) c.in-To.is c.in_ok-perform.ensures.does in
-    plain_jumps code c.args.statement.now.label c.args.index c.args.statement.now.place c.args.run.now.passes.items (act_of c.args.kind.now) (value_under c.args.run.now.variables) c.args.run.now.records.items (value_under c.perform.new.variables) c.perform.new.records.items c.in-To.label c.line_with.result does (drop_lines c.args.plan.now.code.now c.line_with.result ∙ c.line_with.ensures)
+    let does : Does code c.args.statement.now.place (act_of c.args.kind.now) (values_in c.args.run.now.places.cells) c.args.run.now.records.items (To c.in-To.label) (values_in c.perform.new.places.cells) c.perform.new.records.items =
+    subst (λ (y : Exit). Does code c.args.statement.now.place (act_of c.args.kind.now) (values_in c.args.run.now.places.cells) c.args.run.now.records.items y (values_in c.perform.new.places.cells) c.perform.new.records.items) c.in-To.is c.in_ok-perform.ensures.does in
+    plain_jumps code c.args.statement.now.label c.args.index c.args.statement.now.place c.args.run.now.passes.items (act_of c.args.kind.now) (values_in c.args.run.now.places.cells) c.args.run.now.records.items (values_in c.perform.new.places.cells) c.perform.new.records.items c.in-To.label c.line_with.result does (drop_lines c.args.plan.now.code.now c.line_with.result ∙ c.line_with.ensures)

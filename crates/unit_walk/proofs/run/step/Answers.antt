@@ -8,7 +8,7 @@ use Rattle.unit_walk.specs.declared.do_loop.Lead.TheVariants.{Over}
 use Rattle.unit_walk.specs.declared.run.Run.{Run}
 use Rattle.unit_walk.specs.Standing.{runs, performs}
 use Rattle.unit_walk.proofs.StepLemmas.{if_ok}
-use Rattle.unit_walk.proofs.RunLemmas.{started, begins, leads_as, stands_started, stops_at_limit, some_line, line_at, built_at}
+use Rattle.unit_walk.proofs.RunLemmas.{started, begins, leads_as, stands_started, stops_at_limit, some_line, line_at, walked_at}
 use Rattle.unit_walk.proofs.run.step.Goals as goal
 
 pub returns-then-run-plan-clause-leads : goal.returns-then-run-plan-clause-leads
@@ -23,12 +23,12 @@ returns-then-run-plan-clause-leads c w pr stands =
     (ap (λ (l : List Line). runs code w l pr) (line_at all c.args.index s c.requires.within here.1))
     (stops_at_limit code limit c.args.run.now w pr stands (line_of s) (drop (c.args.index + 1) code) (c.requires.executed s here.1) full)
 
-pub line-requires-clause-built : goal.line-requires-clause-built
-line-requires-clause-built c =
+pub line-requires-clause-walked : goal.line-requires-clause-walked
+line-requires-clause-walked c =
     let all : List Stmt = c.args.plan.now.code.now in
     let s : Stmt = get_or all c.args.index c.index-plan-index.result in
     let here : s ≡ get_or all c.args.index s = ap (λ (d : Stmt). get_or all c.args.index d) c.index-plan-index.is in
-    built_at (notes_of (lines_of all)) all c.args.index s c.requires.plan.built c.requires.within here
+    walked_at (notes_of (lines_of all)) all c.args.index s c.requires.plan.walked c.requires.within here
 
 pub returns-clause-leads : goal.returns-clause-leads
 returns-clause-leads c =
@@ -38,7 +38,7 @@ returns-clause-leads c =
     let s : Stmt = get_or all c.args.index c.index-plan-index.result in
     let here : s ≡ get_or all c.args.index s = ap (λ (d : Stmt). get_or all c.args.index d) c.index-plan-index.is in
     let run : Run = c.args.run.now in
-    let run1 : Run = record { variables = run.variables; passes = run.passes; records = run.records; begun = run.begun + 1 } in
+    let run1 : Run = record { places = run.places; passes = run.passes; records = run.records; begun = run.begun + 1 } in
     let m : ℕ = limit - run.begun - 1 in
     if_ok _ _ c.line.result (λ lead leads w pr stands.
     let left : w.left ≡ suc m = omega (arith, stands.left, c.requires.count, c.if-run-plan.false) in

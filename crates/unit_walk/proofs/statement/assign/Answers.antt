@@ -1,24 +1,18 @@
-use Rattle.std.proofs.Common.{rules, ◌≡◌, ℕ, List, true, refl}
-use Rattle.f66_tree.specs.Forms.{Formula, Variable}
-use Rattle.f66_tree.specs.Units.{notes_of}
-use Rattle.f66_tree.specs.Views.{formula_of}
-use Rattle.f66_tree.specs.Built.{is_variable}
-use Rattle.unit_walk.specs.Values.{value_under}
-use Rattle.unit_walk.proofs.StatementLemmas.{assigns, assign_fails}
+use Rattle.std.proofs.Common.{rules, sym, subst, List}
+use Rattle.f66_tree.specs.Forms.{Assigns, Line}
+use Rattle.f66_tree.specs.Views.{formula_of, lines_of}
+use Rattle.unit_walk.specs.declared.statement.RunEnd.{RunEnd}
+use Rattle.unit_walk.specs.declared.statement.Exit.TheVariants.{Ends}
+use Rattle.unit_walk.specs.Contents.{values_in}
+use Rattle.unit_walk.specs.Leaving.{Does}
+use Rattle.unit_walk.proofs.StatementLemmas.{assigns, assign_stuck}
 use Rattle.unit_walk.proofs.statement.assign.Goals as goal
 
-pub returns-in_ok-set-in-Ok-clause-does : goal.returns-in_ok-set-in-Ok-clause-does
-returns-in_ok-set-in-Ok-clause-does c records code are = record {
-  is = λ n run w holds. rw c.variable.ensures (assigns (notes_of code) are code n run (value_under c.args.variables.now) records c.args.place w holds (value_under c.set.new.variables) c.variable.result.now (formula_of c.args.right.now) c.in-Ok.value (search rules) c.requires.right (search rules));
-}
-
-variable_of : (e : Formula) → is_variable e ≡ true → (x : List ℕ) × (e ≡ Variable x)
-variable_of (Variable x) is = (x, refl)
-variable_of _ is = cc is
+pub returns-in_ok-store-in-Ok-clause-does : goal.returns-in_ok-store-in-Ok-clause-does
+returns-in_ok-store-in-Ok-clause-does c records =
+    assigns (lines_of c.args.plan.now.code.now) c.args.place (formula_of c.args.left.now) (formula_of c.args.right.now) (values_in c.args.places.now.cells) (values_in c.store.new.self.cells) records (c.in-Ok.target.name.now, c.in-Ok.target.offset, c.in-Ok.value) (search rules) (search rules)
 
 pub returns-in-Err-clause-does : goal.returns-in-Err-clause-does
-returns-in-Err-clause-does c records code are = record {
-  is = λ n run w holds.
-      let name = variable_of (formula_of c.args.left.now) c.requires.left in
-      rw (name.1) (assign_fails (notes_of code) are code n run (value_under c.args.variables.now) records c.args.place w holds name.0 (formula_of c.args.right.now) c.in-Err.trap c.requires.right (search rules));
-}
+returns-in-Err-clause-does c records =
+    subst (λ (e : RunEnd). Does (lines_of c.args.plan.now.code.now) c.args.place (Assigns (formula_of c.args.left.now) (formula_of c.args.right.now)) (values_in c.args.places.now.cells) records (Ends e) (values_in c.args.places.now.cells) records) (sym c.end_by.ensures)
+    (assign_stuck (lines_of c.args.plan.now.code.now) c.args.place (formula_of c.args.left.now) (formula_of c.args.right.now) (values_in c.args.places.now.cells) records c.in-Err.stuck (search rules))

@@ -1,15 +1,19 @@
-use Rattle.std.proofs.Common.{rules, Ok, Err}
-use Rattle.unit_walk.specs.Values.{value_under}
-use Rattle.unit_walk.proofs.StatementLemmas.{selects}
-use Rattle.f66_tree.specs.Units.{notes_of}
+use Rattle.std.proofs.Common.{ℕ, List, Result, sym, ◌∙◌, ap, subst}
+use Rattle.f66_tree.specs.Forms.{Selects, Line}
+use Rattle.f66_tree.specs.Views.{lines_of}
+use Rattle.unit_walk.specs.declared.stuck.Stuck.{Stuck}
+use Rattle.unit_walk.specs.declared.statement.Exit.{Exit}
+use Rattle.unit_walk.specs.Contents.{values_in}
+use Rattle.unit_walk.specs.Declarations.{context_of}
+use Rattle.unit_walk.specs.Steps.{selecting}
+use Rattle.unit_walk.specs.Leaving.{Does, jumped}
+use Rattle.unit_walk.proofs.StatementLemmas.{jumps, selects_is}
 use Rattle.unit_walk.proofs.statement.select.Goals as goal
 
-pub returns-in-Ok-chosen : goal.returns-in-Ok-chosen
-returns-in-Ok-chosen c records code are = record {
-  is = λ n run w holds. selects (notes_of code) are code n run (value_under c.args.variables.now) records c.args.place w holds c.args.labels.now c.args.index.now c.in-Ok.value (Ok c.in-Ok-chosen.label) (search rules) (search rules);
-}
-
-pub returns-in-Err-chosen : goal.returns-in-Err-chosen
-returns-in-Err-chosen c records code are = record {
-  is = λ n run w holds. selects (notes_of code) are code n run (value_under c.args.variables.now) records c.args.place w holds c.args.labels.now c.args.index.now c.in-Ok.value (Err c.in-Err-chosen.trap) (search rules) (search rules);
-}
+pub returns : goal.returns
+returns c records =
+    let code : List Line = lines_of c.args.plan.now.code.now in
+    subst (λ (y : Exit). Does code c.args.place (Selects c.args.labels.now c.args.index.now) (values_in c.args.places.now.cells) records y (values_in c.args.places.now.cells) records)
+    (sym (c.jump.ensures ∙ ap (λ (r : Result ℕ Stuck). jumped r c.args.place) c.selected.ensures))
+    (jumps code c.args.place (Selects c.args.labels.now c.args.index.now) (values_in c.args.places.now.cells) records (selecting (context_of code) (values_in c.args.places.now.cells) c.args.labels.now c.args.index.now)
+    (λ n run w holds. selects_is code n run (values_in c.args.places.now.cells) c.args.place w holds c.args.labels.now c.args.index.now))
