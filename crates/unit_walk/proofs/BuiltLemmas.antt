@@ -1,5 +1,6 @@
 -- A unit whose statements are built is one that is walked.
 use Rattle.std.proofs.Common.{◌≡◌, ℕ, ℤ, Bool, true, false, ◌&&◌, nat_eq, nat_le, List, [], ◌∷◌, refl, sym, ◌∙◌, ap, subst, if◌then◌else◌}
+use Rattle.std.proofs.lemmas.Bool.{and_parts, and_from}
 use Rattle.std.specs.Str.{bytes_eq}
 use Rattle.f66_tree.specs.declared.declaration.TypeWord.TheVariants.{Integer}
 use Rattle.f66_tree.specs.declared.expression.Operator.TheVariants.{And, Or}
@@ -9,17 +10,12 @@ use Rattle.f66_tree.specs.Units.{Note, is_note, notes_of, sizes_of, sizes_by, si
 use Rattle.f66_tree.specs.Built as built
 use Rattle.f66_tree.specs.Built.{is_arithmetic, is_relation, is_whole, is_condition, is_scalar, are_scalars, is_variable, is_printer, is_one_variable, is_one_field_of, is_built, are_built, is_built_unit}
 use Rattle.unit_walk.specs.Walked.{is_formula, is_item, is_one_item, are_dimensions, are_declared, is_plain, is_walked, are_walked, is_walked_unit}
-use Rattle.unit_walk.proofs.Conjunctions.{both_first, both_second}
-
-both : (a b : Bool) → a ≡ true → b ≡ true → a && b ≡ true
-both true b p q = q
-both false b p q = cc p
 
 -- ---- no name has dimensions ----
 
 no_sizes : (x : Text) (ds : List Declared) (others : List Par) → are_scalars ds ≡ true → sizes_in x ds others ≡ others
 no_sizes x [] others are = refl
-no_sizes x (d ∷ ds) others are = by_test (bytes_eq x d.name) d.sizes (both_first (is_scalar d.sizes) (are_scalars ds) are) (no_sizes x ds others (both_second (is_scalar d.sizes) (are_scalars ds) are))
+no_sizes x (d ∷ ds) others are = by_test (bytes_eq x d.name) d.sizes (and_parts (is_scalar d.sizes) (are_scalars ds) are).0 (no_sizes x ds others (and_parts (is_scalar d.sizes) (are_scalars ds) are).1)
   where
     by_test : (b : Bool) (sizes : List Par) → is_scalar sizes ≡ true → sizes_in x ds others ≡ others → (if b then if_any sizes (sizes_in x ds others) else sizes_in x ds others) ≡ others
     by_test true [] is rest = rest
@@ -35,10 +31,10 @@ act_sizes notes x _ is others = refl
 
 pub built_sizes : (notes : List Note) (lines : List Line) → are_built notes lines ≡ true → (x : Text) → sizes_of x (notes_of lines) ≡ []
 built_sizes notes [] are x = refl
-built_sizes notes (s ∷ rest) are x = by_test (is_note s.act) (built_sizes notes rest (both_second (is_built notes s.act) (are_built notes rest) are) x)
+built_sizes notes (s ∷ rest) are x = by_test (is_note s.act) (built_sizes notes rest (and_parts (is_built notes s.act) (are_built notes rest) are).1 x)
   where
     by_test : (b : Bool) → sizes_of x (notes_of rest) ≡ [] → sizes_of x (if b then (record { label = s.label; act = s.act } ∷ notes_of rest) else notes_of rest) ≡ []
-    by_test true others = act_sizes notes x s.act (both_first (is_built notes s.act) (are_built notes rest) are) (sizes_of x (notes_of rest)) ∙ others
+    by_test true others = act_sizes notes x s.act (and_parts (is_built notes s.act) (are_built notes rest) are).0 (sizes_of x (notes_of rest)) ∙ others
     by_test false others = others
 
 -- ---- expressions ----
@@ -50,8 +46,8 @@ whole_walked notes (Grouped a) is = whole_walked notes a is
 whole_walked notes (Positive a) is = whole_walked notes a is
 whole_walked notes (Negative a) is = whole_walked notes a is
 whole_walked notes (Joined op a b) is =
-    let parts : is_whole a && is_whole b ≡ true = both_second (is_arithmetic op) (is_whole a && is_whole b) is in
-    both (is_formula notes a) (is_formula notes b) (whole_walked notes a (both_first (is_whole a) (is_whole b) parts)) (whole_walked notes b (both_second (is_whole a) (is_whole b) parts))
+    let parts : is_whole a && is_whole b ≡ true = (and_parts (is_arithmetic op) (is_whole a && is_whole b) is).1 in
+    and_from (is_formula notes a) (is_formula notes b) (whole_walked notes a (and_parts (is_whole a) (is_whole b) parts).0) (whole_walked notes b (and_parts (is_whole a) (is_whole b) parts).1)
 whole_walked notes (Fact b) is = cc is
 whole_walked notes (Letter l) is = cc is
 whole_walked notes (Applied x es) is = cc is
@@ -59,14 +55,14 @@ whole_walked notes (Negated a) is = cc is
 
 related_walked : (notes : List Note) (op : Operator) (a b : Formula) → is_relation op && (is_whole a && is_whole b) ≡ true → is_formula notes (Joined op a b) ≡ true
 related_walked notes op a b is =
-    let parts : is_whole a && is_whole b ≡ true = both_second (is_relation op) (is_whole a && is_whole b) is in
-    both (is_formula notes a) (is_formula notes b) (whole_walked notes a (both_first (is_whole a) (is_whole b) parts)) (whole_walked notes b (both_second (is_whole a) (is_whole b) parts))
+    let parts : is_whole a && is_whole b ≡ true = (and_parts (is_relation op) (is_whole a && is_whole b) is).1 in
+    and_from (is_formula notes a) (is_formula notes b) (whole_walked notes a (and_parts (is_whole a) (is_whole b) parts).0) (whole_walked notes b (and_parts (is_whole a) (is_whole b) parts).1)
 
 condition_walked : (notes : List Note) (e : Formula) → is_condition e ≡ true → is_formula notes e ≡ true
 condition_walked notes (Grouped a) is = condition_walked notes a is
 condition_walked notes (Negated a) is = condition_walked notes a is
-condition_walked notes (Joined And a b) is = both (is_formula notes a) (is_formula notes b) (condition_walked notes a (both_first (is_condition a) (is_condition b) is)) (condition_walked notes b (both_second (is_condition a) (is_condition b) is))
-condition_walked notes (Joined Or a b) is = both (is_formula notes a) (is_formula notes b) (condition_walked notes a (both_first (is_condition a) (is_condition b) is)) (condition_walked notes b (both_second (is_condition a) (is_condition b) is))
+condition_walked notes (Joined And a b) is = and_from (is_formula notes a) (is_formula notes b) (condition_walked notes a (and_parts (is_condition a) (is_condition b) is).0) (condition_walked notes b (and_parts (is_condition a) (is_condition b) is).1)
+condition_walked notes (Joined Or a b) is = and_from (is_formula notes a) (is_formula notes b) (condition_walked notes a (and_parts (is_condition a) (is_condition b) is).0) (condition_walked notes b (and_parts (is_condition a) (is_condition b) is).1)
 condition_walked notes (Joined op a b) is = related_walked notes op a b is
 condition_walked notes (Number z) is = cc is
 condition_walked notes (Variable x) is = cc is
@@ -88,7 +84,7 @@ item_walked notes none _ is = cc is
 
 scalars_walked : (ds : List Declared) → are_scalars ds ≡ true → are_declared ds ≡ true
 scalars_walked [] are = refl
-scalars_walked (d ∷ ds) are = both (are_dimensions d.sizes) (are_declared ds) (by_sizes d.sizes (both_first (is_scalar d.sizes) (are_scalars ds) are)) (scalars_walked ds (both_second (is_scalar d.sizes) (are_scalars ds) are))
+scalars_walked (d ∷ ds) are = and_from (are_dimensions d.sizes) (are_declared ds) (by_sizes d.sizes (and_parts (is_scalar d.sizes) (are_scalars ds) are).0) (scalars_walked ds (and_parts (is_scalar d.sizes) (are_scalars ds) are).1)
   where
     by_sizes : (ns : List Par) → is_scalar ns ≡ true → are_dimensions ns ≡ true
     by_sizes [] is = refl
@@ -96,20 +92,20 @@ scalars_walked (d ∷ ds) are = both (are_dimensions d.sizes) (are_declared ds) 
 
 module _ (notes : List Note) (none : (x : Text) → sizes_of x notes ≡ []) where
   plain_walked : (a : Act) → built.is_plain notes a ≡ true → is_plain notes a ≡ true
-  plain_walked (Assigns x e) is = both (is_formula notes x) (is_formula notes e) (variable_walked notes x (both_first (is_variable x) (is_whole e) is)) (whole_walked notes e (both_second (is_variable x) (is_whole e) is))
+  plain_walked (Assigns x e) is = and_from (is_formula notes x) (is_formula notes e) (variable_walked notes x (and_parts (is_variable x) (is_whole e) is).0) (whole_walked notes e (and_parts (is_variable x) (is_whole e) is).1)
   plain_walked (Goes l) is = refl
   plain_walked (Selects ls x) is = refl
   plain_walked Passes is = refl
   plain_walked (Stops n) is = refl
   plain_walked (Writes u l es) is =
-      let parts : is_one_variable es && is_one_field_of (format_of l notes) ≡ true = both_second (is_printer u) (is_one_variable es && is_one_field_of (format_of l notes)) is in
-      both (is_printer u) (is_one_item notes es) (both_first (is_printer u) (is_one_variable es && is_one_field_of (format_of l notes)) is) (item_walked notes none es (both_first (is_one_variable es) (is_one_field_of (format_of l notes)) parts))
+      let parts : is_one_variable es && is_one_field_of (format_of l notes) ≡ true = (and_parts (is_printer u) (is_one_variable es && is_one_field_of (format_of l notes)) is).1 in
+      and_from (is_printer u) (is_one_item notes es) (and_parts (is_printer u) (is_one_variable es && is_one_field_of (format_of l notes)) is).0 (item_walked notes none es (and_parts (is_one_variable es) (is_one_field_of (format_of l notes)) parts).0)
   plain_walked (Formats f) is = is
   plain_walked (Types Integer ds) is = scalars_walked ds is
   plain_walked _ is = cc is
 
   act_walked : (a : Act) → is_built notes a ≡ true → is_walked notes a ≡ true
-  act_walked (Chooses e a) is = both (is_formula notes e) (is_plain notes a) (condition_walked notes e (both_first (is_condition e) (built.is_plain notes a) is)) (plain_walked a (both_second (is_condition e) (built.is_plain notes a) is))
+  act_walked (Chooses e a) is = and_from (is_formula notes e) (is_plain notes a) (condition_walked notes e (and_parts (is_condition e) (built.is_plain notes a) is).0) (plain_walked a (and_parts (is_condition e) (built.is_plain notes a) is).1)
   act_walked (Loops l x a b c) is = is
   act_walked (Assigns x e) is = plain_walked (Assigns x e) is
   act_walked (Goes l) is = refl
@@ -123,7 +119,7 @@ module _ (notes : List Note) (none : (x : Text) → sizes_of x notes ≡ []) whe
 
   lines_walked : (lines : List Line) → are_built notes lines ≡ true → are_walked notes lines ≡ true
   lines_walked [] are = refl
-  lines_walked (s ∷ rest) are = both (is_walked notes s.act) (are_walked notes rest) (act_walked s.act (both_first (is_built notes s.act) (are_built notes rest) are)) (lines_walked rest (both_second (is_built notes s.act) (are_built notes rest) are))
+  lines_walked (s ∷ rest) are = and_from (is_walked notes s.act) (are_walked notes rest) (act_walked s.act (and_parts (is_built notes s.act) (are_built notes rest) are).0) (lines_walked rest (and_parts (is_built notes s.act) (are_built notes rest) are).1)
 
 pub built_is_walked : (code : List Line) → is_built_unit code ≡ true → is_walked_unit code ≡ true
 built_is_walked code is = lines_walked (notes_of code) (built_sizes (notes_of code) code is) code is

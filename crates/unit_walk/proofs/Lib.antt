@@ -1,4 +1,3 @@
-mod Conjunctions
 mod Spots
 mod ContentLemmas
 mod ComesLemmas

@@ -1,5 +1,6 @@
 -- What names are declared to be, by the tables of a unit.
 use Rattle.std.proofs.Common.{◌≡◌, ℕ, Bool, true, false, ◌&&◌, nat_le, nat_eq, List, [], ◌∷◌, map, Option, Some, None, refl, sym, ◌∙◌, ap, if◌then◌else◌}
+use Rattle.std.proofs.lemmas.Bool.{and_parts}
 use Rattle.std.specs.Option.{option_or}
 use Rattle.std.specs.Str.{bytes_eq}
 use Rattle.std.specs.HashMap.{HashMap, get_by}
@@ -14,7 +15,6 @@ use Rattle.f66_tree.specs.Units.{Note, is_note, notes_of, kind_by, kind_of, by_l
 use Rattle.f66_tree.specs.Views.{par_of}
 use Rattle.unit_walk.specs.Declarations.{in_main, type_by, first_type, some_sizes, first_sizes_in, sizes_by, first_sizes, sizes_under, kind_from, sizes_at, AreTypes, AreSizes}
 use Rattle.unit_walk.specs.Walked.{are_dimensions, are_declared, is_walked, are_walked}
-use Rattle.unit_walk.proofs.Conjunctions.{both_first, both_second}
 
 -- ---- types ----
 
@@ -96,16 +96,16 @@ sizes_named notes sizes none are x = at_under (get_by (λ k. bytes_eq x k.now) s
 
 pub no_commons : (notes : List Note) (lines : List Line) → are_walked notes lines ≡ true → NoCommons (notes_of lines)
 no_commons notes [] walked = tt
-no_commons notes (s ∷ rest) walked = by_test (is_note s.act) (no_commons notes rest (both_second (is_walked notes s.act) (are_walked notes rest) walked))
+no_commons notes (s ∷ rest) walked = by_test (is_note s.act) (no_commons notes rest (and_parts (is_walked notes s.act) (are_walked notes rest) walked).1)
   where
     by_test : (b : Bool) → NoCommons (notes_of rest) → NoCommons (if b then (record { label = s.label; act = s.act } ∷ notes_of rest) else notes_of rest)
-    by_test true others = (plain_sizes notes s.act (both_first (is_walked notes s.act) (are_walked notes rest) walked), others)
+    by_test true others = (plain_sizes notes s.act (and_parts (is_walked notes s.act) (are_walked notes rest) walked).0, others)
     by_test false others = others
 
 -- dimensions are as those of walked units
 in_list_fits : (x : Text) (ds : List Declared) (others : List Par) → are_declared ds ≡ true → are_dimensions others ≡ true → are_dimensions (sizes_in x ds others) ≡ true
 in_list_fits x [] others are fit = fit
-in_list_fits x (d ∷ ds) others are fit = by_test (bytes_eq x d.name) d.sizes (both_first (are_dimensions d.sizes) (are_declared ds) are) (in_list_fits x ds others (both_second (are_dimensions d.sizes) (are_declared ds) are) fit)
+in_list_fits x (d ∷ ds) others are fit = by_test (bytes_eq x d.name) d.sizes (and_parts (are_dimensions d.sizes) (are_declared ds) are).0 (in_list_fits x ds others (and_parts (are_dimensions d.sizes) (are_declared ds) are).1 fit)
   where
     by_test : (b : Bool) (ns : List Par) → are_dimensions ns ≡ true → are_dimensions (sizes_in x ds others) ≡ true → are_dimensions (if b then if_any ns (sizes_in x ds others) else sizes_in x ds others) ≡ true
     by_test true [] here rest = rest
@@ -114,7 +114,7 @@ in_list_fits x (d ∷ ds) others are fit = by_test (bytes_eq x d.name) d.sizes (
 
 pub sizes_fit : (notes : List Note) (lines : List Line) → are_walked notes lines ≡ true → (x : Text) → are_dimensions (sizes_of x (notes_of lines)) ≡ true
 sizes_fit notes [] walked x = refl
-sizes_fit notes (s ∷ rest) walked x = by_test (is_note s.act) (sizes_fit notes rest (both_second (is_walked notes s.act) (are_walked notes rest) walked) x)
+sizes_fit notes (s ∷ rest) walked x = by_test (is_note s.act) (sizes_fit notes rest (and_parts (is_walked notes s.act) (are_walked notes rest) walked).1 x)
   where
     by_act : (a : Act) → is_walked notes a ≡ true → (others : List Par) → are_dimensions others ≡ true → are_dimensions (sizes_given x a others) ≡ true
     by_act (Types t ds) is others fit = in_list_fits x ds others is fit
@@ -123,5 +123,5 @@ sizes_fit notes (s ∷ rest) walked x = by_test (is_note s.act) (sizes_fit notes
     by_act _ is others fit = fit
 
     by_test : (b : Bool) → are_dimensions (sizes_of x (notes_of rest)) ≡ true → are_dimensions (sizes_of x (if b then (record { label = s.label; act = s.act } ∷ notes_of rest) else notes_of rest)) ≡ true
-    by_test true others = by_act s.act (both_first (is_walked notes s.act) (are_walked notes rest) walked) (sizes_of x (notes_of rest)) others
+    by_test true others = by_act s.act (and_parts (is_walked notes s.act) (are_walked notes rest) walked).0 (sizes_of x (notes_of rest)) others
     by_test false others = others

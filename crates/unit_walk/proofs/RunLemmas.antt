@@ -1,5 +1,6 @@
 -- A run, statement by statement.
 use Rattle.std.proofs.Common.{◌≡◌, ℕ, zero, suc, ◌+◌, ◌<◌, Bool, true, false, List, [], ◌∷◌, drop, length, get_or, set, get_or-set_same, get_or-set_other, length-drop, eq-eqb, ◌≢◌, nat_eq, Option, Result, Ok, Err, refl, sym, ◌∙◌, ap, subst, arith, if◌then◌else◌}
+use Rattle.std.proofs.lemmas.Bool.{and_parts}
 use Rattle.std.proofs.lemmas.Bool.Decides.{nat_tests}
 use Rattle.std.proofs.lemmas.List.{drop_more}
 use Rattle.std.specs.Prelude.{⊤}
@@ -28,7 +29,6 @@ use Rattle.unit_walk.specs.Walking.{HoldsValues, main_at, around_main}
 use Rattle.unit_walk.specs.Loops.{loop_of, begun_with, Begins}
 use Rattle.unit_walk.specs.Running.{LoopsAre, Part, led_to, Leads}
 use Rattle.unit_walk.specs.Standing.{plainly, runs, performs, Stands, led, LeadsTo}
-use Rattle.unit_walk.proofs.Conjunctions.{both_first, both_second}
 use Rattle.unit_walk.proofs.StatementLemmas.{condition_is}
 use Rattle.unit_walk.proofs.StepLemmas.{drop_lines}
 
@@ -201,8 +201,8 @@ line_at all i s within is =
 
 pub walked_at : (notes : List Note) (all : List Stmt) (i : ℕ) (s : Stmt) → are_walked notes (lines_of all) ≡ true → i < length all → s ≡ get_or all i s → is_walked notes (act_of s.kind) ≡ true
 walked_at notes [] i s walked within is = absurd (omega (arith, within))
-walked_at notes (x ∷ all) zero s walked within is = ap (λ (y : Stmt). is_walked notes (act_of y.kind)) is ∙ both_first (is_walked notes (act_of x.kind)) (are_walked notes (lines_of all)) walked
-walked_at notes (x ∷ all) (suc i) s walked within is = walked_at notes all i s (both_second (is_walked notes (act_of x.kind)) (are_walked notes (lines_of all)) walked) (omega (arith, within)) is
+walked_at notes (x ∷ all) zero s walked within is = ap (λ (y : Stmt). is_walked notes (act_of y.kind)) is ∙ (and_parts (is_walked notes (act_of x.kind)) (are_walked notes (lines_of all)) walked).0
+walked_at notes (x ∷ all) (suc i) s walked within is = walked_at notes all i s (and_parts (is_walked notes (act_of x.kind)) (are_walked notes (lines_of all)) walked).1 (omega (arith, within)) is
 
 -- no further statement may begin
 pub stops_at_limit : (code : List Line) (limit : ℕ) (run : Run) (w : World) (pr : Progress) → Stands code limit run w pr → (line : Line) (rest : List Line) → is_note line.act ≡ false → run.begun ≡ limit → LeadsTo code limit (runs code w (line ∷ rest) pr) (Over ends.GoesOn) run

@@ -1,5 +1,6 @@
 -- The shapes of the parts of walked units.
 use Rattle.std.proofs.Common.{◌≡◌, ℕ, zero, suc, ◌+◌, ◌<◌, ◌≤◌, length, map, true, false, Bool, if◌then◌else◌, ◌&&◌, List, [], ◌∷◌, ◌++◌, take, drop, set, get_or, Vec, Global, Result, Ok, Err, refl, sym, ◌∙◌, ap, subst, append_assoc, arith}
+use Rattle.std.proofs.lemmas.Bool.{and_parts}
 use Rattle.std.proofs.Math.Seq.{take-suc-set}
 use Rattle.std.specs.Prelude.{nat_le}
 use Rattle.std.specs.Str.{bytes_eq}
@@ -31,7 +32,6 @@ use Rattle.unit_walk.specs.Meaning.{value, values_of, par_value, par_values}
 use Rattle.unit_walk.specs.Sorts.{meant, takes_few}
 use Rattle.unit_walk.specs.Steps.{is_one_entry, element}
 use Rattle.unit_walk.specs.Walked.{are_few, is_count, is_formula, are_formulas, are_pars, are_dimensions}
-use Rattle.unit_walk.proofs.Conjunctions.{both_first, both_second}
 
 -- ---- names with arguments ----
 
@@ -63,7 +63,7 @@ few_length (a ∷ b ∷ d ∷ e ∷ rest) is = cc is
 pub few_arguments : (notes : List Note) (x : Text) (list : List Expr) (g : Intrinsic) → sizes_of x notes ≡ [] → takes_few g ≡ true → known intrinsics x ≡ AnIntrinsic (meant g)
     → is_count (array_or (sizes_of x notes) x) (formulas_of list) && are_formulas notes (formulas_of list) ≡ true → length list ≤ 3
 few_arguments notes x list g none few is walked =
-    let count : is_count (array_or (sizes_of x notes) x) (formulas_of list) ≡ true = both_first (is_count (array_or (sizes_of x notes) x) (formulas_of list)) (are_formulas notes (formulas_of list)) walked in
+    let count : is_count (array_or (sizes_of x notes) x) (formulas_of list) ≡ true = (and_parts (is_count (array_or (sizes_of x notes) x) (formulas_of list)) (are_formulas notes (formulas_of list)) walked).0 in
     let plain : is_count (known intrinsics x) (formulas_of list) ≡ true = subst (λ (ns : List forms.Par). is_count (array_or ns x) (formulas_of list) ≡ true) none count in
     few_length list (function_few g (formulas_of list) few (subst (λ (s : Sort). is_count s (formulas_of list) ≡ true) is plain))
 
@@ -71,21 +71,21 @@ few_arguments notes x list g none few is walked =
 
 pub par_at : (all : List Par) (i : ℕ) (p : Par) → are_pars (map par_of all) ≡ true → i < length all → p ≡ get_or all i p → is_par (par_of p) ≡ true
 par_at [] i p are within is = absurd (omega arith)
-par_at (n ∷ all) zero p are within is = ap (λ (q : Par). is_par (par_of q)) is ∙ both_first (is_par (par_of n)) (are_pars (map par_of all)) are
-par_at (n ∷ all) (suc i) p are within is = par_at all i p (both_second (is_par (par_of n)) (are_pars (map par_of all)) are) (omega (arith, within)) is
+par_at (n ∷ all) zero p are within is = ap (λ (q : Par). is_par (par_of q)) is ∙ (and_parts (is_par (par_of n)) (are_pars (map par_of all)) are).0
+par_at (n ∷ all) (suc i) p are within is = par_at all i p (and_parts (is_par (par_of n)) (are_pars (map par_of all)) are).1 (omega (arith, within)) is
 
 pub pars_behind : (all : List Par) (i : ℕ) (p : Par) → i < length all → are_pars (map par_of (drop i all)) ≡ true → are_pars (map par_of (drop (i + 1) all)) ≡ true
 pars_behind all i p within are =
-    both_second (is_par (par_of (get_or all i p))) (are_pars (map par_of (drop (i + 1) all))) (subst (λ (l : List Par). are_pars (map par_of l) ≡ true) (drop_more all i p within) are)
+    (and_parts (is_par (par_of (get_or all i p))) (are_pars (map par_of (drop (i + 1) all))) (subst (λ (l : List Par). are_pars (map par_of l) ≡ true) (drop_more all i p within) are)).1
 
 pub formulas_behind : (notes : List Note) (all : List Expr) (i : ℕ) (e : Expr) → i < length all → are_formulas notes (formulas_of (drop i all)) ≡ true → are_formulas notes (formulas_of (drop (i + 1) all)) ≡ true
 formulas_behind notes all i e within are =
-    both_second (is_formula notes (formula_of (get_or all i e))) (are_formulas notes (formulas_of (drop (i + 1) all))) (subst (λ (l : List Expr). are_formulas notes (formulas_of l) ≡ true) (drop_more all i e within) are)
+    (and_parts (is_formula notes (formula_of (get_or all i e))) (are_formulas notes (formulas_of (drop (i + 1) all))) (subst (λ (l : List Expr). are_formulas notes (formulas_of l) ≡ true) (drop_more all i e within) are)).1
 
 pub formula_at : (notes : List Note) (all : List Expr) (i : ℕ) (e : Expr) → i < length all → e ≡ get_or all i e → are_formulas notes (formulas_of (drop i all)) ≡ true → is_formula notes (formula_of e) ≡ true
 formula_at notes all i e within here are =
     subst (λ (x : Expr). is_formula notes (formula_of x) ≡ true) (sym here)
-    (both_first (is_formula notes (formula_of (get_or all i e))) (are_formulas notes (formulas_of (drop (i + 1) all))) (subst (λ (l : List Expr). are_formulas notes (formulas_of l) ≡ true) (drop_more all i e within) are))
+    (and_parts (is_formula notes (formula_of (get_or all i e))) (are_formulas notes (formulas_of (drop (i + 1) all))) (subst (λ (l : List Expr). are_formulas notes (formulas_of l) ≡ true) (drop_more all i e within) are)).0
 
 -- one more value is kept
 kept_more : (rest : Result (List Value) Stuck) (i : ℕ) (kept : List Value) (v : Value) → i < length kept
@@ -155,7 +155,7 @@ one_entry (a ∷ b ∷ rest) x one is = absurd (two_entries (entry_of a) (entry_
 -- an element of an array that a unit declares
 pub array_arguments : (notes : List Note) (x : Text) (list : List Expr) (sizes : List Par) → 0 < length sizes → map par_of sizes ≡ sizes_of x notes → is_formula notes (Applied x (formulas_of list)) ≡ true → length list ≤ 3
 array_arguments notes x list sizes full same walked =
-    let count : is_count (array_or (sizes_of x notes) x) (formulas_of list) ≡ true = both_first (is_count (array_or (sizes_of x notes) x) (formulas_of list)) (are_formulas notes (formulas_of list)) walked in
+    let count : is_count (array_or (sizes_of x notes) x) (formulas_of list) ≡ true = (and_parts (is_count (array_or (sizes_of x notes) x) (formulas_of list)) (are_formulas notes (formulas_of list)) walked).0 in
     few_length list (array_few sizes x (formulas_of list) full (subst (λ (ns : List forms.Par). is_count (array_or ns x) (formulas_of list) ≡ true) (sym same) count))
 
 pub record Fits (sizes : List Par) : Type 0 where
@@ -165,11 +165,11 @@ pub record Fits (sizes : List Par) : Type 0 where
 
 pub dimensions_fit : (sizes : List Par) → are_dimensions (map par_of sizes) ≡ true → Fits sizes
 dimensions_fit sizes fit =
-    let bounds : nat_le (length (map par_of sizes)) 3 && nat_le (places_of (map par_of sizes)) 32767 ≡ true = both_second (are_pars (map par_of sizes)) (nat_le (length (map par_of sizes)) 3 && nat_le (places_of (map par_of sizes)) 32767) fit in
-    let short : nat_le (length (map par_of sizes)) 3 ≡ true = both_first (nat_le (length (map par_of sizes)) 3) (nat_le (places_of (map par_of sizes)) 32767) bounds in
-    let small : nat_le (places_of (map par_of sizes)) 32767 ≡ true = both_second (nat_le (length (map par_of sizes)) 3) (nat_le (places_of (map par_of sizes)) 32767) bounds in
+    let bounds : nat_le (length (map par_of sizes)) 3 && nat_le (places_of (map par_of sizes)) 32767 ≡ true = (and_parts (are_pars (map par_of sizes)) (nat_le (length (map par_of sizes)) 3 && nat_le (places_of (map par_of sizes)) 32767) fit).1 in
+    let short : nat_le (length (map par_of sizes)) 3 ≡ true = (and_parts (nat_le (length (map par_of sizes)) 3) (nat_le (places_of (map par_of sizes)) 32767) bounds).0 in
+    let small : nat_le (places_of (map par_of sizes)) 32767 ≡ true = (and_parts (nat_le (length (map par_of sizes)) 3) (nat_le (places_of (map par_of sizes)) 32767) bounds).1 in
     let long : length (map par_of sizes) ≡ length sizes = length-map sizes par_of in
-    record { pars = both_first (are_pars (map par_of sizes)) (nat_le (length (map par_of sizes)) 3 && nat_le (places_of (map par_of sizes)) 32767) fit; few = grind (arith, nat_tests); places = grind (arith, nat_tests) }
+    record { pars = (and_parts (are_pars (map par_of sizes)) (nat_le (length (map par_of sizes)) 3 && nat_le (places_of (map par_of sizes)) 32767) fit).0; few = grind (arith, nat_tests); places = grind (arith, nat_tests) }
 
 known_is : (table : List (Text × meaning.Intrinsic)) (x : Text) (ns : List forms.Par) → known table x ≡ AnArray ns → ⊥
 known_is [] x ns is = cc is

@@ -1,4 +1,5 @@
 use Rattle.std.proofs.Common.{rules, ◌≡◌, ◌<◌, ◌≤◌, true, Ok, List, length, map, get_or, length-set, ap, sym, subst, ◌∙◌, arith}
+use Rattle.std.proofs.lemmas.Bool.{and_parts}
 use Rattle.std.proofs.lemmas.Bool.Decides.{nat_tests}
 use Rattle.std.proofs.lemmas.Grind.{common_steps}
 use Rattle.std.proofs.lemmas.List.{length-map}
@@ -13,7 +14,6 @@ use Rattle.unit_walk.specs.Contents.{values_in, IsSmall}
 use Rattle.unit_walk.specs.Meaning.{value}
 use Rattle.unit_walk.specs.Declarations.{context_of}
 use Rattle.unit_walk.specs.Walked.{is_count, are_formulas, are_pars, are_dimensions, are_few}
-use Rattle.unit_walk.proofs.Conjunctions.{both_first, both_second}
 use Rattle.unit_walk.proofs.NameLemmas.{sizes_fit}
 use Rattle.unit_walk.proofs.Sizes.{formula_size, member_size}
 use Rattle.unit_walk.proofs.ShapeLemmas.{item_is, walked_item, formula_at, array_few, few_arguments, few_length, formulas_behind, arguments_more}
@@ -47,16 +47,16 @@ applied-element-requires t c =
     let full : 0 < length c.sizes_of-sizes.result.now = search rules in
     let count : is_count (array_or (map par_of c.sizes_of-sizes.result.now) c.args.name.now) (formulas_of c.args.list.now) ≡ true =
     subst (λ (ns : List Par). is_count (array_or ns c.args.name.now) (formulas_of c.args.list.now) ≡ true) (sym same)
-    (both_first (is_count (array_or (sizes_of c.args.name.now notes) c.args.name.now) (formulas_of c.args.list.now)) (are_formulas notes (formulas_of c.args.list.now)) c.requires.walked) in
-    let bounds : nat_le (length (map par_of c.sizes_of-sizes.result.now)) 3 && nat_le (places_of (map par_of c.sizes_of-sizes.result.now)) 32767 ≡ true = both_second (are_pars (map par_of c.sizes_of-sizes.result.now)) _ fit in
-    let short : nat_le (length (map par_of c.sizes_of-sizes.result.now)) 3 ≡ true = both_first _ _ bounds in
-    let small : nat_le (places_of (map par_of c.sizes_of-sizes.result.now)) 32767 ≡ true = both_second _ _ bounds in
-    (search rules, (c.requires.plan, (both_second (is_count (array_or (sizes_of c.args.name.now notes) c.args.name.now) (formulas_of c.args.list.now)) (are_formulas notes (formulas_of c.args.list.now)) c.requires.walked, (few_length c.args.list.now (array_few c.sizes_of-sizes.result.now c.args.name.now (formulas_of c.args.list.now) full count), (both_first (are_pars (map par_of c.sizes_of-sizes.result.now)) _ fit, ((let long : length (map par_of c.sizes_of-sizes.result.now) ≡ length c.sizes_of-sizes.result.now = length-map c.sizes_of-sizes.result.now par_of in grind (arith, nat_tests)), (grind (arith, nat_tests), c.requires.range)))))))
+    (and_parts (is_count (array_or (sizes_of c.args.name.now notes) c.args.name.now) (formulas_of c.args.list.now)) (are_formulas notes (formulas_of c.args.list.now)) c.requires.walked).0 in
+    let bounds : nat_le (length (map par_of c.sizes_of-sizes.result.now)) 3 && nat_le (places_of (map par_of c.sizes_of-sizes.result.now)) 32767 ≡ true = (and_parts (are_pars (map par_of c.sizes_of-sizes.result.now)) _ fit).1 in
+    let short : nat_le (length (map par_of c.sizes_of-sizes.result.now)) 3 ≡ true = (and_parts _ _ bounds).0 in
+    let small : nat_le (places_of (map par_of c.sizes_of-sizes.result.now)) 32767 ≡ true = (and_parts _ _ bounds).1 in
+    (search rules, (c.requires.plan, ((and_parts (is_count (array_or (sizes_of c.args.name.now notes) c.args.name.now) (formulas_of c.args.list.now)) (are_formulas notes (formulas_of c.args.list.now)) c.requires.walked).1, (few_length c.args.list.now (array_few c.sizes_of-sizes.result.now c.args.name.now (formulas_of c.args.list.now) full count), ((and_parts (are_pars (map par_of c.sizes_of-sizes.result.now)) _ fit).0, ((let long : length (map par_of c.sizes_of-sizes.result.now) ≡ length c.sizes_of-sizes.result.now = length-map c.sizes_of-sizes.result.now par_of in grind (arith, nat_tests)), (grind (arith, nat_tests), c.requires.range)))))))
 
 pub refer-arguments-requires : goal.refer-arguments-requires
 refer-arguments-requires t c =
     let notes : List Note = notes_of (lines_of c.args.plan.now.code.now) in
-    (search rules, (c.requires.plan, (both_second (is_count (array_or (sizes_of c.args.name.now notes) c.args.name.now) (formulas_of c.args.list.now)) (are_formulas notes (formulas_of c.args.list.now)) c.requires.walked, (few_arguments notes c.args.name.now c.args.list.now c.in-Some.intrinsic c.requires.none (search rules) c.in-Some.ensures c.requires.walked, (c.requires.range, search rules)))))
+    (search rules, (c.requires.plan, ((and_parts (is_count (array_or (sizes_of c.args.name.now notes) c.args.name.now) (formulas_of c.args.list.now)) (are_formulas notes (formulas_of c.args.list.now)) c.requires.walked).1, (few_arguments notes c.args.name.now c.args.list.now c.in-Some.intrinsic c.requires.none (search rules) c.in-Some.ensures c.requires.walked, (c.requires.range, search rules)))))
 
 pub arguments-loop-index-preserved : goal.arguments-loop-index-preserved
 arguments-loop-index-preserved t c =
