@@ -102,8 +102,8 @@ formats_there lines _ h = refl
 
 -- ---- the law ----
 
-sound_main : (u : Routine) → IsSound u → (h : Header) → u.header ≡ h → is_main h ≡ true → unbuilt_line (context_of u) u.lines ≡ None → IsSoundMain (context_by MainUnit (acts_of u.lines)) u.lines
-sound_main u sound h is main none =
+main_by : (u : Routine) → IsSound u → (h : Header) → u.header ≡ h → is_main h ≡ true → unbuilt_line (context_of u) u.lines ≡ None → IsSoundMain (context_by MainUnit (acts_of u.lines)) u.lines
+main_by u sound h is main none =
     subst (λ x. IsSoundMain (context_by x (acts_of u.lines)) u.lines) (is ∙ main_only h main) record {
       built = each_built (context_of u) u.lines none;
       clean = λ i a e k. let p = line_at u.lines i a e in subst (λ b. breaks_name (context_of u) (acts_of u.lines) i b k ≡ false) p.2 (clean_line u sound i p.0 k p.1).1;
@@ -114,7 +114,10 @@ sound_main u sound h is main none =
           (formats_there u.lines p.0.act (or_parts (list_any (leads_nowhere u.lines) (branches p.0.act)) _ leads).1);
     }
 
-pub sound_never_wrong : SoundRunsRightly
-sound_never_wrong u sound =
+pub sound_main : (u : Routine) → IsSound u → IsSoundMain (context_by MainUnit (acts_of u.lines)) u.lines
+sound_main u sound =
     let p = built_parts (is_main u.header) (unbuilt_line (context_of u) u.lines) sound.built in
-    never_wrong_by_acts u.lines (sound_main u sound u.header refl p.0 p.1)
+    main_by u sound u.header refl p.0 p.1
+
+pub sound_never_wrong : SoundRunsRightly
+sound_never_wrong u sound = never_wrong_by_acts u.lines (sound_main u sound)

@@ -57,7 +57,7 @@ module _ (c : Context) where
   index_kind (Variable x) h = counter_kind x h
   index_kind _ h = cc
 
-  joined_kind : (op : Operator) (a b : Formula) → is_arithmetic op ≡ true → kind_in c a ≡ Some Integer → kind_in c b ≡ Some Integer → kind_in c (Joined op a b) ≡ Some Integer
+  pub joined_kind : (op : Operator) (a b : Formula) → is_arithmetic op ≡ true → kind_in c a ≡ Some Integer → kind_in c b ≡ Some Integer → kind_in c (Joined op a b) ≡ Some Integer
   joined_kind op a b e p q = ap₂ (λ x y. when (is_kind (operand op) x && is_kind (operand op) y) (outcome op)) p q ∙ by_operator op e
     where
       by_operator : (o : Operator) → is_arithmetic o ≡ true → when (is_kind (operand o) (Some Integer) && is_kind (operand o) (Some Integer)) (outcome o) ≡ Some Integer

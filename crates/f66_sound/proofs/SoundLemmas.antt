@@ -67,13 +67,17 @@ end_right : (o : Out ⊤) → NeverWrong o → (shown o).end ≢ Ended Wrong
 end_right (Gives a w) h e = cc
 end_right (Halts d w) h e = subst IsRightEnd e h
 
--- for every context in which names mean what they mean in the unit
-runs_rightly : (c : Context) (code : List Line) → ((x : Text) → kind_of c x ≡ kind_of (main_context code) x) → ((x : Text) → sort_of c x ≡ sort_of (main_context code) x) → IsSoundMain c code → RunsRightly code
-runs_rightly c code kinds sorts h input n =
-    let fit = lines_fit c (notes_of code) code (act_fit c code h) in
-    let sizes = λ (x : Text). sizes_fit c x code (λ i a e. ((and_parts _ _ (h.built i a e)).0, h.clean i a e BadConstant)) in
+-- of statements that fit, for every context in which names mean what they mean in the unit
+pub fit_runs_rightly : (c : Context) (code : List Line) → ((x : Text) → kind_of c x ≡ kind_of (main_context code) x) → ((x : Text) → sort_of c x ≡ sort_of (main_context code) x) → ((x : Text) → FitSizes (sizes_of x (notes_of code))) → FitLines c (notes_of code) code →
+    RunsRightly code
+fit_runs_rightly c code kinds sorts sizes fit input n =
     end_right _
     (exec_rightly (notes_of code) c kinds sorts sizes code fit (suc n) (record { unit = 0; actuals = []; place = nowhere }) code fit no_loops (record { state = start (one_unit (notes_of code)) input; left = n; count = 0 }))
+
+runs_rightly : (c : Context) (code : List Line) → ((x : Text) → kind_of c x ≡ kind_of (main_context code) x) → ((x : Text) → sort_of c x ≡ sort_of (main_context code) x) → IsSoundMain c code → RunsRightly code
+runs_rightly c code kinds sorts h =
+    fit_runs_rightly c code kinds sorts (λ x. sizes_fit c x code (λ i a e. ((and_parts _ _ (h.built i a e)).0, h.clean i a e BadConstant)))
+    (lines_fit c (notes_of code) code (act_fit c code h))
 
 pub never_wrong : SoundNeverWrong
 never_wrong code h = runs_rightly (main_context code) code (λ x. refl) (λ x. refl) h
@@ -91,7 +95,7 @@ types_same x t [] = refl
 types_same x t (s ∷ rest) =
     behind_note (λ xs ys. type_in x xs t ≡ type_in x ys t) s (noted (acts_of rest)) (notes_of rest) (ap (typed_by x s.act) (types_same x t rest)) (types_same x t rest) (is_note s.act)
 
-sizes_same : (x : Text) (code : List Line) → sizes_of x (noted (acts_of code)) ≡ sizes_of x (notes_of code)
+pub sizes_same : (x : Text) (code : List Line) → sizes_of x (noted (acts_of code)) ≡ sizes_of x (notes_of code)
 sizes_same x [] = refl
 sizes_same x (s ∷ rest) =
     behind_note (λ xs ys. sizes_of x xs ≡ sizes_of x ys) s (noted (acts_of rest)) (notes_of rest) (ap (sizes_by x s.act) (sizes_same x rest)) (sizes_same x rest) (is_note s.act)

@@ -58,7 +58,7 @@ loop_fits (Whole a) (Whole b) d h i j = absurd j
 loop_fits (Whole a) b d h i j = absurd i
 loop_fits a b d h i j = absurd h
 
-stored_takes : (form : NameForm) (n : ℕ) → is_array_form form ≡ true → miscounts_by form (Stored n) ≡ false → takes form n ≡ true
+pub stored_takes : (form : NameForm) (n : ℕ) → is_array_form form ≡ true → miscounts_by form (Stored n) ≡ false → takes form n ≡ true
 stored_takes (forms.Array k) n e h = not-false _ h
 stored_takes (forms.Intrinsic a) n e h = cc
 stored_takes forms.Plain n e h = cc

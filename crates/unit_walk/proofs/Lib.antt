@@ -13,5 +13,7 @@ mod WriteLemmas
 mod RunLemmas
 mod WholeLemmas
 pub mod BuiltLemmas
+pub mod BuiltRuns
+pub mod SoundUnits
 mod NameLemmas
 mod ReachLemmas

@@ -1,13 +1,16 @@
 // Small programs with what they show, worked out by hand from the standard.
 
 use crate::{RunEnd, Walked, walk};
-use f66_tree::{Declared, Entry, Expr, Field, Name, Operator, Par, Stmt, StmtKind, TypeWord};
-use ground::{Place, Text};
+use f66_check::check_unit;
+use f66_tree::{
+    Declared, Entry, Expr, Field, Header, Name, Operator, Par, Stmt, StmtKind, TypeWord, Unit,
+};
+use ground::{Place, Refusal, Text};
 use std::alloc::{AllocError, Global};
 use std::test::Fail;
 
 /// A program that is read byte by byte: digits and letters go on a stack, signs take from it. Each statement stands on a
-/// line of its own, counted from 1.
+/// line of its own, counted from 1; a STOP is the last one.
 #[derive(Drop)]
 struct Reading {
     stack: Vec<Expr>,
@@ -200,20 +203,26 @@ impl Reading {
                 Ok(())
             }
             b'a'..=b'z' => {
-                self.stack.push(Expr::Ref(name(alloc, byte)?))?;
+                self.stack.push(Expr::Ref(name(alloc, byte.to_ascii_uppercase())?))?;
                 Ok(())
             }
             b'B' => {
                 self.stack.push(Expr::Int(2_147_483_647))?;
                 Ok(())
             }
-            b'W' => {
-                self.stack.push(Expr::Int(133))?;
-                Ok(())
-            }
             b'~' => {
                 let negative = Box::new(alloc, self.value())?;
                 self.stack.push(Expr::Minus(negative))?;
+                Ok(())
+            }
+            b'(' => {
+                let group = Box::new(alloc, self.value())?;
+                self.stack.push(Expr::Group(group))?;
+                Ok(())
+            }
+            b'\'' => {
+                let denied = Box::new(alloc, self.value())?;
+                self.stack.push(Expr::Not(denied))?;
                 Ok(())
             }
             b'@' => {
@@ -241,6 +250,7 @@ impl Reading {
             b'^' => self.pair(alloc, Operator::Power),
             b'<' => self.pair(alloc, Operator::Lt),
             b'=' => self.pair(alloc, Operator::Eq),
+            b'&' => self.pair(alloc, Operator::And),
             b'|' => self.pair(alloc, Operator::Or),
             _ => self.statement(alloc, byte),
         }
@@ -257,6 +267,7 @@ fn lines_of(alloc: Global, text: &[u8]) -> Result<Vec<Stmt>, AllocError> {
     for byte in text {
         reading.take(alloc, *byte)?;
     }
+    reading.ends(alloc, StmtKind::Stop(None))?;
     Ok(reading.lines)
 }
 
@@ -285,96 +296,116 @@ fn shown(alloc: Global, walked: &Walked) -> Result<String, AllocError> {
     Ok(shown)
 }
 
+/// What a program shows, which is sound, within a number of statements.
+#[tactic(auto, using(crate::proofs::SoundUnits::sound_is_walked))]
+fn outcome(alloc: Global, text: &[u8], limit: u64) -> Result<String, Fail> {
+    let unit = Unit {
+        header: Header::Main,
+        statements: lines_of(alloc, text)?,
+        place: Place { file: 0, line: 0 },
+    };
+    match check_unit(alloc, unit) {
+        Ok(checked) => {
+            let walked = walk(alloc, &checked.unit().statements, limit)
+                .ok()
+                .ok_or("memory")?;
+            Ok(shown(alloc, &walked)?)
+        }
+        Err(Refusal::Fault(fault)) => {
+            let word = fault.kind.word();
+            let line = fault.place.line;
+            Ok(format!(in alloc; "{word} at {line}")?)
+        }
+        Err(Refusal::Memory) => Err("memory")?,
+    }
+}
+
 #[test]
-fn programs(rt: HostRuntime) -> Result<(), Fail> {
-    let rows: [(&[u8], u64, &str); 70] = [
-        (b"", 0, "done 0"),
-        (b".", 0, "goes on 0"),
-        (b".", 1, "done 1"),
-        (b"9@4F", 0, "done 0"),
-        (b"3S.", 9, "stop 3 1"),
-        (b"k7:9@4Fk!#.", 9, "   7/done 3"),
-        (b"9@1Fk7~:k!", 9, "*/done 2"),
-        (b"9@WFk7:k!", 9, "trap 14 at 3 2"),
-        (b"9@WFk!", 9, "trap 5 at 2 1"),
+fn control(rt: HostRuntime) -> Result<(), Fail> {
+    let rows: [(&[u8], u64, &str); 29] = [
+        (b"", 0, "goes on 0"),
+        (b"", 1, "done 1"),
+        (b"9@4F", 9, "done 1"),
+        (b"3S", 9, "stop 3 1"),
+        (b"k7:9@4Fk!", 9, "   7/done 3"),
+        (b"9@1Fk7~:k!", 9, "*/done 3"),
         (b".k!9@2F", 9, "trap 5 at 2 2"),
-        (b"kB:kk1+:", 9, "trap 1 at 2 2"),
-        (b"k10/:", 9, "trap 2 at 1 1"),
-        (b"k00^:", 9, "trap 3 at 1 1"),
-        (b"k7~2/:9@2Fk!", 9, "-3/done 2"),
-        (b"9@2Fk1:2@k!kk1+:k4<?2Gk!", 99, " 1/ 2/ 3/ 4/done 13"),
+        (b"9@2Fk1:2@k!kk1+:k4<?2Gk!", 99, " 1/ 2/ 3/ 4/done 14"),
         (b"9@2Fk1:2@k!kk1+:k4<?2Gk!", 4, " 1/goes on 4"),
         (b"9@2Fk1:2@k!kk1+:k4<?2Gk!", 5, " 1/goes on 5"),
-        (b"9@2Fk1:2@k!kk1+:k4<?2Gk!", 13, " 1/ 2/ 3/ 4/done 13"),
+        (b"9@2Fk1:2@k!kk1+:k4<?2Gk!", 14, " 1/ 2/ 3/ 4/done 14"),
         (b"9@2Fk1:2@k!kk1+:k4<?2Gk!", 12, " 1/ 2/ 3/goes on 12"),
         (b"k2:56kC#5@1S6@2S", 9, "stop 2 3"),
         (b"k1:56kC#5@1S6@2S", 9, "stop 1 3"),
-        (b"k0:56kC", 9, "trap 10 at 2 2"),
-        (b"k3:56kC", 9, "trap 10 at 2 2"),
-        (b"9@2F5i131D5@i!k7:", 99, " 1/ 2/ 3/done 5"),
-        (b"9@2F5i111D5@i!k7:", 99, " 1/done 3"),
-        (b"5i211D5@.", 99, "trap 9 at 1 1"),
-        (b"5i110D5@.", 99, "trap 9 at 1 1"),
-        (b"9@2F5i142D5@i!i!", 99, " 1/ 3/trap 5 at 4 4"),
-        (b"9@2F5i121D5j121D5@j!", 99, " 1/ 2/ 1/ 2/done 7"),
-        (b"5iBB1D5@..", 99, "done 3"),
-        (b"9@2F5i191Di4=?6G5@.#6@i!", 99, " 4/done 10"),
-        (b"1k=?k1:", 9, "trap 5 at 1 1"),
-        (b"11=?9@2F.", 9, "done 2"),
-        (b"12=10/1=|?.", 9, "trap 2 at 1 1"),
-        (b"9@2Fa31Za11[4:a31[7:a31[!a11[!", 9, " 7/ 4/done 4"),
-        (b"a31Za01[4:", 9, "trap 4 at 2 1"),
-        (b"a31Za41[4:", 9, "trap 4 at 2 1"),
-        (b"9@2Fa31Za21[!", 9, "trap 5 at 3 1"),
-        (
-            b"9@2Fa2323Za2113[5:a1223[6:a2113[!a1223[!",
-            9,
-            " 5/ 6/done 4",
-        ),
-        (b"a2323Za1333[1:", 9, "trap 4 at 2 1"),
-        (b"a21Z", 9, "done 0"),
-        (b"a31Za910/1[4:", 9, "wrong 1"),
-        (b"a31Za10/1[4:", 9, "trap 2 at 2 1"),
-        (b"a332Za910/2[1:", 9, "trap 2 at 2 1"),
-        (b"a3n2Za112[1:", 9, "trap 5 at 2 1"),
-        (b"a3n2Zn1:a912[1:", 9, "trap 4 at 3 2"),
-        (b"a31Za112[1:", 9, "wrong 1"),
-        (b"pLpT:p?3S.", 9, "stop 3 3"),
-        (b"kT:kk1+:", 9, "trap 5 at 2 2"),
-        (b"pLp1:pp:", 9, "trap 5 at 3 2"),
-        (b"9@2FpLpT:p!", 9, "trap 13 at 4 2"),
-        (b"k1T+:", 9, "wrong 1"),
-        (b"1?k1:", 9, "wrong 1"),
-        (b"k1:k!", 9, "wrong 2"),
-        (b"kf11[:", 9, "wrong 1"),
-        (
-            b"9@3FkI7~1[:k!kM7~32[:k!kM73~2[:k!",
-            9,
-            "  7/ -1/  1/done 6",
-        ),
-        (b"kM702[:", 9, "trap 2 at 1 1"),
-        (
-            b"9@3FkN7~02[:k!kN71~2[:k!kN7~32[:k!",
-            9,
-            "  7/ -7/  7/done 6",
-        ),
-        (b"9@3FkP732[:k!kP372[:k!", 9, "  4/  0/done 4"),
-        (b"kPBB~2[:", 9, "trap 1 at 1 1"),
-        (b"9@3FkX28~954[:k!kY28~954[:k!", 9, "  9/ -8/done 4"),
-        (b"kX1T2[:", 9, "wrong 1"),
-        (b"kXT10/2[:", 9, "trap 2 at 1 1"),
-        (b"kI122[:", 9, "wrong 1"),
+        (b"k0:56kC5@.6@.", 9, "trap 10 at 2 2"),
+        (b"k3:56kC5@.6@.", 9, "trap 10 at 2 2"),
         (b"k3~:k123J1@1S2@2S3@3S", 9, "stop 1 3"),
         (b"k0:k123J1@1S2@2S3@3S", 9, "stop 2 3"),
         (b"k3:k123J1@1S2@2S3@3S", 9, "stop 3 3"),
-        (b"iL5i131D5@.", 9, "done 4"),
-        (b"pLpT:5ip31D5@.", 9, "wrong 2"),
-        (b"5i131D5@iT:", 9, "trap 5 at 2 2"),
+        (b"9@2F5i131D5@i!k7:", 99, " 1/ 2/ 3/done 6"),
+        (b"9@2F5i111D5@i!k7:", 99, " 1/done 4"),
+        (b"5i211D5@.", 99, "trap 9 at 1 1"),
+        (b"5i110D5@.", 99, "trap 9 at 1 1"),
+        (b"9@2F5i142D5@i!i!", 99, " 1/ 3/trap 5 at 4 4"),
+        (b"9@2F5i121D5j121D5@j!", 99, " 1/ 2/ 1/ 2/done 8"),
+        (b"5iBB1D5@.", 99, "done 3"),
+        (b"9@2F5i191Di4=?6G5@.#6@i!", 99, " 4/done 11"),
+        (b"1k=?k1:", 9, "trap 5 at 1 1"),
+        (b"11=?k1:", 9, "done 3"),
     ];
     for (text, limit, wanted) in rows {
-        let code = lines_of(rt.alloc(), text)?;
-        let walked = walk(rt.alloc(), &code, limit).ok().ok_or("memory")?;
-        let found = shown(rt.alloc(), &walked)?;
+        let found = outcome(rt.alloc(), text, limit)?;
+        assert_eq!(rt; found.as_str(), wanted);
+    }
+    Ok(())
+}
+
+#[test]
+fn values(rt: HostRuntime) -> Result<(), Fail> {
+    let rows: [(&[u8], &str); 31] = [
+        (b"kB:kk1+:", "trap 1 at 2 2"),
+        (b"k10/:", "trap 2 at 1 1"),
+        (b"k00^:", "trap 3 at 1 1"),
+        (b"k21~(^:", "trap 3 at 1 1"),
+        (b"9@4Fk29^:k!", " 512/done 3"),
+        (b"k7~(2/:9@2Fk!", "-3/done 3"),
+        (b"12=10/1=|?.", "trap 2 at 1 1"),
+        (b"9@2Fm31Zm11[4:m31[7:m31[!m11[!", " 7/ 4/done 5"),
+        (b"m31Zm01[4:", "trap 4 at 2 1"),
+        (b"m31Zm41[4:", "trap 4 at 2 1"),
+        (b"9@2Fm31Zm21[!", "trap 5 at 3 1"),
+        (b"m31Zmi1[4:", "trap 5 at 2 1"),
+        (b"9@2Fm91Z5i191D5@mi1[ii*:m41[!", "16/done 12"),
+        (b"9@2Fm91Zi2:m2i*1+1[7:m51[!", " 7/done 4"),
+        (b"m91Zi5:m2i*1+1[7:", "trap 4 at 3 2"),
+        (b"9@2Fm232Zm232[8:m122[1:m232[!m122[!", " 8/ 1/done 5"),
+        (b"m232Zm312[1:", "trap 4 at 2 1"),
+        (
+            b"9@2Fm2323Zm2113[5:m1223[6:m2113[!m1223[!",
+            " 5/ 6/done 5",
+        ),
+        (b"m2323Zm1333[1:", "trap 4 at 2 1"),
+        (b"pLpT:p?3S", "stop 3 3"),
+        (b"pLp?3S", "trap 5 at 2 1"),
+        (b"pLqLpT:qp':q?1Sp?2S", "stop 2 5"),
+        (b"pLk3:pk4<:p?1S", "stop 1 4"),
+        (b"pLpT:pp'(:p10/1=&?.", "trap 2 at 4 3"),
+        (b"9@2FpLpT:p!", "trap 13 at 4 2"),
+        (
+            b"9@3FkI7~1[:k!kM7~32[:k!kM73~2[:k!",
+            "  7/ -1/  1/done 7",
+        ),
+        (b"kM702[:", "trap 2 at 1 1"),
+        (
+            b"9@3FkN7~02[:k!kN71~2[:k!kN7~32[:k!",
+            "  7/ -7/  7/done 7",
+        ),
+        (b"9@3FkP732[:k!kP372[:k!", "  4/  0/done 5"),
+        (b"kPBB~2[:", "trap 1 at 1 1"),
+        (b"9@3FkX28~954[:k!kY28~954[:k!", "  9/ -8/done 5"),
+    ];
+    for (text, wanted) in rows {
+        let found = outcome(rt.alloc(), text, 99)?;
         assert_eq!(rt; found.as_str(), wanted);
     }
     Ok(())

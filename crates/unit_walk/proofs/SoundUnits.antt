@@ -1,0 +1,298 @@
+-- A sound unit is one that is walked.
+use Rattle.std.proofs.Common.{◌≡◌, ◌+◌, ◌≤◌, ℕ, zero, suc, Bool, true, false, ◌&&◌, ◌||◌, nat_le, nat_lt, nat_eq, List, [], ◌∷◌, ◌++◌, length, Some, slice_get, refl, ap, ap₂, subst, arith}
+use Rattle.std.specs.Prelude.{not, if◌then◌else◌, ⊤}
+use Rattle.std.specs.List.{list_any, list_all}
+use Rattle.std.specs.Str.{bytes_eq}
+use Rattle.std.proofs.lemmas.Bool.{and_parts, and_from, or_parts, not-false, eqb-true, leb-true, le-leb, ltb-false}
+use Rattle.ground.specs.declared.fault.FaultKind.TheVariants.{Syntax, WrongCount, BadFormat, NotAssignable, Limit}
+use Rattle.f66_tree.specs.declared.editing.EditKind.TheVariants as edits
+use Rattle.f66_tree.specs.Fields.{Takes, Fields, NoField, Single}
+use Rattle.f66_tree.specs.Forms.{Text, Formula, Number, Fact, Letter, Variable, Applied, Grouped, Positive, Negative, Negated, Joined, Formulas, Nought, Also, Par, Constant, Named, Declared, MainUnit, Entry, One, Many, Entries, NoEntry, AndEntry, Act, Assigns, Goes, Selects, Signs, Chooses, Loops, Invokes, Passes, Stops, Returns, Reads, Writes, Formats, Types, Dimensions, Commons, Equivalences, Presets, Line, Routine}
+use Rattle.f66_tree.specs.Units.{Note, Context, is_note, notes_of, if_any, sizes_in, sizes_by, sizes_of, places_of}
+use Rattle.f66_tree.specs.Evaluation.{Sort, AnArray, AnIntrinsic, AFunction, Intrinsic, Iabs, Mod, Isign, Idim, Max0, Min0, known, intrinsics, array_or, sort_of}
+use Rattle.f66_tree.specs.Built.{is_par, is_printer, is_one_field, is_scalar}
+use Rattle.f66_names.specs.Declaring.{noted, context_by}
+use Rattle.f66_names.specs.Shapes as shapes
+use Rattle.f66_names.specs.Shapes.{stands, stand_all, are_arguments, is_named, is_place, is_parameter, is_branch, has_shape}
+use Rattle.f66_names.specs.Sorts.{form_by, form_of, is_array_form, is_array, takes}
+use Rattle.f66_names.specs.declared.name_form.Manner.TheVariants.{With, Stored}
+use Rattle.f66_names.specs.Uses.{usage, many, uses_of, uses_of_all, uses_of_target, uses_of_par, uses_of_entries, uses_in}
+use Rattle.f66_names.specs.NameRules.{has_many_sizes, has_wrong_sizes, miscounts}
+use Rattle.f66_names.specs.StoreRules.{one_field, is_bad_field, is_assignable, stores_wrong, is_large, has_bad_format, has_large_array}
+use Rattle.f66_names.specs.BuiltActs as names
+use Rattle.f66_names.specs.BuiltActs.{is_one_place, is_built_form}
+use Rattle.rule_table.specs.Words.{is_some_and}
+use Rattle.f66_sound.specs.SoundUnits.{acts_of, IsSoundMain}
+use Rattle.f66_sound.proofs.RightlyLemmas.{if_both}
+use Rattle.f66_sound.proofs.KindLemmas.{none_of_both}
+use Rattle.f66_sound.proofs.ValueLemmas.{FitCounts}
+use Rattle.f66_sound.proofs.StatementLemmas.{stored_takes}
+use Rattle.f66_sound.proofs.SoundLemmas.{sizes_same}
+use Rattle.f66_check.specs.Answers.{IsSound}
+use Rattle.f66_check.proofs.SoundLemmas.{sound_main}
+use Rattle.unit_walk.specs.Walked.{are_few, is_count, are_pars, are_dimensions, are_declared, is_formula, are_formulas, is_item, is_one_item, is_plain, is_walked, are_walked, is_walked_unit}
+
+-- what the rules say of one statement
+pub record Fits (c : Context) (a : Act) : Type 0 where
+  pub shape : has_shape a ≡ true
+  pub counts : FitCounts c (uses_in a)
+  pub sizes : has_wrong_sizes a ≡ false
+  pub places : has_large_array a ≡ false
+  pub format : has_bad_format a ≡ false
+  pub stores : stores_wrong c a ≡ false
+  pub built : is_built_form c a ≡ true
+
+-- ---- dimensions ----
+
+abbrev AreFew : List Par → Type 0
+AreFew ns = nat_le (length ns) 3 ≡ true
+
+not_above : (m n : ℕ) → nat_lt m n ≡ false → nat_le n m ≡ true
+not_above m n h = le-leb n m (ltb-false m n h)
+
+any_few : (ns others : List Par) → AreFew ns → AreFew others → AreFew (if_any ns others)
+any_few [] others h k = k
+any_few (n ∷ ns) others h k = h
+
+in_few : (x : Text) (ds : List Declared) (others : List Par) → list_any has_many_sizes ds ≡ false → AreFew others → AreFew (sizes_in x ds others)
+in_few x [] others h k = k
+in_few x (d ∷ ds) others h k =
+    let p = or_parts (has_many_sizes d) _ h in
+    let rest = in_few x ds others p.1 k in
+    if_both AreFew (bytes_eq x d.name) (if_any d.sizes (sizes_in x ds others)) (sizes_in x ds others) (any_few d.sizes (sizes_in x ds others) (not_above 3 (length d.sizes) p.0) rest) rest
+
+-- DIMENSION gives no more dimensions than a type statement may
+dimensions_few : (ds : List Declared) → has_wrong_sizes (Dimensions ds) ≡ false → list_any has_many_sizes ds ≡ false
+dimensions_few [] h = refl
+dimensions_few (d ∷ ds) h = let p = or_parts _ _ h in ap₂ (λ a b. a || b) (or_parts _ (has_many_sizes d) p.0).1 (dimensions_few ds p.1)
+
+by_few : (c : Context) (x : Text) (a : Act) (others : List Par) → Fits c a → AreFew others → AreFew (sizes_by x a others)
+by_few c x (Types t ds) others h k = in_few x ds others h.sizes k
+by_few c x (Dimensions ds) others h k = in_few x ds others (dimensions_few ds h.sizes) k
+by_few c x (Commons areas) others h k = let b = h.built in let q : ⊥ = cc in absurd q
+by_few c x _ others h k = k
+
+abbrev FitAll : Context → List Line → Type 0
+FitAll c [] = ⊤
+FitAll c (s ∷ rest) = Fits c s.act × FitAll c rest
+
+sizes_few : (c : Context) (x : Text) (code : List Line) → FitAll c code → AreFew (sizes_of x (notes_of code))
+sizes_few c x [] h = refl
+sizes_few c x (s ∷ rest) h =
+    let behind = sizes_few c x rest h.1 in
+    if_both (λ notes. AreFew (sizes_of x notes)) (is_note s.act) (record { label = s.label; act = s.act } ∷ notes_of rest) (notes_of rest) (by_few c x s.act (sizes_of x (notes_of rest)) h.0 behind) behind
+
+par_walked : (n : Par) → is_parameter n ≡ true → is_par n ≡ true
+par_walked (Constant z) h = h
+par_walked (Named x) h = refl
+
+pars_walked : (ns : List Par) → list_all is_parameter ns ≡ true → are_pars ns ≡ true
+pars_walked [] h = refl
+pars_walked (n ∷ ns) h = let p = and_parts (is_parameter n) _ h in and_from _ _ (par_walked n p.0) (pars_walked ns p.1)
+
+declared_walked : (ds : List Declared) → list_all shapes.is_declared ds ≡ true → list_any has_many_sizes ds ≡ false → list_any is_large ds ≡ false → are_declared ds ≡ true
+declared_walked [] h i j = refl
+declared_walked (d ∷ ds) h i j =
+    let p = and_parts (shapes.is_declared d) _ h in
+    let q = or_parts (has_many_sizes d) _ i in
+    let r = or_parts (is_large d) _ j in
+    and_from (are_dimensions d.sizes) _
+    (and_from _ _ (pars_walked d.sizes (and_parts _ _ p.0).1) (and_from _ _ (not_above 3 (length d.sizes) q.0) (not_above 32767 (places_of d.sizes) r.0)))
+    (declared_walked ds p.1 q.1 r.1)
+
+some_declared : (ds : List Declared) → shapes.are_declared ds ≡ true → list_all shapes.is_declared ds ≡ true
+some_declared [] h = refl
+some_declared (d ∷ ds) h = h
+
+-- ---- how many arguments ----
+
+few_arguments : (es : Formulas) → many es ≤ 3 → are_few es ≡ true
+few_arguments Nought h = refl
+few_arguments (Also a Nought) h = refl
+few_arguments (Also a (Also b Nought)) h = refl
+few_arguments (Also a (Also b (Also d Nought))) h = refl
+few_arguments (Also a (Also b (Also d (Also e es)))) h = absurd (omega arith)
+
+abbrev FewSort : Sort → Type 0
+FewSort (AnArray ns) = AreFew ns
+FewSort _ = ⊤
+
+known_few : (es : List (Text × Intrinsic)) (x : Text) → FewSort (known es x)
+known_few [] x = tt
+known_few (e ∷ es) x = if_both FewSort _ (AnIntrinsic e.1) (known es x) tt (known_few es x)
+
+array_few : (ns : List Par) (x : Text) → AreFew ns → FewSort (array_or ns x)
+array_few [] x h = known_few intrinsics x
+array_few (n ∷ ns) x h = h
+
+counted : (o : Sort) → FewSort o → (es : Formulas) → takes (form_by o) (many es) ≡ true → is_count o es ≡ true
+counted (AnArray ns) few es h = let p : many es ≡ length ns = eqb-true _ _ h in let q : length ns ≤ 3 = leb-true _ _ few in few_arguments es (omega arith)
+counted (AnIntrinsic Iabs) few es h = let p : many es ≡ 1 = eqb-true _ _ h in few_arguments es (omega arith)
+counted (AnIntrinsic Mod) few es h = let p : many es ≡ 2 = eqb-true _ _ h in few_arguments es (omega arith)
+counted (AnIntrinsic Isign) few es h = let p : many es ≡ 2 = eqb-true _ _ h in few_arguments es (omega arith)
+counted (AnIntrinsic Idim) few es h = let p : many es ≡ 2 = eqb-true _ _ h in few_arguments es (omega arith)
+counted (AnIntrinsic Max0) few es h = refl
+counted (AnIntrinsic Min0) few es h = refl
+counted AFunction few es h = refl
+
+arguments_stand : (es : Formulas) → are_arguments es ≡ true → stand_all es ≡ true
+arguments_stand Nought h = refl
+arguments_stand (Also e es) h = h
+
+one_field_walked : (f : Fields) → is_some_and (λ field. nat_eq field.0 1) (one_field f) ≡ true → is_some_and is_bad_field (one_field f) ≡ false → is_one_field f ≡ true
+one_field_walked (Single n (Takes edits.Whole w) NoField) h i = and_from _ _ h (and_parts (nat_le 1 w) _ (not-false _ (or_parts (nat_eq n 0) _ i).1)).0
+one_field_walked _ h i = cc h
+
+-- neither a DO nor a logical IF
+abbrev is_single : Act → Bool
+is_single (Chooses e a) = false
+is_single (Loops l x a b d) = false
+is_single a = true
+
+branch_single : (a : Act) → is_branch a ≡ true → is_single a ≡ true
+branch_single (Chooses e a) h = cc h
+branch_single (Loops l x a b d) h = cc h
+branch_single _ h = refl
+
+-- no declaration and no FORMAT stands under a logical IF
+branch_fits : (c : Context) (a : Act) → is_branch a ≡ true → has_shape a ≡ true → FitCounts c (uses_in a) → stores_wrong c a ≡ false → is_built_form c a ≡ true → Fits c a
+branch_fits c (Types t ds) h shape counts stores built = let q : ⊥ = cc h in absurd q
+branch_fits c (Dimensions ds) h shape counts stores built = let q : ⊥ = cc h in absurd q
+branch_fits c (Commons areas) h shape counts stores built = let q : ⊥ = cc h in absurd q
+branch_fits c (Formats f) h shape counts stores built = let q : ⊥ = cc h in absurd q
+branch_fits c _ h shape counts stores built = record { shape = shape; counts = counts; sizes = refl; places = refl; format = refl; stores = stores; built = built }
+
+-- ---- statements ----
+
+module _ (c : Context) (notes : List Note) (sorts : (x : Text) → sort_of c x ≡ array_or (sizes_of x notes) x) (few : (x : Text) → AreFew (sizes_of x notes)) where
+  takes_walked : (x : Text) (es : Formulas) → takes (form_of c x) (many es) ≡ true → is_count (array_or (sizes_of x notes) x) es ≡ true
+  takes_walked x es h = counted (array_or (sizes_of x notes) x) (array_few (sizes_of x notes) x (few x)) es (subst (λ o. takes (form_by o) (many es) ≡ true) (sorts x) h)
+
+  mutual
+    formula_walked : (n : ℕ) (e : Formula) → stands n e ≡ true → FitCounts c (uses_of e) → is_formula notes e ≡ true
+    formula_walked n (Number z) h k = h
+    formula_walked n (Fact b) h k = refl
+    formula_walked n (Letter l) h k = refl
+    formula_walked n (Variable x) h k = refl
+    formula_walked n (Applied x es) h k =
+        let p = or_parts (miscounts c (usage x (With (many es)))) _ k in
+        and_from _ _ (takes_walked x es (not-false _ p.0)) (formulas_walked es (arguments_stand es (and_parts _ (are_arguments es) h).1) p.1)
+    formula_walked n (Grouped a) h k = formula_walked 0 a h k
+    formula_walked n (Positive a) h k = formula_walked 5 a (and_parts (nat_le n 4) _ h).1 k
+    formula_walked n (Negative a) h k = formula_walked 5 a (and_parts (nat_le n 4) _ h).1 k
+    formula_walked n (Negated a) h k = formula_walked 3 a (and_parts (nat_le n 2) _ h).1 k
+    formula_walked n (Joined op a b) h k =
+        let p = and_parts (stands (shapes.left_level op) a) _ (and_parts (nat_le n (shapes.level op)) _ h).1 in
+        let q = none_of_both (miscounts c) (uses_of a) (uses_of b) k in
+        and_from _ _ (formula_walked (shapes.left_level op) a p.0 q.0) (formula_walked (shapes.right_level op) b p.1 q.1)
+
+    formulas_walked : (es : Formulas) → stand_all es ≡ true → FitCounts c (uses_of_all es) → are_formulas notes es ≡ true
+    formulas_walked Nought h k = refl
+    formulas_walked (Also e es) h k =
+        let p = and_parts (stands 0 e) _ h in
+        let q = none_of_both (miscounts c) (uses_of e) (uses_of_all es) k in
+        and_from _ _ (formula_walked 0 e p.0 q.0) (formulas_walked es p.1 q.1)
+
+  target_walked : (x : Formula) → is_place x ≡ true → is_assignable c x ≡ true → FitCounts c (uses_of_target x) → is_formula notes x ≡ true
+  target_walked (Variable x) h i k = refl
+  target_walked (Applied x es) h i k =
+      let p = or_parts (miscounts c (usage x (Stored (many es)))) _ k in
+      and_from _ _ (takes_walked x es (stored_takes (form_of c x) (many es) i p.0)) (formulas_walked es (arguments_stand es (and_parts _ (are_arguments es) h).1) p.1)
+  target_walked _ h i k = cc h
+
+  item_walked : (e : Formula) → is_place e ≡ true → is_one_place c e ≡ true → FitCounts c (uses_of e) → is_item notes e ≡ true
+  item_walked (Variable x) h i k = no_dimensions (sizes_of x notes) (subst (λ o. not (is_array_form (form_by o)) ≡ true) (sorts x) i)
+    where
+      no_dimensions : (ns : List Par) → not (is_array_form (form_by (array_or ns x))) ≡ true → is_scalar ns ≡ true
+      no_dimensions [] j = refl
+      no_dimensions (n ∷ ns) j = cc j
+  item_walked (Applied x es) h i k = formula_walked 7 (Applied x es) (and_parts (is_named (Applied x es)) _ h).1 k
+  item_walked _ h i k = cc h
+
+  items_walked : (es : Entries) → shapes.are_items es ≡ true → names.is_one_item c es ≡ true → FitCounts c (uses_of_entries es) → is_one_item notes es ≡ true
+  items_walked (AndEntry (One e) NoEntry) h i k = item_walked e (and_parts (is_place e) _ h).0 i (none_of_both (miscounts c) (uses_of e) [] k).0
+  items_walked (AndEntry (One e) (AndEntry d es)) h i k = cc i
+  items_walked (AndEntry (Many list x a b d) es) h i k = (and_parts (names.is_last es) false i).1
+  items_walked NoEntry h i k = cc i
+
+  plain_walked : (a : Act) → is_single a ≡ true → Fits c a → is_plain notes a ≡ true
+  plain_walked (Assigns x e) h f =
+      let p = and_parts (is_place x) _ f.shape in
+      let q = none_of_both (miscounts c) (uses_of_target x) (uses_of e) f.counts in
+      and_from _ _ (target_walked x p.0 (not-false _ f.stores) q.0) (formula_walked 0 e p.1 q.1)
+  plain_walked (Goes l) h f = refl
+  plain_walked (Selects ls x) h f = refl
+  plain_walked (Signs e l m k) h f = formula_walked 0 e f.shape f.counts
+  plain_walked (Chooses e a) h f = cc h
+  plain_walked (Loops l x a b d) h f = cc h
+  plain_walked (Invokes x es) h f = refl
+  plain_walked Passes h f = refl
+  plain_walked (Stops n) h f = refl
+  plain_walked Returns h f = refl
+  plain_walked (Reads u l es) h f = f.built
+  plain_walked (Writes u l es) h f =
+      let p = and_parts (is_printer u) _ f.built in
+      and_from _ _ p.0 (items_walked es (and_parts (is_parameter u) _ f.shape).1 p.1 (none_of_both (miscounts c) (uses_of_par u) _ f.counts).1)
+  plain_walked (Formats fs) h f = one_field_walked fs f.built f.format
+  plain_walked (Types t ds) h f = declared_walked ds (some_declared ds f.shape) f.sizes f.places
+  plain_walked (Dimensions ds) h f = declared_walked ds (some_declared ds f.shape) (dimensions_few ds f.sizes) f.places
+  plain_walked (Commons areas) h f = f.built
+  plain_walked (Equivalences es) h f = f.built
+  plain_walked (Presets ps) h f = f.built
+
+  act_walked : (a : Act) → Fits c a → is_walked notes a ≡ true
+  act_walked (Chooses e a) f =
+      let p = and_parts (stands 0 e) _ f.shape in
+      let q = and_parts (is_branch a) _ p.1 in
+      let r = none_of_both (miscounts c) (uses_of e) (uses_in a) f.counts in
+      and_from _ _ (formula_walked 0 e p.0 r.0) (plain_walked a (branch_single a q.0) (branch_fits c a q.0 q.1 r.1 f.stores f.built))
+  act_walked (Loops l x a b d) f =
+      let p = and_parts (is_parameter a) _ (and_parts (shapes.is_name x) _ f.shape).1 in
+      let q = and_parts (is_parameter b) (is_parameter d) p.1 in
+      and_from _ _ (par_walked a p.0) (and_from _ _ (par_walked b q.0) (par_walked d q.1))
+  act_walked (Assigns x e) f = plain_walked (Assigns x e) refl f
+  act_walked (Goes l) f = refl
+  act_walked (Selects ls x) f = refl
+  act_walked (Signs e l m k) f = plain_walked (Signs e l m k) refl f
+  act_walked (Invokes x es) f = refl
+  act_walked Passes f = refl
+  act_walked (Stops n) f = refl
+  act_walked Returns f = refl
+  act_walked (Reads u l es) f = plain_walked (Reads u l es) refl f
+  act_walked (Writes u l es) f = plain_walked (Writes u l es) refl f
+  act_walked (Formats fs) f = plain_walked (Formats fs) refl f
+  act_walked (Types t ds) f = plain_walked (Types t ds) refl f
+  act_walked (Dimensions ds) f = plain_walked (Dimensions ds) refl f
+  act_walked (Commons areas) f = plain_walked (Commons areas) refl f
+  act_walked (Equivalences es) f = plain_walked (Equivalences es) refl f
+  act_walked (Presets ps) f = plain_walked (Presets ps) refl f
+
+  lines_walked : (code : List Line) → FitAll c code → are_walked notes code ≡ true
+  lines_walked [] h = refl
+  lines_walked (s ∷ rest) h = and_from _ _ (act_walked s.act h.0) (lines_walked rest h.1)
+
+-- ---- the unit ----
+
+act_fits : (c : Context) (code : List Line) → IsSoundMain c code → (i : ℕ) (a : Act) → slice_get (acts_of code) i ≡ Some a → Fits c a
+act_fits c code h i a e =
+    let counts = or_parts (has_wrong_sizes a) _ (h.clean i a e WrongCount) in record {
+      shape = not-false _ (h.clean i a e Syntax);
+      counts = counts.1;
+      sizes = counts.0;
+      places = h.clean i a e Limit;
+      format = h.clean i a e BadFormat;
+      stores = h.clean i a e NotAssignable;
+      built = (and_parts _ _ (h.built i a e)).0;
+    }
+
+all_fit : (c : Context) (code : List Line) → ((i : ℕ) (a : Act) → slice_get (acts_of code) i ≡ Some a → Fits c a) → FitAll c code
+all_fit c [] h = tt
+all_fit c (s ∷ rest) h = (h zero s.act refl, all_fit c rest (λ i a e. h (suc i) a e))
+
+main_walked : (c : Context) (code : List Line) → ((x : Text) → sizes_of x c.notes ≡ sizes_of x (notes_of code)) → IsSoundMain c code → is_walked_unit code ≡ true
+main_walked c code same h =
+    let fit = all_fit c code (act_fits c code h) in
+    lines_walked c (notes_of code) (λ x. ap (λ ns. array_or ns x) (same x)) (λ x. sizes_few c x code fit) code fit
+
+pub sound_is_walked : (u : Routine) → IsSound u → is_walked_unit u.lines ≡ true
+sound_is_walked u sound = main_walked (context_by MainUnit (acts_of u.lines)) u.lines (λ x. sizes_same x u.lines) (sound_main u sound)
