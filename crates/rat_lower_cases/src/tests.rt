@@ -36,6 +36,7 @@ fn shown(alloc: Global, walked: &Walked) -> Result<String, AllocError> {
             write!(shown, "{word} at {line}")?;
         }
         RunEnd::GoesOn => shown.push_str("goes on")?,
+        RunEnd::Wrong => shown.push_str("wrong")?,
     }
     Ok(shown)
 }
@@ -47,6 +48,7 @@ fn fault_shown(alloc: Global, fault: Fault) -> Result<String, AllocError> {
 }
 
 /// The run of a unit, or its fault.
+#[tactic(auto, using(unit_walk::proofs::BuiltLemmas::built_is_walked))]
 fn run_of(alloc: Global, unit: &RatUnit, limit: u64) -> Result<Result<Walked, Fault>, Fail> {
     match lower(alloc, unit, at(99)) {
         Ok(made) => match walk(alloc, &made.statements, limit) {
