@@ -1,15 +1,15 @@
 -- A unit whose statements are built is one that is walked.
-use Rattle.std.proofs.Common.{◌≡◌, ℕ, ℤ, Bool, true, false, ◌&&◌, nat_eq, nat_le, List, [], ◌∷◌, refl, sym, ◌∙◌, ap, subst, if◌then◌else◌}
+use Rattle.std.proofs.Common.{◌≡◌, Bool, true, false, ◌&&◌, List, [], ◌∷◌, refl, ◌∙◌, ap, if◌then◌else◌}
 use Rattle.std.proofs.lemmas.Bool.{and_parts, and_from}
 use Rattle.std.specs.Str.{bytes_eq}
 use Rattle.f66_tree.specs.declared.declaration.TypeWord.TheVariants.{Integer}
 use Rattle.f66_tree.specs.declared.expression.Operator.TheVariants.{And, Or}
 use Rattle.f66_tree.specs.declared.expression.Operator.{Operator}
-use Rattle.f66_tree.specs.Forms.{Text, Formula, Number, Fact, Letter, Variable, Applied, Grouped, Positive, Negative, Negated, Joined, Par, Declared, Entry, One, Many, Entries, NoEntry, AndEntry, Act, Assigns, Goes, Selects, Signs, Chooses, Loops, Invokes, Passes, Stops, Returns, Reads, Writes, Formats, Types, Dimensions, Commons, Equivalences, Presets, Line}
+use Rattle.f66_tree.specs.Forms.{Text, Formula, Number, Fact, Letter, Variable, Applied, Grouped, Positive, Negative, Negated, Joined, Par, Declared, One, Entries, NoEntry, AndEntry, Act, Assigns, Goes, Selects, Chooses, Loops, Passes, Stops, Writes, Formats, Types, Dimensions, Commons, Line}
 use Rattle.f66_tree.specs.Units.{Note, is_note, notes_of, sizes_of, sizes_by, sizes_in, if_any, format_of}
 use Rattle.f66_tree.specs.Built as built
 use Rattle.f66_tree.specs.Built.{is_arithmetic, is_relation, is_whole, is_condition, is_scalar, are_scalars, is_variable, is_printer, is_one_variable, is_one_field_of, is_built, are_built, is_built_unit}
-use Rattle.unit_walk.specs.Walked.{is_formula, is_item, is_one_item, are_dimensions, are_declared, is_plain, is_walked, are_walked, is_walked_unit}
+use Rattle.unit_walk.specs.Walked.{is_formula, is_one_item, are_dimensions, are_declared, is_plain, is_walked, are_walked, is_walked_unit}
 
 -- ---- no name has dimensions ----
 

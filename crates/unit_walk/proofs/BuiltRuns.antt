@@ -1,6 +1,6 @@
 -- A unit whose statements are built never goes wrong: its names are integer variables.
-use Rattle.std.proofs.Common.{◌≡◌, ℕ, Bool, true, false, true≢false, List, [], ◌∷◌, Option, Some, None, refl, sym, ap, ap₂, ◌∙◌}
-use Rattle.std.specs.Prelude.{not, ◌&&◌, ◌||◌, ◌++◌, is_some, nat_eq, if◌then◌else◌}
+use Rattle.std.proofs.Common.{◌≡◌, ℕ, true, false, true≢false, List, [], ◌∷◌, Option, Some, None, refl, sym, ap, ap₂, ◌∙◌}
+use Rattle.std.specs.Prelude.{not, ◌&&◌, ◌||◌, ◌++◌, is_some, nat_eq}
 use Rattle.std.specs.List.{list_any}
 use Rattle.std.proofs.lemmas.Bool.{and_parts}
 use Rattle.std.proofs.lemmas.List.Folds.{list_any-append}
@@ -12,10 +12,10 @@ use Rattle.f66_tree.specs.declared.expression.Operator.{Operator}
 use Rattle.f66_tree.specs.declared.expression.Operator.TheVariants.{Lt, Le, Eq, Ne, Ge, Gt, And, Or}
 use Rattle.f66_tree.specs.declared.editing.EditKind.TheVariants as edits
 use Rattle.f66_tree.specs.Fields.{Takes, Fields, NoField, Single}
-use Rattle.f66_tree.specs.Forms.{Text, Formula, Number, Variable, Grouped, Positive, Negative, Negated, Joined, Par, Constant, Named, Declared, One, Entries, NoEntry, AndEntry, Act, Assigns, Goes, Selects, Chooses, Loops, Passes, Stops, Writes, Formats, Types, Line}
+use Rattle.f66_tree.specs.Forms.{Text, Formula, Number, Variable, Grouped, Positive, Negative, Negated, Joined, Par, Constant, Named, Declared, One, NoEntry, AndEntry, Act, Assigns, Goes, Selects, Chooses, Loops, Passes, Stops, Writes, Formats, Types, Line}
 use Rattle.f66_tree.specs.Units.{Note, Context, is_note, notes_of, sizes_of, lists, by_letter, typed_by, type_in, kind_by, kind_of, format_of}
 use Rattle.f66_tree.specs.Evaluation.{Intrinsic, AnIntrinsic, known, intrinsics, array_or}
-use Rattle.f66_tree.specs.Built.{is_arithmetic, is_relation, is_whole, is_condition, is_one_field, is_one_field_of, is_scalar, are_scalars, is_variable, is_printer, is_one_variable, is_plain, is_built, are_built, is_built_unit}
+use Rattle.f66_tree.specs.Built.{is_arithmetic, is_relation, is_whole, is_condition, is_one_field, is_one_field_of, is_scalar, are_scalars, is_printer, is_plain, is_built, are_built, is_built_unit}
 use Rattle.f66_names.specs.Sorts.{form_by, form_of, is_array_form, is_array, is_integer, is_counter}
 use Rattle.f66_names.specs.Uses.{Usage, usage, uses_of, uses_of_par, uses_of_sizes, uses_in}
 use Rattle.f66_names.specs.declared.name_form.NameForm.{NameForm}
@@ -24,7 +24,7 @@ use Rattle.f66_names.specs.declared.name_form.Manner.TheVariants.{Alone}
 use Rattle.f66_names.specs.Kinds.{same_kind, is_kind, operand, outcome, when, kind_in, takes_kind, is_counting}
 use Rattle.f66_names.specs.NameRules.{miscounts, miscounts_by}
 use Rattle.f66_names.specs.StoreRules.{is_bad_size, one_field}
-use Rattle.f66_sound.specs.SoundUnits.{in_main, finds_format, RunsRightly}
+use Rattle.f66_sound.specs.SoundUnits.{in_main, RunsRightly}
 use Rattle.f66_sound.proofs.RightlyLemmas.{if_both}
 use Rattle.f66_sound.proofs.KindLemmas.{joined_kind}
 use Rattle.f66_sound.proofs.ValueLemmas.{FitCounts}

@@ -1,6 +1,6 @@
 -- What places hold, in memory.
 use Rattle.std.proofs.Common.{◌≡◌, ℕ, Bool, true, false, nat_eq, ◌&&◌, List, get_or, Option, Some, None, Result, Ok, Err, Vec, refl, sym, ◌∙◌, ap, subst, if◌then◌else◌}
-use Rattle.std.specs.Prelude.{OnOk, IfOk, IfSome}
+use Rattle.std.specs.Prelude.{OnOk, IfSome}
 use Rattle.std.specs.Str.{bytes_eq}
 use Rattle.std.specs.Map.{update}
 use Rattle.std.specs.HashMap.{HashMap, get_by}

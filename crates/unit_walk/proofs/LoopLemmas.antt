@@ -1,5 +1,5 @@
 -- What DO loops do to what the places hold.
-use Rattle.std.proofs.Common.{◌≡◌, ℤ, pos, ◌+ℤ◌, Bool, true, false, ◌&&◌, List, ◌∷◌, Option, Some, None, Result, Ok, Err, refl, sym, ◌∙◌, ap, subst, if◌then◌else◌}
+use Rattle.std.proofs.Common.{◌≡◌, ℤ, pos, ◌+ℤ◌, Bool, true, false, ◌&&◌, List, ◌∷◌, Option, Some, None, Result, Ok, Err, refl, sym, ◌∙◌, ap, if◌then◌else◌}
 use Rattle.std.specs.Prelude.{⊤, ℕ, int_le, is_some, option_map}
 use Rattle.ground.specs.declared.place.Place.{Place}
 use Rattle.ground.specs.declared.trap.Trap.TheVariants.{BadDo}
@@ -11,7 +11,7 @@ use Rattle.f66_tree.specs.Forms.{Text, Par, Line}
 use Rattle.f66_tree.specs.World.{Record, put_in, World, Out, Gives, Try, Yields, Traps, bind, settle, holding}
 use Rattle.f66_tree.specs.Units.{Frame, Held, notes_of}
 use Rattle.f66_tree.specs.Evaluation.{par_in, store_at, asked}
-use Rattle.f66_tree.specs.Statements.{Loop, fit_loop, fit_loop_in, loop_start, turn_of, loop_turn}
+use Rattle.f66_tree.specs.Statements.{Loop, fit_loop_in, loop_start, turn_of, loop_turn}
 use Rattle.f66_tree.specs.Execution.{Stand}
 use Rattle.f66_tree.specs.OneUnit.{list_number}
 use Rattle.unit_walk.specs.declared.do_loop.Pass.{Pass}
@@ -20,7 +20,7 @@ use Rattle.unit_walk.specs.declared.stuck.Stuck.TheVariants.{Trapped, Wrong}
 use Rattle.unit_walk.specs.Contents.{Values, Sets, content, content_of, contents, tried, loaded, ◌then◌}
 use Rattle.unit_walk.specs.Meaning.{number_in, par_value}
 use Rattle.unit_walk.specs.Loops.{loop_of, fitted, fitted_in, counted, begun_loop, begun_with, next_value, Begins, Turns}
-use Rattle.unit_walk.specs.Walking.{Holds, main_at, around_main, Comes}
+use Rattle.unit_walk.specs.Walking.{Holds, main_at, around_main}
 use Rattle.unit_walk.specs.Declarations.{context_of}
 use Rattle.unit_walk.proofs.ValueLemmas.{asked_is, par_is}
 use Rattle.unit_walk.proofs.StatementLemmas.{put_holds, same_counts}

@@ -1,18 +1,16 @@
 -- What names are declared to be, by the tables of a unit.
-use Rattle.std.proofs.Common.{◌≡◌, ℕ, Bool, true, false, ◌&&◌, nat_le, nat_eq, List, [], ◌∷◌, map, Option, Some, None, refl, sym, ◌∙◌, ap, if◌then◌else◌}
+use Rattle.std.proofs.Common.{◌≡◌, ℕ, Bool, true, false, ◌&&◌, nat_le, List, [], ◌∷◌, Option, Some, None, refl, sym, ◌∙◌, ap, if◌then◌else◌}
 use Rattle.std.proofs.lemmas.Bool.{and_parts}
 use Rattle.std.specs.Option.{option_or}
 use Rattle.std.specs.Str.{bytes_eq}
 use Rattle.std.specs.HashMap.{HashMap, get_by}
 use Rattle.std.specs.Borrow.{Bor}
-use Rattle.ground.specs.declared.value.Kind.{Kind}
 use Rattle.ground.specs.declared.value.Kind.TheVariants.{Integer as AnInteger}
 use Rattle.f66_tree.specs.declared.declaration.TypeWord.{TypeWord}
-use Rattle.f66_tree.specs.declared.declaration.TypeWord.TheVariants.{Integer, Logical, Other}
+use Rattle.f66_tree.specs.declared.declaration.TypeWord.TheVariants.{Integer, Other}
 use Rattle.f66_tree.specs.declared.declaration.Par as memory
-use Rattle.f66_tree.specs.Forms.{Text, Par, Declared, Act, Types, Dimensions, Commons, Chooses, Line}
+use Rattle.f66_tree.specs.Forms.{Text, Par, Declared, Act, Types, Dimensions, Commons, Line}
 use Rattle.f66_tree.specs.Units.{Note, is_note, notes_of, kind_by, kind_of, by_letter, type_in, typed_by, lists, sizes_of, sizes_by as sizes_given, sizes_in, if_any}
-use Rattle.f66_tree.specs.Views.{par_of}
 use Rattle.unit_walk.specs.Declarations.{in_main, type_by, first_type, some_sizes, first_sizes_in, sizes_by, first_sizes, sizes_under, kind_from, sizes_at, AreTypes, AreSizes}
 use Rattle.unit_walk.specs.Walked.{are_dimensions, are_declared, is_walked, are_walked}
 

@@ -1,20 +1,20 @@
 -- A sound unit is one that is walked.
-use Rattle.std.proofs.Common.{◌≡◌, ◌+◌, ◌≤◌, ℕ, zero, suc, Bool, true, false, ◌&&◌, ◌||◌, nat_le, nat_lt, nat_eq, List, [], ◌∷◌, ◌++◌, length, Some, slice_get, refl, ap, ap₂, subst, arith}
-use Rattle.std.specs.Prelude.{not, if◌then◌else◌, ⊤}
+use Rattle.std.proofs.Common.{◌≡◌, ◌≤◌, ℕ, zero, suc, Bool, true, false, ◌||◌, nat_le, nat_lt, nat_eq, List, [], ◌∷◌, length, Some, slice_get, refl, ap, ap₂, subst, arith}
+use Rattle.std.specs.Prelude.{not, ⊤}
 use Rattle.std.specs.List.{list_any, list_all}
 use Rattle.std.specs.Str.{bytes_eq}
 use Rattle.std.proofs.lemmas.Bool.{and_parts, and_from, or_parts, not-false, eqb-true, leb-true, le-leb, ltb-false}
 use Rattle.ground.specs.declared.fault.FaultKind.TheVariants.{Syntax, WrongCount, BadFormat, NotAssignable, Limit}
 use Rattle.f66_tree.specs.declared.editing.EditKind.TheVariants as edits
 use Rattle.f66_tree.specs.Fields.{Takes, Fields, NoField, Single}
-use Rattle.f66_tree.specs.Forms.{Text, Formula, Number, Fact, Letter, Variable, Applied, Grouped, Positive, Negative, Negated, Joined, Formulas, Nought, Also, Par, Constant, Named, Declared, MainUnit, Entry, One, Many, Entries, NoEntry, AndEntry, Act, Assigns, Goes, Selects, Signs, Chooses, Loops, Invokes, Passes, Stops, Returns, Reads, Writes, Formats, Types, Dimensions, Commons, Equivalences, Presets, Line, Routine}
+use Rattle.f66_tree.specs.Forms.{Text, Formula, Number, Fact, Letter, Variable, Applied, Grouped, Positive, Negative, Negated, Joined, Formulas, Nought, Also, Par, Constant, Named, Declared, MainUnit, One, Many, Entries, NoEntry, AndEntry, Act, Assigns, Goes, Selects, Signs, Chooses, Loops, Invokes, Passes, Stops, Returns, Reads, Writes, Formats, Types, Dimensions, Commons, Equivalences, Presets, Line, Routine}
 use Rattle.f66_tree.specs.Units.{Note, Context, is_note, notes_of, if_any, sizes_in, sizes_by, sizes_of, places_of}
 use Rattle.f66_tree.specs.Evaluation.{Sort, AnArray, AnIntrinsic, AFunction, Intrinsic, Iabs, Mod, Isign, Idim, Max0, Min0, known, intrinsics, array_or, sort_of}
 use Rattle.f66_tree.specs.Built.{is_par, is_printer, is_one_field, is_scalar}
-use Rattle.f66_names.specs.Declaring.{noted, context_by}
+use Rattle.f66_names.specs.Declaring.{context_by}
 use Rattle.f66_names.specs.Shapes as shapes
 use Rattle.f66_names.specs.Shapes.{stands, stand_all, are_arguments, is_named, is_place, is_parameter, is_branch, has_shape}
-use Rattle.f66_names.specs.Sorts.{form_by, form_of, is_array_form, is_array, takes}
+use Rattle.f66_names.specs.Sorts.{form_by, form_of, is_array_form, takes}
 use Rattle.f66_names.specs.declared.name_form.Manner.TheVariants.{With, Stored}
 use Rattle.f66_names.specs.Uses.{usage, many, uses_of, uses_of_all, uses_of_target, uses_of_par, uses_of_entries, uses_in}
 use Rattle.f66_names.specs.NameRules.{has_many_sizes, has_wrong_sizes, miscounts}

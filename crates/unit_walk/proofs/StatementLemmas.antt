@@ -1,15 +1,15 @@
 -- What plain statements do to what the places hold and to the records.
-use Rattle.std.proofs.Common.{◌≡◌, ℕ, ℤ, ◌<◌, ◌≤◌, ◌≤ℤ◌, ◌-◌, zero, suc, pos, negsuc, length, get_or, arith, Bool, true, false, ◌&&◌, List, [], ◌∷◌, map, nat_eq, Option, Some, None, Result, Ok, Err, refl, sym, ◌∙◌, ap, subst, if◌then◌else◌}
+use Rattle.std.proofs.Common.{◌≡◌, ℕ, ℤ, ◌<◌, ◌≤◌, ◌≤ℤ◌, ◌-◌, zero, suc, pos, negsuc, length, get_or, arith, Bool, true, false, ◌&&◌, List, [], ◌∷◌, map, nat_eq, Option, Some, Result, Ok, Err, refl, sym, ◌∙◌, ap, if◌then◌else◌}
 use Rattle.std.specs.Prelude.{⊤, unsigned_abs}
 use Rattle.std.specs.Str.{bytes_eq}
 use Rattle.ground.specs.declared.place.Place.{Place}
 use Rattle.ground.specs.declared.trap.Trap.TheVariants.{BadBranch}
 use Rattle.ground.specs.declared.value.Value.{Value}
 use Rattle.ground.specs.declared.value.Value.TheVariants.{Int, Log}
-use Rattle.ground.specs.Content.{Content, Whole}
+use Rattle.ground.specs.Content.{Content}
 use Rattle.f66_tree.specs.Forms.{Text, Formula, Number, Fact, Letter, Variable, Applied, Grouped, Positive, Negative, Negated, Joined, Act, Assigns, Selects, Signs, Line}
-use Rattle.f66_tree.specs.World.{Record, Store, put_in, World, Out, Gives, Halts, Try, Yields, bind, settle, holding}
-use Rattle.f66_tree.specs.Units.{Note, Frame, Spot, Held, kind_of, notes_of}
+use Rattle.f66_tree.specs.World.{Record, Store, put_in, World, Out, Gives, Try, bind, settle, holding}
+use Rattle.f66_tree.specs.Units.{Frame, Spot, Held, notes_of}
 use Rattle.f66_tree.specs.Evaluation as meaning
 use Rattle.f66_tree.specs.Evaluation.{Sort, AnArray, AnIntrinsic, AFunction, sort_of, store_at, place_by, locate, truth_in, asks, variable_in}
 use Rattle.f66_tree.specs.Statements as meant
@@ -21,10 +21,10 @@ use Rattle.unit_walk.specs.declared.stuck.Stuck.TheVariants.{Trapped, Wrong}
 use Rattle.unit_walk.specs.Contents.{Values, Sets, content, content_of, viewed, tried, ◌then◌}
 use Rattle.unit_walk.specs.Meaning.{number_in, fact_in, offset, read, value, values_of}
 use Rattle.unit_walk.specs.Steps.{nth_label, label_at, label_by_sign, element, place, assigning, selecting, selecting_by_sign, condition}
-use Rattle.unit_walk.specs.Declarations.{in_main, context_of}
-use Rattle.unit_walk.specs.Walking.{HoldsValues, Holds, main_at, around_main, SameCounts, Comes}
+use Rattle.unit_walk.specs.Declarations.{context_of}
+use Rattle.unit_walk.specs.Walking.{HoldsValues, main_at, around_main, SameCounts}
 use Rattle.unit_walk.specs.Leaving.{leaves, jumped, end_of_stuck, Does}
-use Rattle.unit_walk.specs.declared.statement.Exit.TheVariants.{Next, To, Ends}
+use Rattle.unit_walk.specs.declared.statement.Exit.TheVariants.{Next, Ends}
 use Rattle.unit_walk.proofs.Spots.{same_unit}
 use Rattle.unit_walk.proofs.ValueLemmas.{then_viewed, load_is, element_is, value_is, values_are}
 

@@ -1,5 +1,5 @@
 -- The value of an expression in a store that holds what the places hold.
-use Rattle.std.proofs.Common.{◌≡◌, ℕ, ◌+◌, ◌*◌, ℤ, pos, neg_ℤ, Bool, true, false, not, ◌&&◌, ◌||◌, nat_lt, List, [], ◌∷◌, map, Option, Some, None, Result, Ok, Err, refl, sym, ◌∙◌, ap, arith, if◌then◌else◌}
+use Rattle.std.proofs.Common.{◌≡◌, ℕ, ◌+◌, ◌*◌, ℤ, pos, neg_ℤ, Bool, true, false, not, ◌&&◌, nat_lt, List, [], ◌∷◌, map, Option, Some, None, Result, Ok, Err, refl, sym, ◌∙◌, ap, arith, if◌then◌else◌}
 use Rattle.std.specs.Prelude.{⊤, ◌-ℤ◌, unsigned_abs, int_lt, int_le}
 use Rattle.ground.specs.declared.place.Place.{Place}
 use Rattle.ground.specs.declared.trap.Trap.{Trap}
@@ -8,23 +8,22 @@ use Rattle.ground.specs.declared.value.Kind.{Kind}
 use Rattle.ground.specs.declared.value.Kind.TheVariants.{Integer, Logical}
 use Rattle.ground.specs.declared.value.Value.{Value}
 use Rattle.ground.specs.declared.value.Value.TheVariants.{Int, Log}
-use Rattle.ground.specs.Content.{Content, Whole, Truth}
+use Rattle.ground.specs.Content.{Content, Whole}
 use Rattle.ground.specs.Arithmetic.{sum, difference, product, quotient, remainder, power}
 use Rattle.f66_tree.specs.declared.expression.Operator.{Operator}
 use Rattle.f66_tree.specs.declared.expression.Operator.TheVariants.{Add, Sub, Mul, Div, Power, Lt, Le, Eq, Ne, Ge, Gt, And, Or}
 use Rattle.f66_tree.specs.Forms.{Text, Formula, Number, Fact, Letter, Variable, Applied, Grouped, Positive, Negative, Negated, Joined, Formulas, Nought, Also, Par, Constant, Named, Line}
 use Rattle.f66_tree.specs.World.{World, Out, Gives, Try, Yields, Traps, Fails, then_try, bind, settle}
-use Rattle.f66_tree.specs.Units.{Note, Setting, Frame, Spot, Held, kind_of, sizes_of, places_of}
+use Rattle.f66_tree.specs.Units.{Note, Frame, Spot, Held, kind_of, sizes_of, places_of}
 use Rattle.f66_tree.specs.Evaluation as meaning
 use Rattle.f66_tree.specs.Evaluation.{whole, on_whole, on_truth, operate, opposite, denied, same_whole, truth_in, whole_in, intrinsic, Intrinsic, Iabs, Mod, Isign, Idim, Max0, Min0, farthest, Sort, AnArray, AnIntrinsic, AFunction, sort_of, asked, load, moved, element, referred, variable_in, par_in, pars_in, by_sign, by_operator, asks}
 use Rattle.f66_tree.specs.Execution.{Stand}
-use Rattle.f66_tree.specs.OneUnit.{one_unit, list_number}
+use Rattle.f66_tree.specs.OneUnit.{one_unit}
 use Rattle.unit_walk.specs.declared.stuck.Stuck.{Stuck}
 use Rattle.unit_walk.specs.declared.stuck.Stuck.TheVariants.{Trapped, Wrong}
-use Rattle.unit_walk.specs.declared.operate.Best.{Best}
-use Rattle.unit_walk.specs.declared.operate.Best.TheVariants.{Nothing, Of, Mixed}
+use Rattle.unit_walk.specs.declared.operate.Best.TheVariants.{Of, Mixed}
 use Rattle.unit_walk.specs.Contents.{Values, content, content_of, viewed, tried, contents, loaded, ◌then◌}
-use Rattle.unit_walk.specs.Meaning.{numbered, on_numbers, on_facts, operated, number_in, fact_in, one_number, two_numbers, best_of, bettered, ended, excess, called, distance, within, read, par_value, par_values, offset, applied, value, values_of}
+use Rattle.unit_walk.specs.Meaning.{numbered, on_numbers, on_facts, operated, number_in, fact_in, best_of, excess, called, distance, within, read, par_value, par_values, offset, applied, value, values_of}
 use Rattle.unit_walk.specs.Declarations.{in_main}
 use Rattle.unit_walk.specs.Walking.{HoldsValues, main_at, around_main}
 

@@ -1,8 +1,8 @@
 -- What a WRITE of one item does.
-use Rattle.std.proofs.Common.{◌≡◌, ℕ, ◌+◌, ◌-◌, ◌≤◌, ◌<◌, ℤ, pos, Bool, true, false, ◌&&◌, List, [], ◌∷◌, ◌++◌, length, replicate, nat_le, Option, Some, None, Result, Ok, Err, refl, sym, ◌∙◌, ap, subst, arith, if◌then◌else◌}
+use Rattle.std.proofs.Common.{◌≡◌, ℕ, ◌+◌, ◌-◌, ℤ, Bool, true, false, List, [], ◌∷◌, ◌++◌, length, replicate, nat_le, Option, Some, None, Result, Ok, Err, refl, sym, ◌∙◌, ap, subst, arith, if◌then◌else◌}
 use Rattle.std.proofs.lemmas.Bool.Decides.{nat_tests}
 use Rattle.std.proofs.lemmas.Grind.{common_steps}
-use Rattle.std.specs.Prelude.{⊤, int_le}
+use Rattle.std.specs.Prelude.{⊤}
 use Rattle.std.specs.Fmt.{signed_decimal}
 use Rattle.ground.specs.declared.place.Place.{Place}
 use Rattle.ground.specs.declared.trap.Trap.{Trap}
@@ -31,7 +31,7 @@ use Rattle.f66_tree.specs.OneUnit.{list_number}
 use Rattle.f66_tree.specs.Built.{is_printer, is_scalar}
 use Rattle.unit_walk.specs.declared.stuck.Stuck.{Stuck}
 use Rattle.unit_walk.specs.declared.stuck.Stuck.TheVariants.{Trapped, Wrong}
-use Rattle.unit_walk.specs.Contents.{Values, content, content_of, viewed, tried, contents, loaded, ◌then◌}
+use Rattle.unit_walk.specs.Contents.{Values, viewed, contents, loaded, ◌then◌}
 use Rattle.unit_walk.specs.Meaning.{number_in, values_of}
 use Rattle.unit_walk.specs.Steps.{element, place, writing, written_number, fitted_field}
 use Rattle.unit_walk.specs.Declarations.{context_of}
@@ -39,7 +39,7 @@ use Rattle.unit_walk.specs.declared.statement.Exit.TheVariants.{Next, Ends}
 use Rattle.unit_walk.specs.Leaving.{leaves, end_of_stuck, Does}
 use Rattle.unit_walk.specs.Formats.{field_of}
 use Rattle.unit_walk.specs.Walked.{is_item}
-use Rattle.unit_walk.specs.Walking.{HoldsValues, Holds, main_at, around_main, Comes, one_field}
+use Rattle.unit_walk.specs.Walking.{HoldsValues, main_at, around_main, one_field}
 use Rattle.unit_walk.proofs.ValueLemmas.{asked_is}
 use Rattle.unit_walk.proofs.StatementLemmas.{spot, located}
 

@@ -3,7 +3,6 @@ use Rattle.std.specs.Prelude.{◌≡◌, ℕ, List, drop, length, map}
 use Rattle.ground.specs.declared.place.Place.{Place}
 use Rattle.f66_tree.specs.Forms.{Line}
 use Rattle.f66_tree.specs.World.{Record}
-use Rattle.f66_tree.specs.Units.{notes_of}
 use Rattle.f66_tree.specs.Execution.{close}
 use Rattle.unit_walk.specs.declared.do_loop.Pass.{Pass}
 use Rattle.unit_walk.specs.declared.do_loop.Closing.{Closing}

@@ -1,6 +1,6 @@
 -- Values of expressions, by what the places hold (X3.9-1966, sections 5.1.3, 6 and 8.2). Operands are evaluated from left to
 -- right, all of them; of subscripts first the values in order, then adjustable dimensions, then the tests, then the read.
-use Rattle.std.specs.Prelude.{ℕ, ◌+◌, ◌*◌, ℤ, pos, neg_ℤ, ◌-ℤ◌, unsigned_abs, int_lt, int_le, nat_lt, Bool, true, false, not, ◌&&◌, ◌||◌, List, [], ◌∷◌, Option, Some, None, Result, Ok, Err, if◌then◌else◌}
+use Rattle.std.specs.Prelude.{ℕ, ◌+◌, ◌*◌, ℤ, pos, neg_ℤ, ◌-ℤ◌, unsigned_abs, int_lt, int_le, nat_lt, Bool, true, false, not, ◌&&◌, ◌||◌, List, [], ◌∷◌, Result, Ok, Err, if◌then◌else◌}
 use Rattle.ground.specs.declared.trap.Trap.{Trap}
 use Rattle.ground.specs.declared.trap.Trap.TheVariants.{Subscript}
 use Rattle.ground.specs.declared.value.Value.{Value}

@@ -2,7 +2,7 @@
 use Rattle.std.specs.Prelude.{ℕ, ◌+◌, ◌*◌, pos, ◌-ℤ◌, unsigned_abs, int_le, nat_lt, ◌&&◌, ◌≤◌, List, [], ◌∷◌, Result, Ok, Err, if◌then◌else◌}
 use Rattle.ground.specs.declared.trap.Trap.TheVariants.{Subscript}
 use Rattle.ground.specs.declared.value.Value.{Value}
-use Rattle.ground.specs.declared.value.Value.TheVariants.{Int, Log}
+use Rattle.ground.specs.declared.value.Value.TheVariants.{Int}
 use Rattle.unit_walk.specs.declared.stuck.Stuck.{Stuck}
 use Rattle.unit_walk.specs.declared.stuck.Stuck.TheVariants.{Trapped, Wrong}
 use Rattle.unit_walk.specs.declared.element.Reach.{Reach}

@@ -1,6 +1,5 @@
 -- What plain statements come to, by what the places hold (X3.9-1966, section 7.1).
 use Rattle.std.specs.Prelude.{ℕ, zero, suc, ℤ, pos, negsuc, nat_le, Bool, true, false, List, [], ◌∷◌, Option, Some, None, Result, Ok, Err, if◌then◌else◌}
-use Rattle.ground.specs.declared.place.Place.{Place}
 use Rattle.ground.specs.declared.trap.Trap.TheVariants.{BadBranch, FormatMismatch, LongRecord}
 use Rattle.ground.specs.declared.value.Kind.{Kind}
 use Rattle.ground.specs.declared.value.Kind.TheVariants.{Integer, Logical}

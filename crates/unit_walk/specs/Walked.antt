@@ -1,8 +1,8 @@
 -- Which main units are walked, by the forms of their statements alone.
-use Rattle.std.specs.Prelude.{ℕ, ℤ, Bool, true, false, nat_le, ◌&&◌, List, [], ◌∷◌, length}
-use Rattle.f66_tree.specs.Forms.{Formula, Number, Fact, Letter, Variable, Applied, Grouped, Positive, Negative, Negated, Joined, Formulas, Nought, Also, Par, Constant, Named, Declared, Entry, One, Entries, NoEntry, AndEntry, Act, Assigns, Goes, Selects, Signs, Chooses, Loops, Invokes, Passes, Stops, Returns, Writes, Formats, Types, Dimensions, Line}
+use Rattle.std.specs.Prelude.{Bool, true, false, nat_le, ◌&&◌, List, [], ◌∷◌, length}
+use Rattle.f66_tree.specs.Forms.{Formula, Number, Fact, Letter, Variable, Applied, Grouped, Positive, Negative, Negated, Joined, Formulas, Nought, Also, Par, Declared, One, Entries, NoEntry, AndEntry, Act, Assigns, Goes, Selects, Signs, Chooses, Loops, Invokes, Passes, Stops, Returns, Writes, Formats, Types, Dimensions, Line}
 use Rattle.f66_tree.specs.Units.{Note, sizes_of, places_of, notes_of}
-use Rattle.f66_tree.specs.Evaluation.{Sort, AnArray, AnIntrinsic, AFunction, Iabs, Mod, Isign, Idim, Max0, Min0, array_or}
+use Rattle.f66_tree.specs.Evaluation.{Sort, AnArray, AnIntrinsic, AFunction, Max0, Min0, array_or}
 use Rattle.f66_tree.specs.Built.{is_constant, is_par, is_one_field, is_printer, is_scalar}
 
 -- at most three

@@ -1,4 +1,4 @@
-use Rattle.std.proofs.Common.{rules, ◌≡◌, Some, None}
+use Rattle.std.proofs.Common.{rules, Some, None}
 use Rattle.std.specs.Prelude.{IfSome}
 use Rattle.ground.specs.declared.value.Value.TheVariants.{Int}
 use Rattle.unit_walk.specs.Contents.{values_in, Sets, IsSmall}

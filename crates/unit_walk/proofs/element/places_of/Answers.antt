@@ -1,5 +1,4 @@
-use Rattle.std.proofs.Common.{◌-◌, get_or, ap, arith, ◌<◌, length, ◌≡◌, rules}
-use Rattle.f66_tree.specs.declared.declaration.Par.{Par}
+use Rattle.std.proofs.Common.{◌-◌, ◌<◌, length, rules}
 use Rattle.unit_walk.proofs.ShapeLemmas.{par_at}
 use Rattle.unit_walk.proofs.element.places_of.Goals as goal
 

@@ -1,8 +1,7 @@
-use Rattle.std.proofs.Common.{◌≡◌, ◌≤◌, true, drop, map}
+use Rattle.std.proofs.Common.{◌≡◌, ◌≤◌, drop, map}
 use Rattle.f66_tree.specs.Units.{places_of}
 use Rattle.f66_tree.specs.Views.{par_of}
 use Rattle.unit_walk.specs.Reaching.{capped}
-use Rattle.unit_walk.specs.Walked.{are_pars}
 use Rattle.unit_walk.proofs.element.places_of.Given as goal
 
 abbrev pub invariant-loop-index : goal.invariant-loop-index

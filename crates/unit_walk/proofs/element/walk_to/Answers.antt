@@ -1,4 +1,4 @@
-use Rattle.std.proofs.Common.{rules, ◌≡◌, ◌<◌, ◌≤◌, length, ◌∙◌, arith}
+use Rattle.std.proofs.Common.{rules, ◌<◌, ◌≤◌, length, ◌∙◌}
 use Rattle.unit_walk.proofs.ReachLemmas.{subscripts_left, dimensions_left}
 use Rattle.unit_walk.proofs.element.walk_to.Goals as goal
 

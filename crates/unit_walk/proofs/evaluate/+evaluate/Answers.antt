@@ -13,7 +13,7 @@ use Rattle.f66_tree.specs.Views.{par_of, formula_of, formulas_of, lines_of}
 use Rattle.unit_walk.specs.Contents.{values_in, IsSmall}
 use Rattle.unit_walk.specs.Meaning.{value}
 use Rattle.unit_walk.specs.Declarations.{context_of}
-use Rattle.unit_walk.specs.Walked.{is_count, are_formulas, are_pars, are_dimensions, are_few}
+use Rattle.unit_walk.specs.Walked.{is_count, are_formulas, are_pars, are_dimensions}
 use Rattle.unit_walk.proofs.NameLemmas.{sizes_fit}
 use Rattle.unit_walk.proofs.Sizes.{formula_size, member_size}
 use Rattle.unit_walk.proofs.ShapeLemmas.{item_is, walked_item, formula_at, array_few, few_arguments, few_length, formulas_behind, arguments_more}

@@ -1,4 +1,4 @@
-use Rattle.std.proofs.Common.{rules, ◌≡◌, ◌<◌, ◌+◌, Ok, List, length, get_or, length-set, ap, ◌∙◌, arith}
+use Rattle.std.proofs.Common.{◌≡◌, ◌<◌, Ok, List, length, get_or, length-set, ap, ◌∙◌, arith}
 use Rattle.std.proofs.lemmas.List.Elements.{All-set}
 use Rattle.f66_tree.specs.declared.declaration.Par.{Par}
 use Rattle.f66_tree.specs.Views.{par_of, lines_of}

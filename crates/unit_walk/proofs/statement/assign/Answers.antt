@@ -1,5 +1,5 @@
-use Rattle.std.proofs.Common.{rules, sym, subst, List}
-use Rattle.f66_tree.specs.Forms.{Assigns, Line}
+use Rattle.std.proofs.Common.{rules, sym, subst}
+use Rattle.f66_tree.specs.Forms.{Assigns}
 use Rattle.f66_tree.specs.Views.{formula_of, lines_of}
 use Rattle.unit_walk.specs.declared.statement.RunEnd.{RunEnd}
 use Rattle.unit_walk.specs.declared.statement.Exit.TheVariants.{Ends}

@@ -1,5 +1,5 @@
 use Rattle.std.proofs.Common.{rules, ◌≡◌, ℕ, Ok, Err, Result, ◌∙◌, ap, sym}
-use Rattle.f66_tree.specs.Forms.{Text, Formula, Applied}
+use Rattle.f66_tree.specs.Forms.{Text, Applied}
 use Rattle.f66_tree.specs.Units.{notes_of}
 use Rattle.f66_tree.specs.Views.{formula_of, formulas_of, lines_of}
 use Rattle.unit_walk.specs.declared.stuck.Stuck.{Stuck}
