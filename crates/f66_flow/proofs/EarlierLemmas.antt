@@ -19,7 +19,7 @@ use Rattle.f66_flow.specs.declared.scope.Scope.TheVariants.{Whole}
 use Rattle.f66_flow.proofs.NestLemmas.{or_left, or_right, and_true, each_below, held_before, false_lt}
 
 -- where the range that a statement begins ends
-end_of : (lines : List Line) (d : ℕ) (o : Option Line) → slice_get lines d ≡ o →
+pub end_of : (lines : List Line) (d : ℕ) (o : Option Line) → slice_get lines d ≡ o →
     end_at (range_ends lines) d ≡ unwrap_or (option_map (λ s. range_end lines s.act) o) 0
 end_of lines d o e =
     sym (unwrap_or-slice_get (range_ends lines) d 0) ∙ ap (λ p. unwrap_or p 0) (slice_get-map (λ s. range_end lines s.act) lines d)

@@ -112,14 +112,14 @@ last-later test (x ∷ xs) (suc d) (suc j) z e l = last-later test xs d j z (suc
 
 -- The innermost range around a place
 
-held_parts : (ends : List ℕ) (d p : ℕ) → holds ends d p ≡ true → (d < p) × (p ≤ end_at ends d)
+pub held_parts : (ends : List ℕ) (d p : ℕ) → holds ends d p ≡ true → (d < p) × (p ≤ end_at ends d)
 held_parts ends d p h =
     (true_lt d p (and_left (nat_lt d p) (nat_le p (end_at ends d)) h), true_le p (end_at ends d) (and_right (nat_lt d p) (nat_le p (end_at ends d)) h))
 
 pub held_before : (ends : List ℕ) (d p : ℕ) → holds ends d p ≡ true → d < p
 held_before ends d p h = (held_parts ends d p h).0
 
-held_by : (ends : List ℕ) (d p : ℕ) → d < p → p ≤ end_at ends d → holds ends d p ≡ true
+pub held_by : (ends : List ℕ) (d p : ℕ) → d < p → p ≤ end_at ends d → holds ends d p ≡ true
 held_by ends d p l h = ap (λ b. b && nat_le p (end_at ends d)) (lt_true d p l) ∙ le_true p (end_at ends d) h
 
 innermost-none : (ends : List ℕ) (t j : ℕ) → innermost ends t ≡ None → holds ends j t ≡ false

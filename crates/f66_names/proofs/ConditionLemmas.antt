@@ -19,11 +19,11 @@ find_same : {K : Type 0} (f g : K → Bool) (ks : List K) → ((k : K) → f k �
 find_same f g [] same = refl
 find_same f g (k ∷ ks) same = ap (λ b. cond b (Some k) (find f ks)) (same k) ∙ ap (λ o. cond (g k) (Some k) o) (find_same f g ks same)
 
-and_true : (a : Bool) → (a && true) ≡ a
+pub and_true : (a : Bool) → (a && true) ≡ a
 and_true true = refl
 and_true false = refl
 
-or_false : (a : Bool) → (a || false) ≡ a
+pub or_false : (a : Bool) → (a || false) ≡ a
 or_false true = refl
 or_false false = refl
 

@@ -6,4 +6,5 @@ pub mod SizeLemmas
 pub mod DeclaredLemmas
 pub mod BuiltLemmas
 pub mod ConditionLemmas
+pub mod JumpLemmas
 pub mod ExpressionLemmas

@@ -98,36 +98,36 @@ plain_names l (Commons es) is = refl
 plain_names l (Equivalences es) is = refl
 plain_names l (Presets es) is = refl
 
-occurs-test : (l : ℕ) (p : Place) (o : Option Formula) (m : ℕ) (next : List Line) → occurs l (with_test p o m next) ≡ occurs l next
+pub occurs-test : (l : ℕ) (p : Place) (o : Option Formula) (m : ℕ) (next : List Line) → occurs l (with_test p o m next) ≡ occurs l next
 occurs-test l p None m next = refl
 occurs-test l p (Some e) m next = omega arith
 
-occurs-act : (l : ℕ) (p : Place) (o : Option Act) (next : List Line) → occurs l (with_act p o next) ≡ occurs l next
+pub occurs-act : (l : ℕ) (p : Place) (o : Option Act) (next : List Line) → occurs l (with_act p o next) ≡ occurs l next
 occurs-act l p None next = refl
 occurs-act l p (Some e) next = omega arith
 
-ends-test : (l : ℕ) (p : Place) (o : Option Formula) (m : ℕ) (next : List Line) → ends l (with_test p o m next) ≡ ends l next
+pub ends-test : (l : ℕ) (p : Place) (o : Option Formula) (m : ℕ) (next : List Line) → ends l (with_test p o m next) ≡ ends l next
 ends-test l p None m next = refl
 ends-test l p (Some e) m next = omega arith
 
-ends-act : (l : ℕ) (p : Place) (o : Option Act) (next : List Line) → IsPlainIfAny o → ends l (with_act p o next) ≡ ends l next
+pub ends-act : (l : ℕ) (p : Place) (o : Option Act) (next : List Line) → IsPlainIfAny o → ends l (with_act p o next) ≡ ends l next
 ends-act l p None next is = refl
 ends-act l p (Some a) next is = omega (arith, plain_names l a is)
 
-occurs-each : (l : ℕ) (x : Text) (p : Place) (es : Formulas) (q : ℕ) (next : List Line) → occurs l (each_test x p es q next) ≡ occurs l next
+pub occurs-each : (l : ℕ) (x : Text) (p : Place) (es : Formulas) (q : ℕ) (next : List Line) → occurs l (each_test x p es q next) ≡ occurs l next
 occurs-each l x p Nought q next = refl
 occurs-each l x p (Also e es) q next = omega (arith, occurs-each l x p es q next)
 
-ends-each : (l : ℕ) (x : Text) (p : Place) (es : Formulas) (q : ℕ) (next : List Line) → ends l (each_test x p es q next) ≡ ends l next
+pub ends-each : (l : ℕ) (x : Text) (p : Place) (es : Formulas) (q : ℕ) (next : List Line) → ends l (each_test x p es q next) ≡ ends l next
 ends-each l x p Nought q next = refl
 ends-each l x p (Also e es) q next = omega (arith, ends-each l x p es q next)
 
 module _ (made : ℕ → ℕ) (spare : Text) where
-  occurs-tests : (l : ℕ) (cs : Clauses) (m : ℕ) (next : List Line) → occurs l (tests made spare cs m next) ≡ occurs l next
+  pub occurs-tests : (l : ℕ) (cs : Clauses) (m : ℕ) (next : List Line) → occurs l (tests made spare cs m next) ≡ occurs l next
   occurs-tests l NoClause m next = refl
   occurs-tests l (AndClause es d ss p cs) m next = omega (arith, occurs-each l spare p es (made m) (tests made spare cs (m + 1 + all_labels ss) next), occurs-tests l cs (m + 1 + all_labels ss) next)
 
-  ends-tests : (l : ℕ) (cs : Clauses) (m : ℕ) (next : List Line) → ends l (tests made spare cs m next) ≡ ends l next
+  pub ends-tests : (l : ℕ) (cs : Clauses) (m : ℕ) (next : List Line) → ends l (tests made spare cs m next) ≡ ends l next
   ends-tests l NoClause m next = refl
   ends-tests l (AndClause es d ss p cs) m next = omega (arith, ends-each l spare p es (made m) (tests made spare cs (m + 1 + all_labels ss) next), ends-tests l cs (m + 1 + all_labels ss) next)
 
@@ -167,7 +167,7 @@ module _ (made : ℕ → ℕ) (spare : Text) where
     occurs-all l (AndCommand s ss) n ls next is =
         omega (arith, occurs-code l s n ls (all_code made spare ss (n + labels s) ls next) is.0, occurs-all l ss (n + labels s) ls next is.1)
 
-    occurs-bodies : (l : ℕ) (cs : Clauses) (m out : ℕ) (ls : Rings) (next : List Line) → ClausesBuilt cs → occurs l (bodies made spare cs m out ls next) ≡ clause_heads made l cs m + clause_dos made l cs m + occurs l next
+    pub occurs-bodies : (l : ℕ) (cs : Clauses) (m out : ℕ) (ls : Rings) (next : List Line) → ClausesBuilt cs → occurs l (bodies made spare cs m out ls next) ≡ clause_heads made l cs m + clause_dos made l cs m + occurs l next
     occurs-bodies l NoClause m out ls next is = omega arith
     occurs-bodies l (AndClause es d ss p cs) m out ls next is =
         omega (arith, occurs-all l ss (m + 1) ls (jump p out ∷ bodies made spare cs (m + 1 + all_labels ss) out ls next) is.0, occurs-bodies l cs (m + 1 + all_labels ss) out ls next is.1)
@@ -208,7 +208,7 @@ module _ (made : ℕ → ℕ) (spare : Text) where
     ends-all l (AndCommand s ss) n ls next is =
         omega (arith, ends-code l s n ls (all_code made spare ss (n + labels s) ls next) is.0, ends-all l ss (n + labels s) ls next is.1)
 
-    ends-bodies : (l : ℕ) (cs : Clauses) (m out : ℕ) (ls : Rings) (next : List Line) → ClausesBuilt cs → ends l (bodies made spare cs m out ls next) ≡ clause_dos made l cs m + ends l next
+    pub ends-bodies : (l : ℕ) (cs : Clauses) (m out : ℕ) (ls : Rings) (next : List Line) → ClausesBuilt cs → ends l (bodies made spare cs m out ls next) ≡ clause_dos made l cs m + ends l next
     ends-bodies l NoClause m out ls next is = omega arith
     ends-bodies l (AndClause es d ss p cs) m out ls next is =
         omega (arith, ends-all l ss (m + 1) ls (jump p out ∷ bodies made spare cs (m + 1 + all_labels ss) out ls next) is.0, ends-bodies l cs (m + 1 + all_labels ss) out ls next is.1)

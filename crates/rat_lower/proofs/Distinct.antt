@@ -61,7 +61,7 @@ module _ (made : ℕ → ℕ) where
     count l (Plainly m p a) n = omega arith
     count l (Marked m p s) n = omega (arith, count l s n)
 
-    count-all : (l : ℕ) (ss : Commands) (n : ℕ) → all_heads made l ss n + all_dos made l ss n ≡ all_given l ss + span l n (all_labels ss)
+    pub count-all : (l : ℕ) (ss : Commands) (n : ℕ) → all_heads made l ss n + all_dos made l ss n ≡ all_given l ss + span l n (all_labels ss)
     count-all l NoCommand n = omega arith
     count-all l (AndCommand s ss) n = omega (arith, count l s n, count-all l ss (n + labels s), span-add l n (labels s) (all_labels ss))
 
@@ -101,3 +101,19 @@ module _ (made : ℕ → ℕ) where
       (λ (lt : all_given l ss < 1). omega (arith, count-all l ss 0, span-most rises l 0 (all_labels ss)))
       (λ (le : 1 ≤ all_given l ss). omega (arith, count-all l ss 0, once l, span-given l 0 (all_labels ss) (all_given l ss) (λ i e. subst (λ m. all_given m ss ≡ 0) e (fresh i)) le))
       (cases_lt (all_given l ss) 1)
+
+  -- one of the k labels from n on
+  pub record Made (l n k : ℕ) : Type 0 where
+    pub index : ℕ
+    pub below : index < n + k
+    pub is : made index ≡ l
+
+  pub span_made : (l n k : ℕ) → 1 ≤ span l n k → Made l n k
+  span_made l n zero h = absurd (omega (arith, h))
+  span_made l n (suc k) h = by (nat_eq (made n) l) refl (span_made l (suc n) k)
+    where
+      by : (b : Bool) → nat_eq (made n) l ≡ b → (1 ≤ span l (suc n) k → Made l (suc n) k) → Made l n (suc k)
+      by true e later = record { index = n; below = omega arith; is = eqb-true (made n) l e }
+      by false e later =
+          let rest : Made l (suc n) k = later (omega (arith, h, ap bit e)) in
+          record { index = rest.index; below = omega (arith, rest.below); is = rest.is }

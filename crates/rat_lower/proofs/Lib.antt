@@ -30,6 +30,10 @@ pub mod NamesKept
 pub mod PartLabels
 pub mod PartNotes
 pub mod Accepted
+pub mod Targets
+pub mod FlowRules
+pub mod FormatsNamed
+pub mod FlowUnits
 pub mod Checks
 pub mod MainUnits
 mod Examples

@@ -73,6 +73,13 @@ labels_rise taken i j lt = made-rises 23000 taken i j lt
 pub labels_unused : (taken : List ℕ) (i : ℕ) → is_in taken (labels_past taken i) ≡ false
 labels_unused taken i = made-free 23000 taken i
 
+first_low : (taken : List ℕ) → 1 ≤ labels_past taken 0
+first_low taken = omega (arith, (free_from-above (length taken) taken 23000).0)
+
+pub labels_low : (taken : List ℕ) (i : ℕ) → 1 ≤ labels_past taken i
+labels_low taken zero = first_low taken
+labels_low taken (suc i) = omega (arith, first_low taken, labels_rise taken 0 (suc i) (omega arith))
+
 -- some labels are kept, and those left would make all
 in_taking : (s : Numbering) (l n : ℕ) (b : Bool) → (is_in (taking s l).taken n || b) ≡ (is_in s.taken n || (nat_eq l n || b))
 in_taking s l n b = by_old (is_in s.taken l) refl

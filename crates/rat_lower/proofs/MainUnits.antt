@@ -1,5 +1,6 @@
--- The statements of a main unit that the checks accept: they do what it means, and are built.
-use Rattle.std.proofs.Common.{◌≡◌, ℕ, Bool, true, false, List, [], Some, None, sym, ap, ◌∙◌, subst}
+-- The statements of a main unit that the checks accept: they do what it means, are built, and break no rule on order, labels and
+-- DO ranges.
+use Rattle.std.proofs.Common.{◌≡◌, ℕ, ◌+◌, ◌≤◌, Bool, true, false, List, [], length, Some, None, sym, ap, ◌∙◌, subst}
 use Rattle.std.specs.Prelude.{if◌then◌else◌}
 use Rattle.std.proofs.lemmas.Option.{none-some}
 use Rattle.ground.specs.declared.place.Place.{Place}
@@ -16,8 +17,9 @@ use Rattle.rat_check.specs.FirstFault.{fault_at, with_own, fault_of_parts, unit_
 use Rattle.rat_check.specs.Survey.{is_among, own_labels}
 use Rattle.rat_check.proofs.SurveyLemmas.{own_among}
 use Rattle.rat_lower.specs.OneUnit.{means}
-use Rattle.rat_lower.specs.Lowered.{lowered}
-use Rattle.rat_lower.proofs.Checks.{accepted_agrees, accepted_built}
+use Rattle.rat_lower.specs.Code.{all_labels, ends_so}
+use Rattle.rat_lower.specs.Lowered.{lowered, KeepsFlow}
+use Rattle.rat_lower.proofs.Checks.{accepted_agrees, accepted_built, accepted_flow}
 
 module _ (u : RatRoutine) (taken given : List ℕ) (first last : Place) (code : List Line) (none_found : unit_fault u ≡ None) (own : taken ≡ own_labels (unit_parts u.body) []) (same : given ≡ taken)
     (made : code ≡ lowered given first last u.body) where
@@ -36,3 +38,6 @@ module _ (u : RatRoutine) (taken given : List ℕ) (first last : Place) (code : 
 
   pub code_built : is_built_unit code ≡ true
   code_built = ap is_built_unit made ∙ accepted_built u.body accepted given all first last
+
+  pub code_flow : length given + all_labels u.body ≤ 77000 → ends_so false code ≡ true → KeepsFlow code
+  code_flow room finished = subst KeepsFlow (sym made) (accepted_flow u.body accepted given all first last room (sym (ap (ends_so false) made) ∙ finished))

@@ -1,7 +1,7 @@
 -- The labels of a unit by its parts: in a unit without a fault no label stands twice, and those that are given to it are known.
 use Rattle.std.proofs.Common.{◌≡◌, ℕ, suc, ◌+◌, ◌≤◌, Bool, true, false, true≢false, List, [], ◌∷◌, ◌++◌, Option, Some, None, refl, sym, ap, ◌∙◌, arith}
 use Rattle.std.specs.Prelude.{not, nat_eq, nat_le, ◌&&◌, ◌||◌}
-use Rattle.std.proofs.lemmas.Bool.{eqb-true}
+use Rattle.std.proofs.lemmas.Bool.{eqb-true, leb-true}
 use Rattle.ground.specs.declared.place.Place.{Place}
 use Rattle.f66_tree.specs.Execution.{has_label}
 use Rattle.rat_tree.specs.Commands.{Command, Empty, Together, When, Either, Whilst, Through, Repeats, Until, Counts, Switches, Leaves, Turns, GivesBack, Plainly, Marked, Commands, NoCommand, AndCommand, Clauses, NoClause, AndClause}
@@ -88,6 +88,29 @@ at_most_once formats before (v ∷ vs) l e =
 
 pub given_once : (formats : Labels) (ss : Commands) → first_broken formats no_label (unit_parts ss) ≡ None → (l : ℕ) → all_given l ss ≤ 1
 given_once formats ss e l = omega (arith, at_most_once formats no_label (unit_parts ss) l e, uses_in l ss 0 (with_labels ss no_label))
+
+-- ---- labels are from 1 to 99999 ----
+
+own_range : (before : Labels) (o : Option ℕ) (l : ℕ) → is_own_label before o ≡ true → has_label l o ≡ true → (1 ≤ l) × (l ≤ 99999)
+own_range before None l e h = absurd (true≢false (sym h))
+own_range before (Some m) l e h =
+    let k = and_true (nat_le 1 m && nat_le m 99999) (not (before m)) e in
+    let r = and_true (nat_le 1 m) (nat_le m 99999) k.0 in
+    let same : m ≡ l = eqb-true m l h in
+    (omega (arith, leb-true 1 m r.0, same), omega (arith, leb-true m 99999 r.1, same))
+
+in_range : (formats before : Labels) (vs : List Part) (l : ℕ) → first_broken formats before vs ≡ None → 1 ≤ uses l vs → (1 ≤ l) × (l ≤ 99999)
+in_range formats before [] l e h = absurd (omega (arith, h))
+in_range formats before (v ∷ vs) l e h =
+    let k = first_keeps formats before v vs e in
+    by (has_label l v.label) refl (own_range before v.label l k.0.own) (in_range formats (with_label v.label before) vs l k.1)
+  where
+    by : (b : Bool) → has_label l v.label ≡ b → (has_label l v.label ≡ true → (1 ≤ l) × (l ≤ 99999)) → (1 ≤ uses l vs → (1 ≤ l) × (l ≤ 99999)) → (1 ≤ l) × (l ≤ 99999)
+    by true is own later = own is
+    by false is own later = later (omega (arith, h, ap bit is))
+
+pub given_range : (formats : Labels) (ss : Commands) → first_broken formats no_label (unit_parts ss) ≡ None → (l : ℕ) → 1 ≤ all_given l ss → (1 ≤ l) × (l ≤ 99999)
+given_range formats ss e l h = in_range formats no_label (unit_parts ss) l e (omega (arith, h, uses_in l ss 0 (with_labels ss no_label)))
 
 -- ---- labels that are not there ----
 

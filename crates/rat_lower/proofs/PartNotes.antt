@@ -1,12 +1,13 @@
 -- The statements of a unit that are not executed, by its parts: they are formats of one field, and each WRITE has its own.
 use Rattle.std.proofs.Common.{◌≡◌, ℕ, suc, Bool, true, false, true≢false, List, [], ◌∷◌, ◌++◌, ◌⊎◌, inl, inr, Option, Some, None, refl, sym, ap, ◌∙◌}
-use Rattle.std.specs.Prelude.{nat_eq, nat_le, ◌&&◌, ◌||◌, if◌then◌else◌}
+use Rattle.std.specs.Prelude.{nat_eq, nat_le, ◌&&◌, ◌||◌, if◌then◌else◌, ⊤}
 use Rattle.ground.specs.declared.place.Place.{Place}
 use Rattle.f66_tree.specs.declared.editing.EditKind.TheVariants as edits
 use Rattle.f66_tree.specs.Fields.{Takes as TakesItem, Blanks, Chars, Slash, Fields, NoField, Single, Group}
 use Rattle.f66_tree.specs.Forms.{Text, Act, Formats}
 use Rattle.f66_tree.specs.Units.{Note, format_by, format_of}
 use Rattle.f66_tree.specs.Built.{is_one_field, is_one_field_of}
+use Rattle.f66_flow.specs.Acts.{is_specification}
 use Rattle.rat_tree.specs.Commands.{Command, Empty, Together, When, Either, Whilst, Through, Repeats, Until, Counts, Switches, Leaves, Turns, GivesBack, Plainly, Marked, Commands, NoCommand, AndCommand, Clauses, NoClause, AndClause}
 use Rattle.rat_check.specs.Parts.{Form, Rests, Says, Asks, Takes, Compares, Prepares, Counting, Leaving, Returning, Labels, no_label, with_label, Part, part, with_mark, with_labels, parts_of, parts_in, clause_parts, unit_parts}
 use Rattle.rat_check.specs.Rules.{is_built_act, is_built_form, is_simple, is_test, is_whole_field, has_fit_width, is_fit_format}
@@ -44,6 +45,10 @@ notes_mark k r (Some l) p vs rest = refl
 
 no_note : (o : Option Act) → is_simple o ≡ true → (rest : List Note) → note_if_any o rest ≡ rest
 no_note = each_simple (λ o. (rest : List Note) → note_if_any o rest ≡ rest) (λ rest. refl) (λ x e v w rest. refl)
+
+abbrev pub NoSpecifications : List Note → Type 0
+NoSpecifications [] = ⊤
+NoSpecifications (s ∷ notes) = (is_specification s.act ≡ false) × NoSpecifications notes
 
 module _ (formats : Labels) where
   mutual
@@ -108,6 +113,26 @@ module _ (formats : Labels) where
     pub names_of_notes : (vs : List Part) → AllFine formats vs → NamesOfNotes K (part_notes vs [])
     names_of_notes [] h = tt
     names_of_notes (v ∷ vs) h = form_names v.label v.form (part_notes vs []) h.0.built (names_of_notes vs h.1)
+
+  -- ---- they are no specifications ----
+
+  act_no_specification : (l : Option ℕ) (rest : List Note) → NoSpecifications rest → (a : Act) → is_built_act a ≡ true → NoSpecifications (note_then l a rest)
+  act_no_specification l rest k = each_act (λ a. NoSpecifications (note_then l a rest)) (λ x e v w. k) (λ m. k) (λ ls x. k) k (λ n. k) (λ u m es v w. k) (λ f v. (refl, k))
+
+  form_no_specification : (l : Option ℕ) (form : Form) (rest : List Note) → is_built_form form ≡ true → NoSpecifications rest → NoSpecifications (form_note l form rest)
+  form_no_specification l (Says a) rest is k = act_no_specification l rest k a is
+  form_no_specification l Rests rest is k = k
+  form_no_specification l (Asks e) rest is k = k
+  form_no_specification l (Takes e) rest is k = k
+  form_no_specification l (Compares es second) rest is k = k
+  form_no_specification l (Prepares a e b) rest is k = k
+  form_no_specification l (Counting x a b c) rest is k = k
+  form_no_specification l (Leaving n) rest is k = k
+  form_no_specification l Returning rest is k = k
+
+  pub no_specifications : (vs : List Part) → AllFine formats vs → NoSpecifications (part_notes vs [])
+  no_specifications [] h = tt
+  no_specifications (v ∷ vs) h = form_no_specification v.label v.form (part_notes vs []) h.0.built (no_specifications vs h.1)
 
   -- ---- the formats that a WRITE may name ----
 

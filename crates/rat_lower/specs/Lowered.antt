@@ -1,9 +1,13 @@
 -- The unit of FORTRAN that a main unit of Ratfor becomes, and what is refused.
-use Rattle.std.specs.Prelude.{ℕ, ◌+◌, nat_le, List, [], length, Option, Some, None, if◌then◌else◌}
+use Rattle.std.specs.Prelude.{◌≡◌, ℕ, ◌+◌, nat_le, false, List, [], length, Option, Some, None, if◌then◌else◌}
 use Rattle.ground.specs.declared.place.Place.{Place}
 use Rattle.ground.specs.declared.fault.Fault.{Fault}
+use Rattle.ground.specs.declared.fault.FaultKind.{FaultKind}
 use Rattle.ground.specs.declared.fault.FaultKind.TheVariants.{Limit}
+use Rattle.rule_table.specs.First.{IsClean}
 use Rattle.f66_tree.specs.Forms.{Line}
+use Rattle.f66_flow.specs.FlowRules.{breaks_flow_at, header_breaks_flow}
+use Rattle.f66_flow.specs.declared.scope.Scope.TheVariants.{Whole}
 use Rattle.rat_tree.specs.Commands.{Commands, RatRoutine}
 use Rattle.rat_check.specs.Parts.{unit_parts}
 use Rattle.rat_check.specs.FirstFault.{or_else, unit_fault}
@@ -29,3 +33,8 @@ room_fault u = if nat_le (label_count u.body) 77000 then None else Some (record 
 -- what the checks refuse, and then what has too many labels
 abbrev pub lower_fault : RatRoutine → Option Fault
 lower_fault u = or_else (unit_fault u) (room_fault u)
+
+-- neither the header nor a statement breaks a rule on order, labels or DO ranges (X3.9-1966, sections 3.4, 7.1.2, 7.2 and 9.1)
+pub record KeepsFlow (lines : List Line) : Type 0 where
+  pub header : (k : FaultKind) → header_breaks_flow Whole lines k ≡ false
+  pub statements : IsClean (breaks_flow_at Whole lines)

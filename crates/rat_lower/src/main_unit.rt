@@ -9,7 +9,7 @@ ghost use Rattle.f66_tree.specs.World.{Record};
 ghost use Rattle.rat_tree.specs.Views.{commands, routine_of};
 ghost use Rattle.rat_check.specs.FirstFault.{Tells};
 ghost use Rattle.rat_lower.specs.OneUnit.{means};
-ghost use Rattle.rat_lower.specs.Lowered.{lower_fault};
+ghost use Rattle.rat_lower.specs.Lowered.{KeepsFlow, lower_fault};
 
 use crate::{count_labels, lower_body};
 use f66_tree::{Header, Unit};
@@ -30,6 +30,7 @@ pub fn lower(alloc: Global, unit: &RatUnit, finish: Place) -> Result<Unit, Refus
     ensures header { IfOk result (λ made. header_of made.header ≡ MainUnit) }
     ensures agrees { IfOk result (λ made. (input : List Record) → Agrees (means (commands unit.now.body.items) input) (executed (lines_of made.statements.items) input)) }
     ensures built { IfOk result (λ made. is_built_unit (lines_of made.statements.items) ≡ true) }
+    ensures flow { IfOk result (λ made. KeepsFlow (lines_of made.statements.items)) }
 {
     let labels = check(alloc, unit)?;
     if !has_room(labels.len(), count_labels(&unit.body)) {

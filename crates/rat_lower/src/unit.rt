@@ -25,6 +25,7 @@ pub fn lower_body(
 ) -> Result<List<Stmt>, Memory>
     requires { length taken.now + all_labels (commands unit.now.body.items) ≤ 77000 }
     ensures code { IfOk result (λ code. lines_of code.items ≡ unit_code (labels_past taken.now) spare_name unit.now.place finish (commands unit.now.body.items)) }
+    ensures ends { IfOk result (λ code. ends_so false (lines_of code.items) ≡ true) }
     ensures built { IfOk result (λ code. AreInProfile (notes_of_unit (commands unit.now.body.items)) (commands unit.now.body.items) → is_built_unit (lines_of code.items) ≡ true) }
 {
     let mut maker = Maker::new(alloc, taken)?;
