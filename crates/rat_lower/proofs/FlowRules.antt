@@ -1,9 +1,9 @@
 -- Statements that lead where they may break no rule on order, labels and DO ranges.
 use Rattle.std.proofs.Common.{◌≡◌, ℕ, zero, suc, ◌+◌, ◌≤◌, ◌<◌, Bool, true, false, true≢false, List, [], ◌∷◌, Option, Some, None, refl, sym, ap, ◌∙◌, subst, arith}
-use Rattle.std.specs.Prelude.{nat_eq, nat_lt, nat_le, not, ◌&&◌, ◌||◌, ◌==◌, cond, find, is_none, option_map, if◌then◌else◌}
-use Rattle.std.specs.Option.{unwrap_or, option_or}
+use Rattle.std.specs.Prelude.{nat_lt, not, ◌&&◌, ◌||◌, ◌==◌, cond, is_none, option_map, if◌then◌else◌}
+use Rattle.std.specs.Option.{option_or}
 use Rattle.std.specs.List.{slice_get, list_any}
-use Rattle.std.proofs.lemmas.Bool.{or_from, or_parts, and_left, and_right, not_from_true, le-ltb, lt-ltb, cases_lt}
+use Rattle.std.proofs.lemmas.Bool.{or_from, or_parts, and_left, and_right, le-ltb, lt-ltb}
 use Rattle.ground.specs.declared.fault.FaultKind.{FaultKind}
 use Rattle.ground.specs.declared.fault.FaultKind.TheVariants.{Syntax, BadLabel, DoNesting}
 use Rattle.rule_table.specs.Words.{first_place, last_place, is_some_and, is_below, is_number}
@@ -13,7 +13,7 @@ use Rattle.f66_tree.specs.Execution.{has_label, from_label}
 use Rattle.f66_flow.specs.Acts.{is_executable, is_specification, is_transfer, ends_no_range, branches, formats_named}
 use Rattle.f66_flow.specs.Ranges as range_words
 use Rattle.f66_flow.specs.Ranges.{place_of, named, range_end, range_ends, end_at, holds, some_below}
-use Rattle.f66_flow.specs.FlowRules.{is_late, lacks_transfer, has_bad_label, leads_nowhere, names_no_format, leads_wrong, has_no_end, ends_wrong, overlaps, enters_at, enters, nests_wrong, breaks_flow, breaks_flow_at, header_breaks_flow}
+use Rattle.f66_flow.specs.FlowRules.{is_late, lacks_transfer, has_bad_label, leads_nowhere, names_no_format, leads_wrong, has_no_end, ends_wrong, overlaps, enters_at, enters, breaks_flow, breaks_flow_at, header_breaks_flow}
 use Rattle.f66_flow.specs.declared.scope.Scope.TheVariants.{Whole}
 use Rattle.f66_flow.proofs.NestLemmas.{none_below, held_parts, held_by}
 use Rattle.f66_flow.proofs.EarlierLemmas.{end_of}

@@ -1,9 +1,9 @@
 -- Where the statements of a unit lead: each branch goes to a statement that is executed, into no DO range that it is not in, and
 -- the last statement of each DO stands behind it, in the same ranges.
 use Rattle.std.proofs.Common.{◌≡◌, ℕ, zero, suc, ◌+◌, ◌≤◌, ◌<◌, Bool, true, false, true≢false, List, [], ◌∷◌, ◌⊎◌, inl, inr, Option, Some, None, refl, sym, ap, ◌∙◌, arith}
-use Rattle.std.specs.Prelude.{nat_eq, not, ◌||◌, if◌then◌else◌, ⊤}
+use Rattle.std.specs.Prelude.{nat_eq, not, if◌then◌else◌, ⊤}
 use Rattle.ground.specs.declared.place.Place.{Place}
-use Rattle.f66_tree.specs.Forms.{Text, Formula, Formulas, Nought, Also, Par, Act, Assigns, Goes, Selects, Signs, Chooses, Loops, Invokes, Passes, Stops, Returns, Reads, Writes, Formats, Types, Dimensions, Commons, Equivalences, Presets, Variable, Line, bare}
+use Rattle.f66_tree.specs.Forms.{Text, Formula, Formulas, Nought, Also, Act, Goes, Selects, Signs, Chooses, Loops, Passes, Line, bare}
 use Rattle.f66_tree.specs.Units.{is_note}
 use Rattle.f66_tree.specs.Execution.{has_label, from_label}
 use Rattle.f66_flow.specs.Acts.{is_executable, branches}
@@ -11,7 +11,7 @@ use Rattle.rat_tree.specs.Commands.{Command, Empty, Together, When, Either, Whil
 use Rattle.rat_tree.specs.Meaning.{marks, stands}
 use Rattle.rat_lower.specs.Checked.{bit, IsBuilt, AreBuilt, ClausesBuilt, IsPlain, IsPlainIfAny, Fits, AllFit, ClausesFit, stands_in, AllStandIn, ActLands, ActLandsIfAny, Lands, AllLand, ClausesLand}
 use Rattle.rat_lower.specs.Code.{each_test, case_test, tests, default_label, bodies, Rings, label_behind, label_again, jump, unless, here, with_test, with_act, labels, all_labels, code_of, all_code}
-use Rattle.rat_lower.proofs.Counts.{same_number, occurs, names, ends, plain_names, heads, all_heads, clause_heads, occurs-test, ends-test, occurs-act, ends-act, occurs-each, ends-each, occurs-tests, ends-tests, occurs-code, ends-code, occurs-all, ends-all, occurs-bodies, ends-bodies}
+use Rattle.rat_lower.proofs.Counts.{same_number, occurs, ends, plain_names, heads, all_heads, clause_heads, occurs-test, ends-test, occurs-act, ends-act, occurs-each, ends-each, occurs-tests, ends-tests, occurs-code, ends-code, occurs-all, ends-all, occurs-bodies, ends-bodies}
 use Rattle.rat_lower.proofs.Labels.{AreUnique, Within, within_in, within_tail, within_test, within_act, within_code, within_all, within_tests, within_bodies, found, found_line}
 use Rattle.rat_lower.proofs.Reached.{or_true}
 
@@ -208,9 +208,10 @@ module _ (code : List Line) (unique : AreUnique code) (IsEnd : ℕ → Type 0) w
     clause_targets (AndClause es fallback ss p cs) m out ls next bu fr w =
         let rest = bodies made spare cs (m + 1 + all_labels ss) out ls next in
         let later : ClausesFree cs (m + 1 + all_labels ss) = λ q h. omega (arith, fr q h) in
-        let level : IsLevel (bodies made spare (AndClause es fallback ss p cs) m out ls next) next = bodies_level (AndClause es fallback ss p cs) m out ls next bu fr in
-        (target_here (made m) p w (λ q h. omega (arith, level q h)),
-        clause_targets cs (m + 1 + all_labels ss) out ls next bu.1 later (within_in (within_tail _ (within_all made spare ss (m + 1) ls (jump p out ∷ rest))) (within_tail _ w)))
+        let level : IsLevel (bodies made spare (AndClause es fallback ss p cs) m out ls next) next = bodies_level (AndClause es fallback ss p cs) m out ls next bu fr in (
+          target_here (made m) p w (λ q h. omega (arith, level q h)),
+          clause_targets cs (m + 1 + all_labels ss) out ls next bu.1 later (within_in (within_tail _ (within_all made spare ss (m + 1) ls (jump p out ∷ rest))) (within_tail _ w)),
+        )
 
     default_target : {next : List Line} (cs : Clauses) (m out : ℕ) → ClausesLead cs m next → Target next out → Target next (default_label made spare cs m out)
     default_target NoClause m out c t = t
@@ -282,9 +283,10 @@ module _ (code : List Line) (unique : AreUnique code) (IsEnd : ℕ → Type 0) w
           let wi : Within inner code = within_tail _ w in
           let to_last : EntersNone last next = λ q h. omega (arith, fr q h) in
           let level : IsLevel inner last = code_level s (n + 1) ls last bu free in
-          let behind : Target last (made n) = target_here (made n) p (within_in (within_code made spare s (n + 1) ls last) wi) (λ q h. omega arith) in
-          (chooses_lead (made n) p _ (target_at (made n) level behind),
-          lead s d (n + 1) ls around last bu fi la free (rings_from d ls to_last ri) (lists_from around to_last li) wi (passes_lead (Some (made n)) p next, k))
+          let behind : Target last (made n) = target_here (made n) p (within_in (within_code made spare s (n + 1) ls last) wi) (λ q h. omega arith) in (
+            chooses_lead (made n) p _ (target_at (made n) level behind),
+            lead s d (n + 1) ls around last bu fi la free (rings_from d ls to_last ri) (lists_from around to_last li) wi (passes_lead (Some (made n)) p next, k),
+          )
       lead (Either p e s t) d n ls around next bu fi la fr ri li w k =
           let last : List Line = here (made (n + 1)) p ∷ next in
           let second : List Line = code_of made spare t (n + 2 + labels s) ls last in
@@ -308,9 +310,10 @@ module _ (code : List Line) (unique : AreUnique code) (IsEnd : ℕ → Type 0) w
           let to_last : EntersNone last next = λ q h. omega (arith, a_last q h) in
           let k_second : AllLead second = lead t d (n + 2 + labels s) ls around last bu.1 fi.1 la.1 free_t (rings_from d ls to_last ri) (lists_from around to_last li) ws k_last in
           let k_out : AllLead out = (goes_lead (made (n + 1)) p (target_at (made (n + 1)) a_other behind), (passes_lead (Some (made n)) p second, k_second)) in
-          let to_out : EntersNone out next = λ q h. omega (arith, a_out q h) in
-          (chooses_lead (made n) p _ (target_at (made n) a_first otherwise),
-          lead s d (n + 2) ls around out bu.0 fi.0 la.0 free_s (rings_from d ls to_out ri) (lists_from around to_out li) wf k_out)
+          let to_out : EntersNone out next = λ q h. omega (arith, a_out q h) in (
+            chooses_lead (made n) p _ (target_at (made n) a_first otherwise),
+            lead s d (n + 2) ls around out bu.0 fi.0 la.0 free_s (rings_from d ls to_out ri) (lists_from around to_out li) wf k_out,
+          )
       lead (Whilst p e s) d n ls around next bu fi la fr ri li w k =
           loop_leads p (Some e) None s d n ls around next bu tt tt fr ri li (λ ri1 li1 w1 k1. lead s (suc d) (n + 3) ((made (n + 2), made (n + 1)) ∷ ls) around _ bu fi la (λ q h. omega (arith, fr q h)) ri1 li1 w1 k1) w k
       lead (Through p first e step s) d n ls around next bu fi la fr ri li w k =
@@ -319,8 +322,16 @@ module _ (code : List Line) (unique : AreUnique code) (IsEnd : ℕ → Type 0) w
           let inner : List Line = code_of made spare s (n + 3) rings mid in
           let all : List Line = here (made n) p ∷ with_test p e (made (n + 2)) inner in
           let level : IsLevel all next =
-          λ q h. omega (arith, occurs-test q p e (made (n + 2)) inner, ends-test q p e (made (n + 2)) inner, occurs-code made spare q s (n + 3) rings mid bu.2, ends-code made spare q s (n + 3) rings mid bu.2,
-          occurs-act q p step (jump p (made n) ∷ here (made (n + 2)) p ∷ next), ends-act q p step (jump p (made n) ∷ here (made (n + 2)) p ∷ next) bu.1, fr q h) in
+          λ q h. omega (
+            arith,
+            occurs-test q p e (made (n + 2)) inner,
+            ends-test q p e (made (n + 2)) inner,
+            occurs-code made spare q s (n + 3) rings mid bu.2,
+            ends-code made spare q s (n + 3) rings mid bu.2,
+            occurs-act q p step (jump p (made n) ∷ here (made (n + 2)) p ∷ next),
+            ends-act q p step (jump p (made n) ∷ here (made (n + 2)) p ∷ next) bu.1,
+            fr q h,
+          ) in
           let loop : AllLead all =
           loop_leads p e step s d n ls around next bu.2 bu.1 la.1 fr ri li
           (λ ri1 li1 w1 k1. lead s (suc d) (n + 3) rings around mid bu.2 fi la.2 (λ q h. omega (arith, fr q h)) ri1 li1 w1 k1) (within_in (within_act p first all) w) k in
@@ -344,10 +355,11 @@ module _ (code : List Line) (unique : AreUnique code) (IsEnd : ℕ → Type 0) w
           let again : Target next (made (n + 1)) = target_here (made (n + 1)) p wm (λ q h. omega (arith, a_mid q h)) in
           let behind : Target next (made (n + 2)) = target_here (made (n + 2)) p wl (λ q h. omega (arith, a_last q h)) in
           let k_mid : AllLead mid = (passes_lead (Some (made (n + 1))) p out, (chooses_lead (made n) q0 _ (target_at (made n) a_last head), (passes_lead (Some (made (n + 2))) p next, k))) in
-          let to_mid : EntersNone mid next = λ q h. omega (arith, a_mid q h) in
-          (passes_lead (Some (made n)) p inner,
-          lead s (suc d) (n + 3) rings around mid bu fi la free
-          (rings_more d ls (made (n + 2)) (made (n + 1)) (target_at (made (n + 2)) a_mid behind) (target_at (made (n + 1)) a_mid again) (rings_from d ls to_mid ri)) (lists_from around to_mid li) wi k_mid)
+          let to_mid : EntersNone mid next = λ q h. omega (arith, a_mid q h) in (
+            passes_lead (Some (made n)) p inner,
+            lead s (suc d) (n + 3) rings around mid bu fi la free
+                (rings_more d ls (made (n + 2)) (made (n + 1)) (target_at (made (n + 2)) a_mid behind) (target_at (made (n + 1)) a_mid again) (rings_from d ls to_mid ri)) (lists_from around to_mid li) wi k_mid,
+          )
       lead (Counts p x a b c s) d n ls around next bu fi la fr ri li w k =
           let rings : Rings = (made (n + 1), made n) ∷ ls in
           let last : List Line = here (made (n + 1)) p ∷ next in
@@ -366,10 +378,11 @@ module _ (code : List Line) (unique : AreUnique code) (IsEnd : ℕ → Type 0) w
             found = found (made n) p unique wm;
             later = omega (arith, occurs-code made spare (made n) s (n + 2) rings mid bu, ap bit (same_number (made n)));
             leaves = λ q h. omega (arith, code_level s (n + 2) rings mid bu free q h);
-          } in
-          (record { targets = tt; ending = ending },
-          lead s (suc d) (n + 2) rings around mid bu fi la free (rings_more d ls (made (n + 1)) (made n) behind again (rings_from d ls to_mid ri)) (lists_from around to_mid li) wi
-          (passes_lead (Some (made n)) p last, (passes_lead (Some (made (n + 1))) p next, k)))
+          } in (
+            record { targets = tt; ending = ending },
+            lead s (suc d) (n + 2) rings around mid bu fi la free (rings_more d ls (made (n + 1)) (made n) behind again (rings_from d ls to_mid ri)) (lists_from around to_mid li) wi
+                (passes_lead (Some (made n)) p last, (passes_lead (Some (made (n + 1))) p next, k)),
+          )
       lead (Switches p e cs) d n ls around next bu fi la fr ri li w k =
           let last : List Line = here (made n) p ∷ next in
           let all : List Line = bodies made spare cs (n + 1) (made n) ls last in
@@ -420,6 +433,7 @@ module _ (code : List Line) (unique : AreUnique code) (IsEnd : ℕ → Type 0) w
           let to_go : EntersNone go next = λ q h. omega (arith, level q h) in
           let k_rest : AllLead rest = lead_bodies cs d (m + 1 + all_labels ss) out ls around next bu.1 fi.1 la.1 free1 ri li t wr k in
           let k_go : AllLead go = (goes_lead out p (target_at out level t), k_rest) in
-          let li_go : ListsLead around go = lists_from around to_go li in
-          (passes_lead (Some (made m)) p inner,
-          lead_all ss d (m + 1) ls (ss ∷ around) go bu.0 fi.0 la.0 free (rings_from d ls to_go ri) (lists_more ss (m + 1) ls go around bu.0 free wi li_go) wi k_go)
+          let li_go : ListsLead around go = lists_from around to_go li in (
+            passes_lead (Some (made m)) p inner,
+            lead_all ss d (m + 1) ls (ss ∷ around) go bu.0 fi.0 la.0 free (rings_from d ls to_go ri) (lists_more ss (m + 1) ls go around bu.0 free wi li_go) wi k_go,
+          )

@@ -1,4 +1,6 @@
 -- The unit that a main unit becomes agrees with it, and is built.
+use Rattle.std.proofs.Common.{arith}
+use Rattle.std.proofs.lemmas.Bool.Decides.{nat_tests}
 use Rattle.f66_tree.specs.Views.{lines_of}
 use Rattle.rat_tree.specs.Views.{routine_of}
 use Rattle.rat_lower.proofs.MainUnits.{code_agrees, code_built, code_flow}
@@ -17,4 +19,5 @@ returns-clause-built c =
 pub returns-clause-flow : goal.returns-clause-flow
 returns-clause-flow c =
     code_flow (routine_of c.args.unit.now) c.in_ok-labels.labels.items c.deref-2.result.now c.args.unit.now.place c.args.finish (lines_of c.in_ok-statements.statements.items)
-    c.in_ok-labels.ensures.fault c.in_ok-labels.ensures.labels c.deref-2.ensures.value c.in_ok-statements.ensures.code ? c.in_ok-statements.ensures.ends
+    c.in_ok-labels.ensures.fault c.in_ok-labels.ensures.labels c.deref-2.ensures.value c.in_ok-statements.ensures.code
+    (grind (arith, nat_tests, c.has_room.ensures, c.if-not-has_room.ensures, c.count_labels.ensures, c.len.ensures, c.deref.ensures.value, c.deref-2.ensures.value)) c.in_ok-statements.ensures.ends
