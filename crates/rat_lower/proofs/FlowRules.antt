@@ -173,13 +173,25 @@ none_first (x ∷ rest) e other = by (is_note x.act) refl (first_place Runs rest
     by true h (Some n) f later = absurd (let no : Some (n + 1) ≡ None = sym (ap (λ b. cond (not b) (Some 0) (option_map (λ n1. n1 + 1) (first_place Runs rest))) h ∙ ap (option_map (λ n1. n1 + 1)) f) ∙ e in cc)
     by false h o f later = absurd (let no : Some 0 ≡ None = sym (ap (λ b. cond (not b) (Some 0) (option_map (λ n1. n1 + 1) (first_place Runs rest))) h) ∙ e in cc)
 
+-- ---- specifications ----
+
+-- a unit whose first statement alone may be a specification
+module _ (code : List Line) (first_alone : (i : ℕ) (s : Line) → slice_get code (suc i) ≡ Some s → is_specification s.act ≡ false) where
+  before_none : (o : Option ℕ) → is_below 0 o ≡ false
+  before_none None = refl
+  before_none (Some m) = le-ltb m 0 (omega arith)
+
+  pub first_early : (i : ℕ) (s : Line) → slice_get code i ≡ Some s → is_late code i s.act ≡ false
+  first_early zero s e = and_right (is_specification s.act) _ (or_from _ _ (before_none (first_place _ code)) (before_none (first_place _ code)))
+  first_early (suc i) s e = and_left (is_specification s.act) _ (first_alone i s e)
+
 -- ---- the rules ----
 
 -- what is asked of the statements of a unit besides where they lead
 pub record Orderly (code : List Line) : Type 0 where
   pub once : (l : ℕ) → ends l code ≤ 1
   pub ranged : (l : ℕ) → 1 ≤ occurs l code → (1 ≤ l) × (l ≤ 99999)
-  pub first : (i : ℕ) (s : Line) → slice_get code (suc i) ≡ Some s → is_specification s.act ≡ false
+  pub early : (i : ℕ) (s : Line) → slice_get code i ≡ Some s → is_late code i s.act ≡ false
   pub formats : (i : ℕ) (s : Line) → slice_get code i ≡ Some s → list_any (names_no_format code) (formats_named s.act) ≡ false
   pub last : code_words.ends_so false code ≡ true
 
@@ -354,14 +366,6 @@ module _ (code : List Line) (unique : AreUnique code) (IsEnd : ℕ → Type 0) (
             let no : ¬ (p < i) = λ lt. absurd (omega (arith, labelled_past l p i t.line t.there t.has lt, labelled_at l i i s is mine (omega arith))) in
             le-ltb p i (omega arith)
 
-    not_late : (j : ℕ) → i ≡ j → is_late code i s.act ≡ false
-    not_late zero e = and_right (is_specification s.act) _ (or_from _ _ (below_none (first_place _ code)) (below_none (first_place _ code)))
-      where
-        below_none : (o : Option ℕ) → is_below i o ≡ false
-        below_none None = refl
-        below_none (Some m) = le-ltb m i (omega (arith, e))
-    not_late (suc j) e = and_left (is_specification s.act) _ (orderly.first j s (sym (ap (slice_get code) e) ∙ is))
-
     not_last : lacks_transfer code i s.act ≡ false
     not_last = by (last_place Runs code) refl
       where
@@ -380,7 +384,7 @@ module _ (code : List Line) (unique : AreUnique code) (IsEnd : ℕ → Type 0) (
             at false e = and_left _ _ (ap (is_number i) f ∙ e)
 
     rule_kept : (k : FaultKind) → breaks_flow Whole code i s k ≡ false
-    rule_kept Syntax = or_from (is_late code i s.act) _ (not_late i refl) not_last
+    rule_kept Syntax = or_from (is_late code i s.act) _ (orderly.early i s is) not_last
     rule_kept BadLabel =
         let r = ranges_right s.act lead_here.ending in
         or_from (has_bad_label code i s) _ (label_right s.label refl)

@@ -21,7 +21,7 @@ use Rattle.rat_lower.proofs.Notes.{notes_whole}
 use Rattle.rat_lower.proofs.PartNotes.{NoSpecifications}
 use Rattle.rat_lower.proofs.Targets.{AllLead, ListsLead, lists_more, lead_all}
 use Rattle.rat_lower.proofs.FormatsNamed.{formats_named_right}
-use Rattle.rat_lower.proofs.FlowRules.{Orderly, flow_kept, header_kept}
+use Rattle.rat_lower.proofs.FlowRules.{first_early, Orderly, flow_kept, header_kept}
 
 -- ---- how a unit ends ----
 
@@ -146,7 +146,7 @@ module _ (made : ℕ → ℕ) (spare : Text) (first last : Place) (ss : Commands
   orderly = record {
     once = λ l. omega (arith, all_end l, once l);
     ranged = label_range;
-    first = first_alone (have_switch ss);
+    early = first_early code (first_alone (have_switch ss));
     formats = formats_named_right code unique built;
     last = finished;
   }

@@ -34,6 +34,7 @@ pub mod Targets
 pub mod FlowRules
 pub mod FormatsNamed
 pub mod FlowUnits
+pub mod Kept
 pub mod Checks
 pub mod MainUnits
 mod Examples

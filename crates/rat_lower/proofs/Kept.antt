@@ -1,0 +1,147 @@
+-- What holds of all that a command says in FORTRAN holds of all that its statements say, for what jumps, tests and stores keep.
+use Rattle.std.specs.Prelude.{ℕ, ◌+◌, Bool, true, false, List, [], ◌∷◌, Option, Some, None, ⊤}
+use Rattle.ground.specs.declared.place.Place.{Place}
+use Rattle.f66_tree.specs.Forms.{Text, Formula, Variable, Grouped, Negated, Formulas, Nought, Also, Par, Act, Assigns, Goes, Signs, Chooses, Loops, Passes, Stops, Line}
+use Rattle.rat_tree.specs.Commands.{Command, Empty, Together, When, Either, Whilst, Through, Repeats, Until, Counts, Switches, Leaves, Turns, GivesBack, Plainly, Marked, Commands, NoCommand, AndCommand, Clauses, NoClause, AndClause}
+use Rattle.rat_lower.specs.Code.{case_test, each_test, tests, default_label, bodies, Rings, jump, unless, here, with_test, with_act, labels, all_labels, code_of, all_code, stop_unless}
+
+-- each of these statements says such a thing
+abbrev pub AllSay : (Act → Type 0) → List Line → Type 0
+AllSay Good [] = ⊤
+AllSay Good (s ∷ rest) = Good s.act × AllSay Good rest
+
+-- a condition says what a logical IF over CONTINUE does, a value what an arithmetic IF does, and the words of a `do` what a DO
+-- does
+module _ (Good : Act → Type 0) where
+  abbrev pub GoodCondition : Formula → Type 0
+  GoodCondition e = Good (Chooses e Passes)
+
+  abbrev pub GoodValue : Formula → Type 0
+  GoodValue e = Good (Signs e 0 0 0)
+
+  abbrev pub GoodConditionIfAny : Option Formula → Type 0
+  GoodConditionIfAny None = ⊤
+  GoodConditionIfAny (Some e) = GoodCondition e
+
+  abbrev pub GoodActIfAny : Option Act → Type 0
+  GoodActIfAny None = ⊤
+  GoodActIfAny (Some a) = Good a
+
+  abbrev pub GoodValues : Formulas → Type 0
+  GoodValues Nought = ⊤
+  GoodValues (Also e es) = GoodValue e × GoodValues es
+
+  -- all that a command says is so
+  abbrev mutual
+    pub SaysGood : Command → Type 0
+    SaysGood (Empty p) = ⊤
+    SaysGood (Together p ss) = AllSayGood ss
+    SaysGood (When p e s) = GoodCondition e × SaysGood s
+    SaysGood (Either p e s t) = GoodCondition e × SaysGood s × SaysGood t
+    SaysGood (Whilst p e s) = GoodCondition e × SaysGood s
+    SaysGood (Through p first e step s) = GoodActIfAny first × GoodConditionIfAny e × GoodActIfAny step × SaysGood s
+    SaysGood (Repeats p s) = SaysGood s
+    SaysGood (Until p s e q) = SaysGood s × GoodCondition e
+    SaysGood (Counts p x a b c s) = Good (Loops 0 x a b c) × SaysGood s
+    SaysGood (Switches p e cs) = GoodValue e × ClausesSayGood cs
+    SaysGood (Leaves p n) = ⊤
+    SaysGood (Turns p n) = ⊤
+    SaysGood (GivesBack p e) = ⊥
+    SaysGood (Plainly l p a) = Good a
+    SaysGood (Marked l p s) = SaysGood s
+
+    pub AllSayGood : Commands → Type 0
+    AllSayGood NoCommand = ⊤
+    AllSayGood (AndCommand s ss) = SaysGood s × AllSayGood ss
+
+    pub ClausesSayGood : Clauses → Type 0
+    ClausesSayGood NoClause = ⊤
+    ClausesSayGood (AndClause es fallback ss p cs) = GoodValues es × AllSayGood ss × ClausesSayGood cs
+
+-- what the lowering makes of these is so again
+pub record Keeps (Good : Act → Type 0) (spare : Text) : Type 0 where
+  pub passes : Good Passes
+  pub goes : (l : ℕ) → Good (Goes l)
+  pub stops : Good (Stops None)
+  pub denied : (e : Formula) (l : ℕ) → Good (Chooses e Passes) → Good (Chooses (Negated (Grouped e)) (Goes l))
+  pub compared : (e : Formula) (l : ℕ) → Good (Signs e 0 0 0) → Good (Chooses (case_test spare e) (Goes l))
+  pub stored : (e : Formula) → Good (Signs e 0 0 0) → Good (Assigns (Variable spare) e)
+  pub counts : (l : ℕ) (x : Text) (a b c : Par) → Good (Loops 0 x a b c) → Good (Loops l x a b c)
+
+module _ (Good : Act → Type 0) (made : ℕ → ℕ) (spare : Text) (keeps : Keeps Good spare) where
+  abbrev All : List Line → Type 0
+  All = AllSay Good
+
+  good_test : (p : Place) (o : Option Formula) (l : ℕ) (next : List Line) → GoodConditionIfAny Good o → All next → All (with_test p o l next)
+  good_test p None l next h k = k
+  good_test p (Some e) l next h k = (keeps.denied e l h, k)
+
+  good_act : (p : Place) (o : Option Act) (next : List Line) → GoodActIfAny Good o → All next → All (with_act p o next)
+  good_act p None next h k = k
+  good_act p (Some a) next h k = (h, k)
+
+  good_each : (p : Place) (es : Formulas) (l : ℕ) (next : List Line) → GoodValues Good es → All next → All (each_test spare p es l next)
+  good_each p Nought l next h k = k
+  good_each p (Also e es) l next h k = (keeps.compared e l h.0, good_each p es l next h.1 k)
+
+  good_tests : (cs : Clauses) (m : ℕ) (next : List Line) → ClausesSayGood Good cs → All next → All (tests made spare cs m next)
+  good_tests NoClause m next h k = k
+  good_tests (AndClause es fallback ss p cs) m next h k = good_each p es (made m) (tests made spare cs (m + 1 + all_labels ss) next) h.0 (good_tests cs (m + 1 + all_labels ss) next h.2 k)
+
+  mutual
+    good_code : (s : Command) (n : ℕ) (ls : Rings) (next : List Line) → SaysGood Good s → All next → All (code_of made spare s n ls next)
+    good_code (Empty p) n ls next h k = k
+    good_code (Together p ss) n ls next h k = good_all ss n ls next h k
+    good_code (When p e s) n ls next h k = (keeps.denied e (made n) h.0, good_code s (n + 1) ls (here (made n) p ∷ next) h.1 (keeps.passes, k))
+    good_code (Either p e s t) n ls next h k =
+        let last : List Line = here (made (n + 1)) p ∷ next in
+        let second : List Line = code_of made spare t (n + 2 + labels s) ls last in
+        let k_second : All second = good_code t (n + 2 + labels s) ls last h.2 (keeps.passes, k) in
+        (keeps.denied e (made n) h.0, good_code s (n + 2) ls (jump p (made (n + 1)) ∷ here (made n) p ∷ second) h.1 (keeps.goes (made (n + 1)), (keeps.passes, k_second)))
+    good_code (Whilst p e s) n ls next h k =
+        let mid : List Line = here (made (n + 1)) p ∷ jump p (made n) ∷ here (made (n + 2)) p ∷ next in
+        (keeps.passes, (keeps.denied e (made (n + 2)) h.0, good_code s (n + 3) ((made (n + 2), made (n + 1)) ∷ ls) mid h.1 (keeps.passes, (keeps.goes (made n), (keeps.passes, k)))))
+    good_code (Through p first e step s) n ls next h k =
+        let out : List Line = jump p (made n) ∷ here (made (n + 2)) p ∷ next in
+        let mid : List Line = here (made (n + 1)) p ∷ with_act p step out in
+        let inner : List Line = code_of made spare s (n + 3) ((made (n + 2), made (n + 1)) ∷ ls) mid in
+        let k_mid : All mid = (keeps.passes, good_act p step out h.2 (keeps.goes (made n), (keeps.passes, k))) in
+        good_act p first (here (made n) p ∷ with_test p e (made (n + 2)) inner) h.0
+        (keeps.passes, good_test p e (made (n + 2)) inner h.1 (good_code s (n + 3) ((made (n + 2), made (n + 1)) ∷ ls) mid h.3 k_mid))
+    good_code (Repeats p s) n ls next h k =
+        let mid : List Line = here (made (n + 1)) p ∷ jump p (made n) ∷ here (made (n + 2)) p ∷ next in
+        (keeps.passes, good_code s (n + 3) ((made (n + 2), made (n + 1)) ∷ ls) mid h (keeps.passes, (keeps.goes (made n), (keeps.passes, k))))
+    good_code (Until p s e q) n ls next h k =
+        let mid : List Line = here (made (n + 1)) p ∷ unless q e (made n) ∷ here (made (n + 2)) p ∷ next in
+        (keeps.passes, good_code s (n + 3) ((made (n + 2), made (n + 1)) ∷ ls) mid h.0 (keeps.passes, (keeps.denied e (made n) h.1, (keeps.passes, k))))
+    good_code (Counts p x a b c s) n ls next h k =
+        let mid : List Line = here (made n) p ∷ here (made (n + 1)) p ∷ next in
+        (keeps.counts (made n) x a b c h.0, good_code s (n + 2) ((made (n + 1), made n) ∷ ls) mid h.1 (keeps.passes, (keeps.passes, k)))
+    good_code (Switches p e cs) n ls next h k =
+        let last : List Line = here (made n) p ∷ next in
+        let all : List Line = bodies made spare cs (n + 1) (made n) ls last in
+        let k_all : All all = good_bodies cs (n + 1) (made n) ls last h.1 (keeps.passes, k) in
+        (keeps.stored e h.0, good_tests cs (n + 1) (jump p (default_label made spare cs (n + 1) (made n)) ∷ all) h.1 (keeps.goes _, k_all))
+    good_code (Leaves p m) n ls next h k = (keeps.goes _, k)
+    good_code (Turns p m) n ls next h k = (keeps.goes _, k)
+    good_code (GivesBack p e) n ls next h k = absurd h
+    good_code (Plainly l p a) n ls next h k = (h, k)
+    good_code (Marked l p s) n ls next h k = (keeps.passes, good_code s n ls next h k)
+
+    pub good_all : (ss : Commands) (n : ℕ) (ls : Rings) (next : List Line) → AllSayGood Good ss → All next → All (all_code made spare ss n ls next)
+    good_all NoCommand n ls next h k = k
+    good_all (AndCommand s ss) n ls next h k = good_code s n ls (all_code made spare ss (n + labels s) ls next) h.0 (good_all ss (n + labels s) ls next h.1 k)
+
+    good_bodies : (cs : Clauses) (m out : ℕ) (ls : Rings) (next : List Line) → ClausesSayGood Good cs → All next → All (bodies made spare cs m out ls next)
+    good_bodies NoClause m out ls next h k = k
+    good_bodies (AndClause es fallback ss p cs) m out ls next h k =
+        let rest : List Line = bodies made spare cs (m + 1 + all_labels ss) out ls next in
+        (keeps.passes, good_all ss (m + 1) ls (jump p out ∷ rest) h.1 (keeps.goes out, good_bodies cs (m + 1 + all_labels ss) out ls next h.2 k))
+
+  good_stop : (v : Bool) (p : Place) → All (stop_unless v p)
+  good_stop true p = tt
+  good_stop false p = (keeps.stops, tt)
+
+  -- the statements of a whole unit, without a declaration before them
+  pub good_unit : (ss : Commands) (v : Bool) (p : Place) → AllSayGood Good ss → All (all_code made spare ss 0 [] (stop_unless v p))
+  good_unit ss v p h = good_all ss 0 [] (stop_unless v p) h (good_stop v p)
