@@ -1,5 +1,5 @@
 -- What a compiler's own statements break: jumps, tests of a condition or of a scalar, and stores into a scalar.
-use Rattle.std.proofs.Common.{◌≡◌, ◌&&◌, ◌||◌, ℕ, Bool, true, false, not, Option, Some, None, List, [], ◌∷◌, refl, ap, sym, ◌∙◌}
+use Rattle.std.proofs.Common.{◌≡◌, ◌&&◌, ◌||◌, ℕ, Bool, true, false, not, Option, Some, None, List, [], ◌∷◌, ◌++◌, refl, ap, sym, ◌∙◌}
 use Rattle.std.specs.List.{list_any}
 use Rattle.std.proofs.lemmas.List.{append-nil}
 use Rattle.ground.specs.declared.value.Kind.{Kind}
@@ -13,11 +13,20 @@ use Rattle.f66_tree.specs.Units.{Context, kind_of}
 use Rattle.f66_names.specs.declared.name_form.Manner.TheVariants.{Alone}
 use Rattle.f66_names.specs.Shapes.{is_name, stands}
 use Rattle.f66_names.specs.Sorts.{type_of, is_array}
-use Rattle.f66_names.specs.Uses.{usage, uses_of}
+use Rattle.f66_names.specs.Uses.{Usage, usage, uses_of}
 use Rattle.f66_names.specs.Kinds.{same_kind, is_kind, when, kind_in}
 use Rattle.f66_names.specs.NameRules.{is_long, is_other, miscounts, misuses}
 use Rattle.f66_names.specs.Rules.{breaks_name}
 use Rattle.f66_names.proofs.ConditionLemmas.{and_true, or_false}
+
+-- an integer variable whose name is fit
+pub record IsScalar (c : Context) (acts : List Act) (x : Text) : Type 0 where
+  pub named : is_name x ≡ true
+  pub short : is_long x ≡ false
+  pub typed : is_other (type_of c x) ≡ false
+  pub kind : kind_of c x ≡ Integer
+  pub plain : is_array c x ≡ false
+  pub used : misuses c acts (usage x Alone) ≡ false
 
 module _ (c : Context) (acts : List Act) (i : ℕ) where
   pub passes_clean : (k : FaultKind) → breaks_name c acts i Passes k ≡ false
@@ -46,16 +55,7 @@ module _ (c : Context) (acts : List Act) (i : ℕ) where
   denied_breaks e l TypeClash = ap (λ b. not b || false) (denied_kind (is_kind Logical (kind_in c e)))
   denied_breaks e l _ = refl
 
-  -- an integer variable whose name is fit
-  pub record IsScalar (x : Text) : Type 0 where
-    pub named : is_name x ≡ true
-    pub short : is_long x ≡ false
-    pub typed : is_other (type_of c x) ≡ false
-    pub kind : kind_of c x ≡ Integer
-    pub plain : is_array c x ≡ false
-    pub used : misuses c acts (usage x Alone) ≡ false
-
-  module _ (x : Text) (scalar : IsScalar x) where
+  module _ (x : Text) (scalar : IsScalar c acts x) where
     variable_kind : kind_in c (Variable x) ≡ Some Integer
     variable_kind = ap (λ b. when (not b) (kind_of c x)) scalar.plain ∙ ap (λ k. Some k) scalar.kind
 
@@ -65,11 +65,11 @@ module _ (c : Context) (acts : List Act) (i : ℕ) where
 
     pub compared_breaks : (e : Formula) (l m n q : ℕ) (k : FaultKind) → breaks_name c acts i (Chooses (Joined Eq (Variable x) (Grouped e)) (Goes l)) k ≡ breaks_name c acts i (Signs e m n q) k
     compared_breaks e l m n q Syntax = ap (λ b. not ((b && stands 0 e) && true)) scalar.named ∙ ap not (and_true (stands 0 e))
-    compared_breaks e l m n q NameTooLong = ap (λ b. b || list_any (λ u. is_long u.name) _) scalar.short ∙ ap (list_any (λ u. is_long u.name)) (append-nil (uses_of e))
-    compared_breaks e l m n q OutOfProfileType = ap (λ b. b || list_any (λ u. is_other (type_of c u.name)) _) scalar.typed ∙ ap (list_any (λ u. is_other (type_of c u.name))) (append-nil (uses_of e))
+    compared_breaks e l m n q NameTooLong = ap (λ b. b || list_any (λ (u : Usage). is_long u.name) (uses_of e ++ [])) scalar.short ∙ ap (list_any (λ (u : Usage). is_long u.name)) (append-nil (uses_of e))
+    compared_breaks e l m n q OutOfProfileType = ap (λ b. b || list_any (λ (u : Usage). is_other (type_of c u.name)) (uses_of e ++ [])) scalar.typed ∙ ap (list_any (λ (u : Usage). is_other (type_of c u.name))) (append-nil (uses_of e))
     compared_breaks e l m n q TypeClash = or_false _ ∙ compared_kind (kind_in c (Variable x)) (is_kind Integer (kind_in c e)) variable_kind
     compared_breaks e l m n q WrongCount = ap (list_any (miscounts c)) (append-nil (uses_of e))
-    compared_breaks e l m n q DuplicateName = ap (λ b. b || list_any (misuses c acts) _) scalar.used ∙ ap (list_any (misuses c acts)) (append-nil (uses_of e))
+    compared_breaks e l m n q DuplicateName = ap (λ b. b || list_any (misuses c acts) (uses_of e ++ [])) scalar.used ∙ ap (list_any (misuses c acts)) (append-nil (uses_of e))
     compared_breaks e l m n q _ = refl
 
     -- x = e breaks what the value does
@@ -79,8 +79,8 @@ module _ (c : Context) (acts : List Act) (i : ℕ) where
 
     pub stored_breaks : (e : Formula) (m n q : ℕ) (k : FaultKind) → breaks_name c acts i (Assigns (Variable x) e) k ≡ breaks_name c acts i (Signs e m n q) k
     stored_breaks e m n q Syntax = ap (λ b. not (b && stands 0 e)) scalar.named
-    stored_breaks e m n q NameTooLong = ap (λ b. b || list_any (λ u. is_long u.name) (uses_of e)) scalar.short
-    stored_breaks e m n q OutOfProfileType = ap (λ b. b || list_any (λ u. is_other (type_of c u.name)) (uses_of e)) scalar.typed
+    stored_breaks e m n q NameTooLong = ap (λ b. b || list_any (λ (u : Usage). is_long u.name) (uses_of e)) scalar.short
+    stored_breaks e m n q OutOfProfileType = ap (λ b. b || list_any (λ (u : Usage). is_other (type_of c u.name)) (uses_of e)) scalar.typed
     stored_breaks e m n q TypeClash = ap not (stored_kind (kind_in c e))
     stored_breaks e m n q WrongCount = refl
     stored_breaks e m n q DuplicateName = ap (λ b. b || list_any (misuses c acts) (uses_of e)) scalar.used
