@@ -86,6 +86,14 @@ impl Model for CheckedUnit {
 }
 
 impl CheckedUnit {
+    /// A unit that is known to be sound (X3.9-1966, sections 3 to 9).
+    pub fn of_sound(unit: Unit) -> CheckedUnit
+        requires sound { IsSound (routine_of unit) }
+        ensures { result ≡ unit }
+    {
+        CheckedUnit { unit }
+    }
+
     /// The unit, which is sound (X3.9-1966, sections 3 to 9).
     pub fn unit(&self) -> &Unit
         ensures unit { result.now ≡ self.now }
@@ -114,7 +122,7 @@ pub fn check_unit(alloc: Global, unit: Unit) -> Result<CheckedUnit, Refusal>
     };
     match first {
         Some((number, kind)) => Err(Refusal::Fault(fault_at(&unit, number, kind))),
-        None => Ok(CheckedUnit { unit }),
+        None => Ok(CheckedUnit::of_sound(unit)),
     }
 }
 
