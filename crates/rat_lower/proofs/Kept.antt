@@ -1,9 +1,11 @@
 -- What holds of all that a command says in FORTRAN holds of all that its statements say, for what jumps, tests and stores keep.
-use Rattle.std.specs.Prelude.{ℕ, ◌+◌, Bool, true, false, List, [], ◌∷◌, Option, Some, None, ⊤}
+use Rattle.std.proofs.Common.{◌≡◌, ℕ, ◌+◌, Bool, true, false, List, [], ◌∷◌, Option, Some, None, refl}
+use Rattle.std.specs.Prelude.{⊤}
+use Rattle.std.proofs.lemmas.Bool.{or_left, or_right}
 use Rattle.ground.specs.declared.place.Place.{Place}
 use Rattle.f66_tree.specs.Forms.{Text, Formula, Variable, Grouped, Negated, Formulas, Nought, Also, Par, Act, Assigns, Goes, Signs, Chooses, Loops, Passes, Stops, Line}
 use Rattle.rat_tree.specs.Commands.{Command, Empty, Together, When, Either, Whilst, Through, Repeats, Until, Counts, Switches, Leaves, Turns, GivesBack, Plainly, Marked, Commands, NoCommand, AndCommand, Clauses, NoClause, AndClause}
-use Rattle.rat_lower.specs.Code.{case_test, each_test, tests, default_label, bodies, Rings, jump, unless, here, with_test, with_act, labels, all_labels, code_of, all_code, stop_unless}
+use Rattle.rat_lower.specs.Code.{case_test, each_test, tests, default_label, bodies, Rings, jump, unless, here, with_test, with_act, labels, all_labels, code_of, all_code, has_switch, have_switch, stop_unless}
 
 -- each of these statements says such a thing
 abbrev pub AllSay : (Act → Type 0) → List Line → Type 0
@@ -59,16 +61,19 @@ module _ (Good : Act → Type 0) where
     ClausesSayGood (AndClause es fallback ss p cs) = GoodValues es × AllSayGood ss × ClausesSayGood cs
 
 -- what the lowering makes of these is so again
-pub record Keeps (Good : Act → Type 0) (spare : Text) : Type 0 where
+pub record Keeps (Good : Act → Type 0) : Type 0 where
   pub passes : Good Passes
   pub goes : (l : ℕ) → Good (Goes l)
   pub stops : Good (Stops None)
   pub denied : (e : Formula) (l : ℕ) → Good (Chooses e Passes) → Good (Chooses (Negated (Grouped e)) (Goes l))
-  pub compared : (e : Formula) (l : ℕ) → Good (Signs e 0 0 0) → Good (Chooses (case_test spare e) (Goes l))
-  pub stored : (e : Formula) → Good (Signs e 0 0 0) → Good (Assigns (Variable spare) e)
   pub counts : (l : ℕ) (x : Text) (a b c : Par) → Good (Loops 0 x a b c) → Good (Loops l x a b c)
 
-module _ (Good : Act → Type 0) (made : ℕ → ℕ) (spare : Text) (keeps : Keeps Good spare) where
+-- and what it makes of the values of switches
+pub record KeepsValues (Good : Act → Type 0) (spare : Text) : Type 0 where
+  pub compared : (e : Formula) (l : ℕ) → Good (Signs e 0 0 0) → Good (Chooses (case_test spare e) (Goes l))
+  pub stored : (e : Formula) → Good (Signs e 0 0 0) → Good (Assigns (Variable spare) e)
+
+module _ (Good : Act → Type 0) (made : ℕ → ℕ) (spare : Text) (keeps : Keeps Good) where
   abbrev All : List Line → Type 0
   All = AllSay Good
 
@@ -80,68 +85,70 @@ module _ (Good : Act → Type 0) (made : ℕ → ℕ) (spare : Text) (keeps : Ke
   good_act p None next h k = k
   good_act p (Some a) next h k = (h, k)
 
-  good_each : (p : Place) (es : Formulas) (l : ℕ) (next : List Line) → GoodValues Good es → All next → All (each_test spare p es l next)
-  good_each p Nought l next h k = k
-  good_each p (Also e es) l next h k = (keeps.compared e l h.0, good_each p es l next h.1 k)
+  good_each : KeepsValues Good spare → (p : Place) (es : Formulas) (l : ℕ) (next : List Line) → GoodValues Good es → All next → All (each_test spare p es l next)
+  good_each v p Nought l next h k = k
+  good_each v p (Also e es) l next h k = (v.compared e l h.0, good_each v p es l next h.1 k)
 
-  good_tests : (cs : Clauses) (m : ℕ) (next : List Line) → ClausesSayGood Good cs → All next → All (tests made spare cs m next)
-  good_tests NoClause m next h k = k
-  good_tests (AndClause es fallback ss p cs) m next h k = good_each p es (made m) (tests made spare cs (m + 1 + all_labels ss) next) h.0 (good_tests cs (m + 1 + all_labels ss) next h.2 k)
+  good_tests : KeepsValues Good spare → (cs : Clauses) (m : ℕ) (next : List Line) → ClausesSayGood Good cs → All next → All (tests made spare cs m next)
+  good_tests v NoClause m next h k = k
+  good_tests v (AndClause es fallback ss p cs) m next h k =
+      good_each v p es (made m) (tests made spare cs (m + 1 + all_labels ss) next) h.0 (good_tests v cs (m + 1 + all_labels ss) next h.2 k)
 
   mutual
-    good_code : (s : Command) (n : ℕ) (ls : Rings) (next : List Line) → SaysGood Good s → All next → All (code_of made spare s n ls next)
-    good_code (Empty p) n ls next h k = k
-    good_code (Together p ss) n ls next h k = good_all ss n ls next h k
-    good_code (When p e s) n ls next h k = (keeps.denied e (made n) h.0, good_code s (n + 1) ls (here (made n) p ∷ next) h.1 (keeps.passes, k))
-    good_code (Either p e s t) n ls next h k =
+    good_code : (s : Command) (n : ℕ) (ls : Rings) (next : List Line) → (has_switch s ≡ true → KeepsValues Good spare) → SaysGood Good s → All next → All (code_of made spare s n ls next)
+    good_code (Empty p) n ls next may h k = k
+    good_code (Together p ss) n ls next may h k = good_all ss n ls next may h k
+    good_code (When p e s) n ls next may h k = (keeps.denied e (made n) h.0, good_code s (n + 1) ls (here (made n) p ∷ next) may h.1 (keeps.passes, k))
+    good_code (Either p e s t) n ls next may h k =
         let last : List Line = here (made (n + 1)) p ∷ next in
         let second : List Line = code_of made spare t (n + 2 + labels s) ls last in
-        let k_second : All second = good_code t (n + 2 + labels s) ls last h.2 (keeps.passes, k) in
-        (keeps.denied e (made n) h.0, good_code s (n + 2) ls (jump p (made (n + 1)) ∷ here (made n) p ∷ second) h.1 (keeps.goes (made (n + 1)), (keeps.passes, k_second)))
-    good_code (Whilst p e s) n ls next h k =
+        let k_second : All second = good_code t (n + 2 + labels s) ls last (λ e1. may (or_right (has_switch s) (has_switch t) e1)) h.2 (keeps.passes, k) in
+        (keeps.denied e (made n) h.0, good_code s (n + 2) ls (jump p (made (n + 1)) ∷ here (made n) p ∷ second) (λ e1. may (or_left (has_switch s) (has_switch t) e1)) h.1 (keeps.goes (made (n + 1)), (keeps.passes, k_second)))
+    good_code (Whilst p e s) n ls next may h k =
         let mid : List Line = here (made (n + 1)) p ∷ jump p (made n) ∷ here (made (n + 2)) p ∷ next in
-        (keeps.passes, (keeps.denied e (made (n + 2)) h.0, good_code s (n + 3) ((made (n + 2), made (n + 1)) ∷ ls) mid h.1 (keeps.passes, (keeps.goes (made n), (keeps.passes, k)))))
-    good_code (Through p first e step s) n ls next h k =
+        (keeps.passes, (keeps.denied e (made (n + 2)) h.0, good_code s (n + 3) ((made (n + 2), made (n + 1)) ∷ ls) mid may h.1 (keeps.passes, (keeps.goes (made n), (keeps.passes, k)))))
+    good_code (Through p first e step s) n ls next may h k =
         let out : List Line = jump p (made n) ∷ here (made (n + 2)) p ∷ next in
         let mid : List Line = here (made (n + 1)) p ∷ with_act p step out in
         let inner : List Line = code_of made spare s (n + 3) ((made (n + 2), made (n + 1)) ∷ ls) mid in
         let k_mid : All mid = (keeps.passes, good_act p step out h.2 (keeps.goes (made n), (keeps.passes, k))) in
         good_act p first (here (made n) p ∷ with_test p e (made (n + 2)) inner) h.0
-        (keeps.passes, good_test p e (made (n + 2)) inner h.1 (good_code s (n + 3) ((made (n + 2), made (n + 1)) ∷ ls) mid h.3 k_mid))
-    good_code (Repeats p s) n ls next h k =
+        (keeps.passes, good_test p e (made (n + 2)) inner h.1 (good_code s (n + 3) ((made (n + 2), made (n + 1)) ∷ ls) mid may h.3 k_mid))
+    good_code (Repeats p s) n ls next may h k =
         let mid : List Line = here (made (n + 1)) p ∷ jump p (made n) ∷ here (made (n + 2)) p ∷ next in
-        (keeps.passes, good_code s (n + 3) ((made (n + 2), made (n + 1)) ∷ ls) mid h (keeps.passes, (keeps.goes (made n), (keeps.passes, k))))
-    good_code (Until p s e q) n ls next h k =
+        (keeps.passes, good_code s (n + 3) ((made (n + 2), made (n + 1)) ∷ ls) mid may h (keeps.passes, (keeps.goes (made n), (keeps.passes, k))))
+    good_code (Until p s e q) n ls next may h k =
         let mid : List Line = here (made (n + 1)) p ∷ unless q e (made n) ∷ here (made (n + 2)) p ∷ next in
-        (keeps.passes, good_code s (n + 3) ((made (n + 2), made (n + 1)) ∷ ls) mid h.0 (keeps.passes, (keeps.denied e (made n) h.1, (keeps.passes, k))))
-    good_code (Counts p x a b c s) n ls next h k =
+        (keeps.passes, good_code s (n + 3) ((made (n + 2), made (n + 1)) ∷ ls) mid may h.0 (keeps.passes, (keeps.denied e (made n) h.1, (keeps.passes, k))))
+    good_code (Counts p x a b c s) n ls next may h k =
         let mid : List Line = here (made n) p ∷ here (made (n + 1)) p ∷ next in
-        (keeps.counts (made n) x a b c h.0, good_code s (n + 2) ((made (n + 1), made n) ∷ ls) mid h.1 (keeps.passes, (keeps.passes, k)))
-    good_code (Switches p e cs) n ls next h k =
+        (keeps.counts (made n) x a b c h.0, good_code s (n + 2) ((made (n + 1), made n) ∷ ls) mid may h.1 (keeps.passes, (keeps.passes, k)))
+    good_code (Switches p e cs) n ls next may h k =
         let last : List Line = here (made n) p ∷ next in
         let all : List Line = bodies made spare cs (n + 1) (made n) ls last in
-        let k_all : All all = good_bodies cs (n + 1) (made n) ls last h.1 (keeps.passes, k) in
-        (keeps.stored e h.0, good_tests cs (n + 1) (jump p (default_label made spare cs (n + 1) (made n)) ∷ all) h.1 (keeps.goes _, k_all))
-    good_code (Leaves p m) n ls next h k = (keeps.goes _, k)
-    good_code (Turns p m) n ls next h k = (keeps.goes _, k)
-    good_code (GivesBack p e) n ls next h k = absurd h
-    good_code (Plainly l p a) n ls next h k = (h, k)
-    good_code (Marked l p s) n ls next h k = (keeps.passes, good_code s n ls next h k)
+        let k_all : All all = good_bodies cs (n + 1) (made n) ls last (may refl) h.1 (keeps.passes, k) in
+        ((may refl).stored e h.0, good_tests (may refl) cs (n + 1) (jump p (default_label made spare cs (n + 1) (made n)) ∷ all) h.1 (keeps.goes _, k_all))
+    good_code (Leaves p m) n ls next may h k = (keeps.goes _, k)
+    good_code (Turns p m) n ls next may h k = (keeps.goes _, k)
+    good_code (GivesBack p e) n ls next may h k = absurd h
+    good_code (Plainly l p a) n ls next may h k = (h, k)
+    good_code (Marked l p s) n ls next may h k = (keeps.passes, good_code s n ls next may h k)
 
-    pub good_all : (ss : Commands) (n : ℕ) (ls : Rings) (next : List Line) → AllSayGood Good ss → All next → All (all_code made spare ss n ls next)
-    good_all NoCommand n ls next h k = k
-    good_all (AndCommand s ss) n ls next h k = good_code s n ls (all_code made spare ss (n + labels s) ls next) h.0 (good_all ss (n + labels s) ls next h.1 k)
+    pub good_all : (ss : Commands) (n : ℕ) (ls : Rings) (next : List Line) → (have_switch ss ≡ true → KeepsValues Good spare) → AllSayGood Good ss → All next → All (all_code made spare ss n ls next)
+    good_all NoCommand n ls next may h k = k
+    good_all (AndCommand s ss) n ls next may h k = good_code s n ls (all_code made spare ss (n + labels s) ls next) (λ e. may (or_left (has_switch s) (have_switch ss) e)) h.0
+        (good_all ss (n + labels s) ls next (λ e. may (or_right (has_switch s) (have_switch ss) e)) h.1 k)
 
-    good_bodies : (cs : Clauses) (m out : ℕ) (ls : Rings) (next : List Line) → ClausesSayGood Good cs → All next → All (bodies made spare cs m out ls next)
-    good_bodies NoClause m out ls next h k = k
-    good_bodies (AndClause es fallback ss p cs) m out ls next h k =
+    good_bodies : (cs : Clauses) (m out : ℕ) (ls : Rings) (next : List Line) → KeepsValues Good spare → ClausesSayGood Good cs → All next → All (bodies made spare cs m out ls next)
+    good_bodies NoClause m out ls next v h k = k
+    good_bodies (AndClause es fallback ss p cs) m out ls next v h k =
         let rest : List Line = bodies made spare cs (m + 1 + all_labels ss) out ls next in
-        (keeps.passes, good_all ss (m + 1) ls (jump p out ∷ rest) h.1 (keeps.goes out, good_bodies cs (m + 1 + all_labels ss) out ls next h.2 k))
+        (keeps.passes, good_all ss (m + 1) ls (jump p out ∷ rest) (λ e. v) h.1 (keeps.goes out, good_bodies cs (m + 1 + all_labels ss) out ls next v h.2 k))
 
   good_stop : (v : Bool) (p : Place) → All (stop_unless v p)
   good_stop true p = tt
   good_stop false p = (keeps.stops, tt)
 
   -- the statements of a whole unit, without a declaration before them
-  pub good_unit : (ss : Commands) (v : Bool) (p : Place) → AllSayGood Good ss → All (all_code made spare ss 0 [] (stop_unless v p))
-  good_unit ss v p h = good_all ss 0 [] (stop_unless v p) h (good_stop v p)
+  pub good_unit : (ss : Commands) (v : Bool) (p : Place) → (have_switch ss ≡ true → KeepsValues Good spare) → AllSayGood Good ss → All (all_code made spare ss 0 [] (stop_unless v p))
+  good_unit ss v p may h = good_all ss 0 [] (stop_unless v p) may h (good_stop v p)

@@ -35,6 +35,7 @@ pub mod FlowRules
 pub mod FormatsNamed
 pub mod FlowUnits
 pub mod Kept
+pub mod Soundness
 pub mod Checks
 pub mod MainUnits
 mod Examples
