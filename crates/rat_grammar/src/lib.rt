@@ -2,6 +2,7 @@
 #![tactic(auto)]
 
 mod build;
+mod empty;
 mod language;
 
 pub use language::{Ratfor, parse};

@@ -166,7 +166,7 @@ parameter_value (in_parameter.Names list) = part.names (reverse list.items)
 parameter_value (in_parameter.Numbers list) = part.numbers (reverse list.items)
 parameter_value (in_parameter.Par p) = part.par (par_of p)
 parameter_value (in_parameter.Pars list) = part.pars (map par_of (reverse list.items))
-parameter_value (in_parameter.Range r) = part.range (range_of r)
+parameter_value (in_parameter.Range r) = part.range (range_of r.value)
 
 abbrev pub declaration_value : DeclarationValue → DeclarationVal
 declaration_value (in_declaration.Declared d) = part.declared (declared_of d)
@@ -180,23 +180,23 @@ declaration_value (in_declaration.Datum n e) = part.datum n (formula_of e)
 declaration_value (in_declaration.Data list) = part.data_values (map initial_of (reverse list.items))
 
 abbrev pub transfer_value : TransferValue → TransferVal
-transfer_value (in_transfer.Entry e) = part.entry (entry_of e)
+transfer_value (in_transfer.Entry e) = part.entry (entry_of e.value)
 transfer_value (in_transfer.Entries list) = part.entries (map entry_of (reverse list.items))
-transfer_value (in_transfer.Rest r) = part.rest (rest_of r)
-transfer_value (in_transfer.Pending args r) = part.pending (arguments_of args) (rest_of r)
+transfer_value (in_transfer.Rest r) = part.rest (rest_of r.value)
+transfer_value (in_transfer.Pending args r) = part.pending (arguments_of args) (rest_of r.value)
 transfer_value (in_transfer.Field f) = part.field (field_then f)
 transfer_value (in_transfer.Fields list) = part.fields (fields_of (reverse list.items))
 
 abbrev pub statement_value : StatementValue → StatementVal
-statement_value (in_statement.Deed p a) = part.deed p (act_of a)
-statement_value (in_statement.Statement s) = part.command s.place (trees.command s)
+statement_value (in_statement.Deed p a) = part.deed p (act_of a.value)
+statement_value (in_statement.Statement s) = part.command s.value.place (trees.command s.value)
 statement_value (in_statement.Statements list) = part.commands (trees.commands (reverse list.items))
 statement_value (in_statement.Clause c) = part.clause (clause_then c)
 statement_value (in_statement.Clauses list) = part.clauses (trees.clauses (reverse list.items))
 
 abbrev pub unit_value : UnitValue → UnitVal
 unit_value (in_unit.Header p h) = part.heading p (header_of h)
-unit_value (in_unit.Unit u) = part.routine (routine_of u)
+unit_value (in_unit.Unit u) = part.routine (routine_of u.value)
 unit_value (in_unit.Units list) = part.routines (map routine_of (reverse list.items))
 unit_value (in_unit.Program p) = part.program (program_of p)
 

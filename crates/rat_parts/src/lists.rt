@@ -158,7 +158,7 @@ pub fn into_range(part: Value) -> Range
     ensures { range_of result ≡ as_range (value part) }
 {
     match part {
-        Value::Parameter(ParameterValue::Range(range)) => range,
+        Value::Parameter(ParameterValue::Range(range)) => Box::into_inner(range),
         other => {
             drop(other);
             Range {
@@ -293,7 +293,7 @@ pub fn into_act(part: Value) -> StmtKind
     ensures { act_of result ≡ as_act (value part) }
 {
     match part {
-        Value::Statement(StatementValue::Deed(_, kind)) => kind,
+        Value::Statement(StatementValue::Deed(_, kind)) => Box::into_inner(kind),
         other => {
             drop(other);
             StmtKind::Continue
@@ -305,7 +305,7 @@ pub fn into_act_if_any(part: Value) -> Option<StmtKind>
     ensures { act_if result ≡ act_if_any (value part) }
 {
     match part {
-        Value::Statement(StatementValue::Deed(_, kind)) => Some(kind),
+        Value::Statement(StatementValue::Deed(_, kind)) => Some(Box::into_inner(kind)),
         other => {
             drop(other);
             None

@@ -6,7 +6,8 @@ use f66_tree::{
 use ground::{List, Place, Token};
 use rat_tree::{RatCase, RatProgram, RatStmt, RatUnit};
 
-/// What a symbol gave. Lists stand in it with their last item first.
+/// What a symbol gave. Lists stand in it with their last item first, and large parts in boxes, so that a value is moved
+/// at little cost.
 #[derive(Drop)]
 pub enum Value {
     Nothing,
@@ -37,7 +38,7 @@ pub enum ParameterValue {
     Numbers(Vec<u32>),
     Par(Par),
     Pars(Vec<Par>),
-    Range(Range),
+    Range(Box<Range>),
 }
 
 /// What specifications and DATA declare.
@@ -57,11 +58,11 @@ pub enum DeclarationValue {
 /// What READ and WRITE list, and the fields of a format.
 #[derive(Drop)]
 pub enum TransferValue {
-    Entry(Entry),
+    Entry(Box<Entry>),
     Entries(Vec<Entry>),
-    Rest(LoopRest),
+    Rest(Box<LoopRest>),
     /// The arguments of a name where it has them, and what follows it.
-    Pending(Option<List<Expr>>, LoopRest),
+    Pending(Option<List<Expr>>, Box<LoopRest>),
     Field(Field),
     Fields(Vec<Field>),
 }
@@ -70,8 +71,8 @@ pub enum TransferValue {
 #[derive(Drop)]
 pub enum StatementValue {
     /// A statement of FORTRAN, with its place.
-    Deed(Place, StmtKind),
-    Statement(RatStmt),
+    Deed(Place, Box<StmtKind>),
+    Statement(Box<RatStmt>),
     Statements(Vec<RatStmt>),
     Clause(RatCase),
     Clauses(Vec<RatCase>),
@@ -81,7 +82,7 @@ pub enum StatementValue {
 #[derive(Drop)]
 pub enum UnitValue {
     Header(Place, Header),
-    Unit(RatUnit),
+    Unit(Box<RatUnit>),
     Units(Vec<RatUnit>),
     Program(RatProgram),
 }

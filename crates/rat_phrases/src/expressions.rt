@@ -79,11 +79,11 @@ pub fn truth(part: Value) -> Value
     Value::Expression(ExpressionValue::Expr(Expr::Truth(is_true(take_sign(part)))))
 }
 
-pub fn joined_by(alloc: Global, mut parts: Vec<Value>) -> Result<Value, AllocError>
-    ensures { IfOk result (λ v. value v ≡ formula (joined (as_formula (at 1 (values parts.items))) (as_joins (at 0 (values parts.items))))) }
+pub fn joined_by(alloc: Global, parts: &mut Vec<Value>) -> Result<Value, AllocError>
+    ensures { IfOk result (λ v. value v ≡ formula (joined (as_formula (at 1 (values parts.old.items))) (as_joins (at 0 (values parts.old.items))))) }
 {
-    let tail = pop_value(&mut parts);
-    let first = into_expr(pop_value(&mut parts));
+    let tail = pop_value(parts);
+    let first = into_expr(pop_value(parts));
     Ok(Value::Expression(ExpressionValue::Expr(join(alloc, first, tail)?)))
 }
 
@@ -96,80 +96,80 @@ fn longer(alloc: Global, operator: Value, first: Value, rest: Value) -> Result<V
     Ok(Value::Expression(ExpressionValue::Joins(list)))
 }
 
-pub fn more_joins_by(alloc: Global, mut parts: Vec<Value>) -> Result<Value, AllocError>
-    ensures { IfOk result (λ v. value v ≡ joins ((operation (sign_in (at 2 (values parts.items))), as_formula (at 1 (values parts.items))) ∷ as_joins (at 0 (values parts.items)))) }
+pub fn more_joins_by(alloc: Global, parts: &mut Vec<Value>) -> Result<Value, AllocError>
+    ensures { IfOk result (λ v. value v ≡ joins ((operation (sign_in (at 2 (values parts.old.items))), as_formula (at 1 (values parts.old.items))) ∷ as_joins (at 0 (values parts.old.items)))) }
 {
-    let rest = pop_value(&mut parts);
-    let first = pop_value(&mut parts);
-    let operator = pop_value(&mut parts);
+    let rest = pop_value(parts);
+    let first = pop_value(parts);
+    let operator = pop_value(parts);
     longer(alloc, operator, first, rest)
 }
 
-pub fn one_join_by(alloc: Global, mut parts: Vec<Value>) -> Result<Value, AllocError>
-    ensures { IfOk result (λ v. value v ≡ joins ((operation (sign_in (at 1 (values parts.items))), as_formula (at 0 (values parts.items))) ∷ [])) }
+pub fn one_join_by(alloc: Global, parts: &mut Vec<Value>) -> Result<Value, AllocError>
+    ensures { IfOk result (λ v. value v ≡ joins ((operation (sign_in (at 1 (values parts.old.items))), as_formula (at 0 (values parts.old.items))) ∷ [])) }
 {
-    let first = pop_value(&mut parts);
-    let operator = pop_value(&mut parts);
+    let first = pop_value(parts);
+    let operator = pop_value(parts);
     longer(alloc, operator, first, Value::Nothing)
 }
 
-pub fn negated_by(alloc: Global, mut parts: Vec<Value>) -> Result<Value, AllocError>
-    ensures { IfOk result (λ v. value v ≡ formula (Negated (as_formula (at 0 (values parts.items))))) }
+pub fn negated_by(alloc: Global, parts: &mut Vec<Value>) -> Result<Value, AllocError>
+    ensures { IfOk result (λ v. value v ≡ formula (Negated (as_formula (at 0 (values parts.old.items))))) }
 {
-    let last = into_expr(pop_value(&mut parts));
+    let last = into_expr(pop_value(parts));
     let inner = Box::new(alloc, last)?;
     Ok(Value::Expression(ExpressionValue::Expr(Expr::Not(inner))))
 }
 
-pub fn group_by(alloc: Global, mut parts: Vec<Value>) -> Result<Value, AllocError>
-    ensures { IfOk result (λ v. value v ≡ formula (Grouped (as_formula (at 1 (values parts.items))))) }
+pub fn group_by(alloc: Global, parts: &mut Vec<Value>) -> Result<Value, AllocError>
+    ensures { IfOk result (λ v. value v ≡ formula (Grouped (as_formula (at 1 (values parts.old.items))))) }
 {
-    skip(&mut parts);
-    let second = into_expr(pop_value(&mut parts));
+    skip(parts);
+    let second = into_expr(pop_value(parts));
     let inner = Box::new(alloc, second)?;
     Ok(Value::Expression(ExpressionValue::Expr(Expr::Group(inner))))
 }
 
-pub fn signed_by(alloc: Global, mut parts: Vec<Value>) -> Result<Value, AllocError>
-    ensures { IfOk result (λ v. value v ≡ formula (signed (at 1 (values parts.items)) (as_formula (at 0 (values parts.items))))) }
+pub fn signed_by(alloc: Global, parts: &mut Vec<Value>) -> Result<Value, AllocError>
+    ensures { IfOk result (λ v. value v ≡ formula (signed (at 1 (values parts.old.items)) (as_formula (at 0 (values parts.old.items))))) }
 {
-    let last = into_expr(pop_value(&mut parts));
-    let second = pop_value(&mut parts);
+    let last = into_expr(pop_value(parts));
+    let second = pop_value(parts);
     Ok(Value::Expression(ExpressionValue::Expr(sign(alloc, second, last)?)))
 }
 
-pub fn signed_number_by(alloc: Global, mut parts: Vec<Value>) -> Result<Value, AllocError>
-    ensures { IfOk result (λ v. value v ≡ formula (signed (at 1 (values parts.items)) (Number (integer_in (at 0 (values parts.items)))))) }
+pub fn signed_number_by(alloc: Global, parts: &mut Vec<Value>) -> Result<Value, AllocError>
+    ensures { IfOk result (λ v. value v ≡ formula (signed (at 1 (values parts.old.items)) (Number (integer_in (at 0 (values parts.old.items)))))) }
 {
-    let last = take_integer(pop_value(&mut parts));
-    let second = pop_value(&mut parts);
+    let last = take_integer(pop_value(parts));
+    let second = pop_value(parts);
     let number = Expr::Int(last);
     Ok(Value::Expression(ExpressionValue::Expr(sign(alloc, second, number)?)))
 }
 
-pub fn ref_by(alloc: Global, mut parts: Vec<Value>) -> Value
-    ensures { value result ≡ located (place_in (at 1 (values parts.items))) (applied (name_in (at 1 (values parts.items))) (at 0 (values parts.items))) }
+pub fn ref_by(alloc: Global, parts: &mut Vec<Value>) -> Result<Value, AllocError>
+    ensures { IfOk result (λ v. value v ≡ located (place_in (at 1 (values parts.old.items))) (applied (name_in (at 1 (values parts.old.items))) (at 0 (values parts.old.items)))) }
 {
-    let last = pop_value(&mut parts);
-    let second = pop_value(&mut parts);
+    let last = pop_value(parts);
+    let second = pop_value(parts);
     let place = place_of(&second);
     let name = into_name(alloc, second);
-    Value::Expression(ExpressionValue::Located(place, apply(alloc, name, last)))
+    Ok(Value::Expression(ExpressionValue::Located(place, apply(alloc, name, last))))
 }
 
-pub fn listed_by(alloc: Global, mut parts: Vec<Value>) -> Result<Value, AllocError>
-    ensures { IfOk result (λ v. value v ≡ formulas (as_formula (at 2 (values parts.items)) ∷ as_exprs (at 1 (values parts.items)))) }
+pub fn listed_by(alloc: Global, parts: &mut Vec<Value>) -> Result<Value, AllocError>
+    ensures { IfOk result (λ v. value v ≡ formulas (as_formula (at 2 (values parts.old.items)) ∷ as_exprs (at 1 (values parts.old.items)))) }
 {
-    skip(&mut parts);
-    let second = pop_value(&mut parts);
-    let third = pop_value(&mut parts);
+    skip(parts);
+    let second = pop_value(parts);
+    let third = pop_value(parts);
     more_exprs(alloc, third, second)
 }
 
-pub fn more_exprs_by(alloc: Global, mut parts: Vec<Value>) -> Result<Value, AllocError>
-    ensures { IfOk result (λ v. value v ≡ formulas (as_formula (at 1 (values parts.items)) ∷ as_exprs (at 0 (values parts.items)))) }
+pub fn more_exprs_by(alloc: Global, parts: &mut Vec<Value>) -> Result<Value, AllocError>
+    ensures { IfOk result (λ v. value v ≡ formulas (as_formula (at 1 (values parts.old.items)) ∷ as_exprs (at 0 (values parts.old.items)))) }
 {
-    let last = pop_value(&mut parts);
-    let second = pop_value(&mut parts);
+    let last = pop_value(parts);
+    let second = pop_value(parts);
     more_exprs(alloc, second, last)
 }

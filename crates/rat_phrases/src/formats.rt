@@ -71,47 +71,47 @@ fn counted_field(alloc: Global, count: u16, part: Value) -> Field
     }
 }
 
-pub fn counted_edit_by(alloc: Global, mut parts: Vec<Value>) -> Value
-    ensures { value result ≡ field (counted (count_in (at 1 (values parts.items))) (at 0 (values parts.items))) }
+pub fn counted_edit_by(alloc: Global, parts: &mut Vec<Value>) -> Result<Value, AllocError>
+    ensures { IfOk result (λ v. value v ≡ field (counted (count_in (at 1 (values parts.old.items))) (at 0 (values parts.old.items)))) }
 {
-    let last = pop_value(&mut parts);
-    let second = take_count(pop_value(&mut parts));
-    Value::Transfer(TransferValue::Field(counted_field(alloc, second, last)))
+    let last = pop_value(parts);
+    let second = take_count(pop_value(parts));
+    Ok(Value::Transfer(TransferValue::Field(counted_field(alloc, second, last))))
 }
 
-pub fn word_edit_by(alloc: Global, mut parts: Vec<Value>) -> Value
-    ensures { value result ≡ field (worded 1 (name_in (at 0 (values parts.items)))) }
+pub fn word_edit_by(alloc: Global, parts: &mut Vec<Value>) -> Result<Value, AllocError>
+    ensures { IfOk result (λ v. value v ≡ field (worded 1 (name_in (at 0 (values parts.old.items))))) }
 {
-    let name = into_name(alloc, pop_value(&mut parts));
-    Value::Transfer(TransferValue::Field(word_field(1, &name)))
+    let name = into_name(alloc, pop_value(parts));
+    Ok(Value::Transfer(TransferValue::Field(word_field(1, &name))))
 }
 
-pub fn group_edit_by(alloc: Global, mut parts: Vec<Value>) -> Value
-    ensures { value result ≡ field (Group 1 (as_fields (at 1 (values parts.items)))) }
+pub fn group_edit_by(alloc: Global, parts: &mut Vec<Value>) -> Result<Value, AllocError>
+    ensures { IfOk result (λ v. value v ≡ field (Group 1 (as_fields (at 1 (values parts.old.items))))) }
 {
-    skip(&mut parts);
-    let second = into_fields(alloc, pop_value(&mut parts));
-    Value::Transfer(TransferValue::Field(group(1, second)))
+    skip(parts);
+    let second = into_fields(alloc, pop_value(parts));
+    Ok(Value::Transfer(TransferValue::Field(group(1, second))))
 }
 
-pub fn text_edit_by(alloc: Global, mut parts: Vec<Value>) -> Value
-    ensures { value result ≡ field (Single 1 (Chars (text_in (at 0 (values parts.items))))) }
+pub fn text_edit_by(alloc: Global, parts: &mut Vec<Value>) -> Result<Value, AllocError>
+    ensures { IfOk result (λ v. value v ≡ field (Single 1 (Chars (text_in (at 0 (values parts.old.items)))))) }
 {
-    Value::Transfer(TransferValue::Field(Field::Chars(into_text(alloc, pop_value(&mut parts)))))
+    Ok(Value::Transfer(TransferValue::Field(Field::Chars(into_text(alloc, pop_value(parts))))))
 }
 
-pub fn more_fields_by(alloc: Global, mut parts: Vec<Value>) -> Result<Value, AllocError>
-    ensures { IfOk result (λ v. value v ≡ fields (with_field (at 1 (values parts.items)) (as_fields (at 0 (values parts.items))))) }
+pub fn more_fields_by(alloc: Global, parts: &mut Vec<Value>) -> Result<Value, AllocError>
+    ensures { IfOk result (λ v. value v ≡ fields (with_field (at 1 (values parts.old.items)) (as_fields (at 0 (values parts.old.items))))) }
 {
-    let last = pop_value(&mut parts);
-    let second = pop_value(&mut parts);
+    let last = pop_value(parts);
+    let second = pop_value(parts);
     more_fields(alloc, second, last)
 }
 
-pub fn slash_by(alloc: Global, mut parts: Vec<Value>) -> Result<Value, AllocError>
-    ensures { IfOk result (λ v. value v ≡ fields (Single 1 Slash (as_fields (at 0 (values parts.items))))) }
+pub fn slash_by(alloc: Global, parts: &mut Vec<Value>) -> Result<Value, AllocError>
+    ensures { IfOk result (λ v. value v ≡ fields (Single 1 Slash (as_fields (at 0 (values parts.old.items))))) }
 {
-    let mut list = into_fields(alloc, pop_value(&mut parts));
+    let mut list = into_fields(alloc, pop_value(parts));
     list.push(Field::Slash)?;
     Ok(Value::Transfer(TransferValue::Fields(list)))
 }

@@ -13,7 +13,7 @@ pub fn more_entries(alloc: Global, first: Value, rest: Value) -> Result<Value, A
     let mut list = into_entries(alloc, rest);
     match first {
         Value::Transfer(TransferValue::Entry(item)) => {
-            list.push(item)?;
+            list.push(Box::into_inner(item))?;
             Ok(Value::Transfer(TransferValue::Entries(list)))
         }
         other => {

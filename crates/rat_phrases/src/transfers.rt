@@ -1,8 +1,8 @@
 // What the productions of lists of READ and WRITE make.
-ghost use Rattle.std.specs.Prelude.{◌≡◌, ◌∷◌, [], Some, None, true, false, pos, map, IfOk};
+ghost use Rattle.std.specs.Prelude.{◌≡◌, ◌∷◌, [], Some, None, true, false, pos, map, reverse, IfOk};
 ghost use Rattle.f66_tree.specs.Forms.{One, Many};
-ghost use Rattle.f66_tree.specs.Views.{formula_of, listed};
-ghost use Rattle.rat_parts.specs.Values.{value, values, at, entry, entries, rest as rest_val, rest_of, arguments_of};
+ghost use Rattle.f66_tree.specs.Views.{formula_of, entry_of, listed};
+ghost use Rattle.rat_parts.specs.Values.{value, values, at, entry, entries, rest as rest_val, rest_of, range_of, arguments_of};
 ghost use Rattle.rat_parts.specs.Parts.{as_formula, as_exprs, as_entries, with_entry, name_in};
 ghost use Rattle.rat_phrases.specs.Phrases.{applied_if, looped, lengthened, pended, begun};
 
@@ -35,7 +35,25 @@ fn close_loop(alloc: Global, first: Value, rest: LoopRest) -> Result<Value, Allo
     let entries = more_entries(alloc, first, Value::Transfer(TransferValue::Entries(list)))?;
     let list = ordered_entries(alloc, entries);
     let Range { first, last, step } = range;
-    Ok(Value::Transfer(TransferValue::Entry(Entry::Many(list, variable, first, last, step))))
+    let entry = Box::new(alloc, Entry::Many(list, variable, first, last, step))?;
+    Ok(Value::Transfer(TransferValue::Entry(entry)))
+}
+
+fn rest_value(
+    alloc: Global,
+    list: Vec<Entry>,
+    variable: Name,
+    range: Range,
+) -> Result<Value, AllocError>
+    ensures { IfOk result (λ v. value v ≡ rest_val (record { list = map entry_of (reverse list.items); variable = variable; range = range_of range })) }
+{
+    let rest = LoopRest {
+        list,
+        variable,
+        range,
+    };
+    let rest = Box::new(alloc, rest)?;
+    Ok(Value::Transfer(TransferValue::Rest(rest)))
 }
 
 fn lengthen(alloc: Global, first: Value, rest: LoopRest) -> Result<Value, AllocError>
@@ -48,14 +66,15 @@ fn lengthen(alloc: Global, first: Value, rest: LoopRest) -> Result<Value, AllocE
     } = rest;
     let entries = more_entries(alloc, first, Value::Transfer(TransferValue::Entries(list)))?;
     let list = into_entries(alloc, entries);
-    Ok(Value::Transfer(TransferValue::Rest(LoopRest {
-        list,
-        variable,
-        range,
-    })))
+    rest_value(alloc, list, variable, range)
 }
 
-fn begin(name: Name, arguments: Option<List<Expr>>, rest: LoopRest) -> Result<Value, AllocError>
+fn begin(
+    alloc: Global,
+    name: Name,
+    arguments: Option<List<Expr>>,
+    rest: LoopRest,
+) -> Result<Value, AllocError>
     ensures { IfOk result (λ v. value v ≡ rest_val (record { list = One (applied_if name (arguments_of arguments)) ∷ (rest_of rest).list; variable = (rest_of rest).variable; range = (rest_of rest).range })) }
 {
     let LoopRest {
@@ -64,18 +83,18 @@ fn begin(name: Name, arguments: Option<List<Expr>>, rest: LoopRest) -> Result<Va
         range,
     } = rest;
     list.push(Entry::Item(apply(name, arguments)))?;
-    Ok(Value::Transfer(TransferValue::Rest(LoopRest {
-        list,
-        variable,
-        range,
-    })))
+    rest_value(alloc, list, variable, range)
 }
 
 fn loop_of(alloc: Global, first: Value, part: Value) -> Result<Value, AllocError>
     ensures { IfOk result (λ v. value v ≡ looped (value first) (value part)) }
 {
     match part {
-        Value::Transfer(TransferValue::Rest(rest)) => close_loop(alloc, first, rest),
+        Value::Transfer(TransferValue::Rest(rest)) => close_loop(
+            alloc,
+            first,
+            Box::into_inner(rest),
+        ),
         other => {
             drop(other);
             drop(first);
@@ -88,7 +107,7 @@ fn longer_rest(alloc: Global, first: Value, part: Value) -> Result<Value, AllocE
     ensures { IfOk result (λ v. value v ≡ lengthened (value first) (value part)) }
 {
     match part {
-        Value::Transfer(TransferValue::Rest(rest)) => lengthen(alloc, first, rest),
+        Value::Transfer(TransferValue::Rest(rest)) => lengthen(alloc, first, Box::into_inner(rest)),
         other => {
             drop(other);
             drop(first);
@@ -115,16 +134,17 @@ fn name_rest(alloc: Global, variable: Name, part: Value) -> Result<Value, AllocE
     ensures { IfOk result (λ v. value v ≡ begun variable (value part)) }
 {
     match part {
-        Value::Parameter(ParameterValue::Range(range)) => {
-            let list = Vec::new(alloc);
-            Ok(Value::Transfer(TransferValue::Rest(LoopRest {
-                list,
-                variable,
-                range,
-            })))
-        }
+        Value::Parameter(ParameterValue::Range(range)) => rest_value(
+            alloc,
+            Vec::new(alloc),
+            variable,
+            Box::into_inner(range),
+        ),
         Value::Transfer(TransferValue::Pending(arguments, rest)) => begin(
-            variable, arguments, rest,
+            alloc,
+            variable,
+            arguments,
+            Box::into_inner(rest),
         ),
         other => {
             drop(other);
@@ -133,58 +153,60 @@ fn name_rest(alloc: Global, variable: Name, part: Value) -> Result<Value, AllocE
     }
 }
 
-pub fn loop_by(alloc: Global, mut parts: Vec<Value>) -> Result<Value, AllocError>
-    ensures { IfOk result (λ v. value v ≡ looped (at 2 (values parts.items)) (at 0 (values parts.items))) }
+pub fn loop_by(alloc: Global, parts: &mut Vec<Value>) -> Result<Value, AllocError>
+    ensures { IfOk result (λ v. value v ≡ looped (at 2 (values parts.old.items)) (at 0 (values parts.old.items))) }
 {
-    let last = pop_value(&mut parts);
-    skip(&mut parts);
-    let third = pop_value(&mut parts);
+    let last = pop_value(parts);
+    skip(parts);
+    let third = pop_value(parts);
     loop_of(alloc, third, last)
 }
 
-pub fn loop_loop_by(alloc: Global, mut parts: Vec<Value>) -> Result<Value, AllocError>
-    ensures { IfOk result (λ v. value v ≡ lengthened (at 2 (values parts.items)) (at 0 (values parts.items))) }
+pub fn loop_loop_by(alloc: Global, parts: &mut Vec<Value>) -> Result<Value, AllocError>
+    ensures { IfOk result (λ v. value v ≡ lengthened (at 2 (values parts.old.items)) (at 0 (values parts.old.items))) }
 {
-    let last = pop_value(&mut parts);
-    skip(&mut parts);
-    let third = pop_value(&mut parts);
+    let last = pop_value(parts);
+    skip(parts);
+    let third = pop_value(parts);
     longer_rest(alloc, third, last)
 }
 
-pub fn loop_name_by(alloc: Global, mut parts: Vec<Value>) -> Result<Value, AllocError>
-    ensures { IfOk result (λ v. value v ≡ begun (name_in (at 1 (values parts.items))) (at 0 (values parts.items))) }
+pub fn loop_name_by(alloc: Global, parts: &mut Vec<Value>) -> Result<Value, AllocError>
+    ensures { IfOk result (λ v. value v ≡ begun (name_in (at 1 (values parts.old.items))) (at 0 (values parts.old.items))) }
 {
-    let last = pop_value(&mut parts);
-    let second = into_name(alloc, pop_value(&mut parts));
+    let last = pop_value(parts);
+    let second = into_name(alloc, pop_value(parts));
     name_rest(alloc, second, last)
 }
 
-pub fn loop_element_by(alloc: Global, mut parts: Vec<Value>) -> Value
-    ensures { value result ≡ pended (Some (as_exprs (at 2 (values parts.items)))) (at 0 (values parts.items)) }
+pub fn loop_element_by(alloc: Global, parts: &mut Vec<Value>) -> Result<Value, AllocError>
+    ensures { IfOk result (λ v. value v ≡ pended (Some (as_exprs (at 2 (values parts.old.items)))) (at 0 (values parts.old.items))) }
 {
-    let last = pop_value(&mut parts);
-    skip(&mut parts);
-    let third = ordered_exprs(alloc, pop_value(&mut parts));
+    let last = pop_value(parts);
+    skip(parts);
+    let third = ordered_exprs(alloc, pop_value(parts));
     let arguments = third;
-    pend(Some(arguments), last)
+    Ok(pend(Some(arguments), last))
 }
 
-pub fn loop_scalar_by(mut parts: Vec<Value>) -> Value
-    ensures { value result ≡ pended None (at 0 (values parts.items)) }
+pub fn loop_scalar_by(parts: &mut Vec<Value>) -> Result<Value, AllocError>
+    ensures { IfOk result (λ v. value v ≡ pended None (at 0 (values parts.old.items))) }
 {
-    pend(None, pop_value(&mut parts))
+    Ok(pend(None, pop_value(parts)))
 }
 
-pub fn item_entry_by(mut parts: Vec<Value>) -> Value
-    ensures { value result ≡ entry (One (as_formula (at 0 (values parts.items)))) }
+pub fn item_entry_by(alloc: Global, parts: &mut Vec<Value>) -> Result<Value, AllocError>
+    ensures { IfOk result (λ v. value v ≡ entry (One (as_formula (at 0 (values parts.old.items))))) }
 {
-    Value::Transfer(TransferValue::Entry(Entry::Item(into_expr(pop_value(&mut parts)))))
+    let item = into_expr(pop_value(parts));
+    let entry = Box::new(alloc, Entry::Item(item))?;
+    Ok(Value::Transfer(TransferValue::Entry(entry)))
 }
 
-pub fn more_entries_by(alloc: Global, mut parts: Vec<Value>) -> Result<Value, AllocError>
-    ensures { IfOk result (λ v. value v ≡ entries (with_entry (at 1 (values parts.items)) (as_entries (at 0 (values parts.items))))) }
+pub fn more_entries_by(alloc: Global, parts: &mut Vec<Value>) -> Result<Value, AllocError>
+    ensures { IfOk result (λ v. value v ≡ entries (with_entry (at 1 (values parts.old.items)) (as_entries (at 0 (values parts.old.items))))) }
 {
-    let last = pop_value(&mut parts);
-    let second = pop_value(&mut parts);
+    let last = pop_value(parts);
+    let second = pop_value(parts);
     more_entries(alloc, second, last)
 }

@@ -18,32 +18,33 @@ use rat_parts::{
 };
 use std::alloc::{AllocError, Global};
 
-fn deed(place: Place, kind: StmtKind) -> Value
-    ensures { value result ≡ deed_val place (act_of kind) }
+fn deed(alloc: Global, place: Place, kind: StmtKind) -> Result<Value, AllocError>
+    ensures { IfOk result (λ v. value v ≡ deed_val place (act_of kind)) }
 {
-    Value::Statement(StatementValue::Deed(place, kind))
+    let kind = Box::new(alloc, kind)?;
+    Ok(Value::Statement(StatementValue::Deed(place, kind)))
 }
 
-pub fn go_by(mut parts: Vec<Value>) -> Value
-    ensures { value result ≡ deed_val (place_in (at 1 (values parts.items))) (as_act (at 0 (values parts.items))) }
+pub fn go_by(alloc: Global, parts: &mut Vec<Value>) -> Result<Value, AllocError>
+    ensures { IfOk result (λ v. value v ≡ deed_val (place_in (at 1 (values parts.old.items))) (as_act (at 0 (values parts.old.items)))) }
 {
-    let last = into_act(pop_value(&mut parts));
-    let second = take_place(pop_value(&mut parts));
-    deed(second, last)
+    let last = into_act(pop_value(parts));
+    let second = take_place(pop_value(parts));
+    deed(alloc, second, last)
 }
 
-pub fn continue_by(mut parts: Vec<Value>) -> Value
-    ensures { value result ≡ deed_val (place_in (at 0 (values parts.items))) Passes }
+pub fn continue_by(alloc: Global, parts: &mut Vec<Value>) -> Result<Value, AllocError>
+    ensures { IfOk result (λ v. value v ≡ deed_val (place_in (at 0 (values parts.old.items))) Passes) }
 {
-    deed(take_place(pop_value(&mut parts)), StmtKind::Continue)
+    deed(alloc, take_place(pop_value(parts)), StmtKind::Continue)
 }
 
-pub fn stop_by(mut parts: Vec<Value>) -> Value
-    ensures { value result ≡ deed_val (place_in (at 1 (values parts.items))) (Stops (octal_if_any (at 0 (values parts.items)))) }
+pub fn stop_by(alloc: Global, parts: &mut Vec<Value>) -> Result<Value, AllocError>
+    ensures { IfOk result (λ v. value v ≡ deed_val (place_in (at 1 (values parts.old.items))) (Stops (octal_if_any (at 0 (values parts.old.items))))) }
 {
-    let last = take_octal(pop_value(&mut parts));
-    let second = take_place(pop_value(&mut parts));
-    deed(second, StmtKind::Stop(last))
+    let last = take_octal(pop_value(parts));
+    let second = take_place(pop_value(parts));
+    deed(alloc, second, StmtKind::Stop(last))
 }
 
 fn transfer(word: &Value, unit: Par, format: u32, list: List<Entry>) -> StmtKind
@@ -56,116 +57,116 @@ fn transfer(word: &Value, unit: Par, format: u32, list: List<Entry>) -> StmtKind
     }
 }
 
-pub fn transfer_by(alloc: Global, mut parts: Vec<Value>) -> Value
-    ensures { value result ≡ deed_val (place_in (at 6 (values parts.items))) (transferred (at 6 (values parts.items)) (as_par (at 4 (values parts.items))) (number_in (at 2 (values parts.items))) (listed (as_entries (at 0 (values parts.items))))) }
+pub fn transfer_by(alloc: Global, parts: &mut Vec<Value>) -> Result<Value, AllocError>
+    ensures { IfOk result (λ v. value v ≡ deed_val (place_in (at 6 (values parts.old.items))) (transferred (at 6 (values parts.old.items)) (as_par (at 4 (values parts.old.items))) (number_in (at 2 (values parts.old.items))) (listed (as_entries (at 0 (values parts.old.items)))))) }
 {
-    let list = pop_value(&mut parts);
-    skip(&mut parts);
-    let format = take_number(pop_value(&mut parts));
-    skip(&mut parts);
-    let unit = into_par(pop_value(&mut parts));
-    skip(&mut parts);
-    let word = pop_value(&mut parts);
+    let list = pop_value(parts);
+    skip(parts);
+    let format = take_number(pop_value(parts));
+    skip(parts);
+    let unit = into_par(pop_value(parts));
+    skip(parts);
+    let word = pop_value(parts);
     let list = ordered_entries(alloc, list);
     let kind = transfer(&word, unit, format, list);
     let place = place_of(&word);
     drop(word);
-    deed(place, kind)
+    deed(alloc, place, kind)
 }
 
-pub fn format_by(alloc: Global, mut parts: Vec<Value>) -> Value
-    ensures { value result ≡ deed_val (place_in (at 3 (values parts.items))) (Formats (as_fields (at 1 (values parts.items)))) }
+pub fn format_by(alloc: Global, parts: &mut Vec<Value>) -> Result<Value, AllocError>
+    ensures { IfOk result (λ v. value v ≡ deed_val (place_in (at 3 (values parts.old.items))) (Formats (as_fields (at 1 (values parts.old.items))))) }
 {
-    skip(&mut parts);
-    let second = ordered_fields(alloc, pop_value(&mut parts));
-    skip(&mut parts);
-    let fourth = take_place(pop_value(&mut parts));
+    skip(parts);
+    let second = ordered_fields(alloc, pop_value(parts));
+    skip(parts);
+    let fourth = take_place(pop_value(parts));
     let fields = second;
-    deed(fourth, StmtKind::Format(fields))
+    deed(alloc, fourth, StmtKind::Format(fields))
 }
 
-pub fn dimension_by(alloc: Global, mut parts: Vec<Value>) -> Value
-    ensures { value result ≡ deed_val (place_in (at 1 (values parts.items))) (Dimensions (as_declareds (at 0 (values parts.items)))) }
+pub fn dimension_by(alloc: Global, parts: &mut Vec<Value>) -> Result<Value, AllocError>
+    ensures { IfOk result (λ v. value v ≡ deed_val (place_in (at 1 (values parts.old.items))) (Dimensions (as_declareds (at 0 (values parts.old.items))))) }
 {
-    let last = ordered_declareds(alloc, pop_value(&mut parts));
-    let second = take_place(pop_value(&mut parts));
+    let last = ordered_declareds(alloc, pop_value(parts));
+    let second = take_place(pop_value(parts));
     let list = last;
-    deed(second, StmtKind::Dimension(list))
+    deed(alloc, second, StmtKind::Dimension(list))
 }
 
-pub fn common_by(alloc: Global, mut parts: Vec<Value>) -> Result<Value, AllocError>
-    ensures { IfOk result (λ v. value v ≡ deed_val (place_in (at 2 (values parts.items))) (Commons (with_area (at 1 (values parts.items)) (as_areas (at 0 (values parts.items)))))) }
+pub fn common_by(alloc: Global, parts: &mut Vec<Value>) -> Result<Value, AllocError>
+    ensures { IfOk result (λ v. value v ≡ deed_val (place_in (at 2 (values parts.old.items))) (Commons (with_area (at 1 (values parts.old.items)) (as_areas (at 0 (values parts.old.items)))))) }
 {
-    let last = pop_value(&mut parts);
-    let second = pop_value(&mut parts);
-    let third = take_place(pop_value(&mut parts));
+    let last = pop_value(parts);
+    let second = pop_value(parts);
+    let third = take_place(pop_value(parts));
     let areas = more_areas(alloc, second, last)?;
     let list = ordered_areas(alloc, areas);
-    Ok(deed(third, StmtKind::Common(list)))
+    deed(alloc, third, StmtKind::Common(list))
 }
 
-pub fn equivalence_by(alloc: Global, mut parts: Vec<Value>) -> Result<Value, AllocError>
-    ensures { IfOk result (λ v. value v ≡ deed_val (place_in (at 2 (values parts.items))) (Equivalences (as_exprs (at 1 (values parts.items)) ∷ as_groups (at 0 (values parts.items))))) }
+pub fn equivalence_by(alloc: Global, parts: &mut Vec<Value>) -> Result<Value, AllocError>
+    ensures { IfOk result (λ v. value v ≡ deed_val (place_in (at 2 (values parts.old.items))) (Equivalences (as_exprs (at 1 (values parts.old.items)) ∷ as_groups (at 0 (values parts.old.items))))) }
 {
-    let last = pop_value(&mut parts);
-    let second = pop_value(&mut parts);
-    let third = take_place(pop_value(&mut parts));
+    let last = pop_value(parts);
+    let second = pop_value(parts);
+    let third = take_place(pop_value(parts));
     let groups = more_groups(alloc, second, last)?;
     let list = ordered_groups(alloc, groups);
-    Ok(deed(third, StmtKind::Equivalence(list)))
+    deed(alloc, third, StmtKind::Equivalence(list))
 }
 
-pub fn data_by(alloc: Global, mut parts: Vec<Value>) -> Result<Value, AllocError>
-    ensures { IfOk result (λ v. value v ≡ deed_val (place_in (at 2 (values parts.items))) (Presets (with_preset (at 1 (values parts.items)) (as_presets (at 0 (values parts.items)))))) }
+pub fn data_by(alloc: Global, parts: &mut Vec<Value>) -> Result<Value, AllocError>
+    ensures { IfOk result (λ v. value v ≡ deed_val (place_in (at 2 (values parts.old.items))) (Presets (with_preset (at 1 (values parts.old.items)) (as_presets (at 0 (values parts.old.items)))))) }
 {
-    let last = pop_value(&mut parts);
-    let second = pop_value(&mut parts);
-    let third = take_place(pop_value(&mut parts));
+    let last = pop_value(parts);
+    let second = pop_value(parts);
+    let third = take_place(pop_value(parts));
     let presets = more_presets(alloc, second, last)?;
     let list = ordered_presets(alloc, presets);
-    Ok(deed(third, StmtKind::Preset(list)))
+    deed(alloc, third, StmtKind::Preset(list))
 }
 
-pub fn assignment_by(mut parts: Vec<Value>) -> Value
-    ensures { value result ≡ deed_val (place_in (at 2 (values parts.items))) (Assigns (as_formula (at 2 (values parts.items))) (as_formula (at 0 (values parts.items)))) }
+pub fn assignment_by(alloc: Global, parts: &mut Vec<Value>) -> Result<Value, AllocError>
+    ensures { IfOk result (λ v. value v ≡ deed_val (place_in (at 2 (values parts.old.items))) (Assigns (as_formula (at 2 (values parts.old.items))) (as_formula (at 0 (values parts.old.items))))) }
 {
-    let last = into_expr(pop_value(&mut parts));
-    skip(&mut parts);
-    let third = pop_value(&mut parts);
+    let last = into_expr(pop_value(parts));
+    skip(parts);
+    let third = pop_value(parts);
     let place = place_of(&third);
-    deed(place, StmtKind::Assign(into_expr(third), last))
+    deed(alloc, place, StmtKind::Assign(into_expr(third), last))
 }
 
-pub fn invocation_by(alloc: Global, mut parts: Vec<Value>) -> Value
-    ensures { value result ≡ deed_val (place_in (at 2 (values parts.items))) (Invokes (name_in (at 1 (values parts.items))) (chained (as_exprs (at 0 (values parts.items))))) }
+pub fn invocation_by(alloc: Global, parts: &mut Vec<Value>) -> Result<Value, AllocError>
+    ensures { IfOk result (λ v. value v ≡ deed_val (place_in (at 2 (values parts.old.items))) (Invokes (name_in (at 1 (values parts.old.items))) (chained (as_exprs (at 0 (values parts.old.items)))))) }
 {
-    let last = ordered_exprs(alloc, pop_value(&mut parts));
-    let second = into_name(alloc, pop_value(&mut parts));
-    let third = take_place(pop_value(&mut parts));
+    let last = ordered_exprs(alloc, pop_value(parts));
+    let second = into_name(alloc, pop_value(parts));
+    let third = take_place(pop_value(parts));
     let list = last;
     let name = second;
-    deed(third, StmtKind::Invoke(name, list))
+    deed(alloc, third, StmtKind::Invoke(name, list))
 }
 
-pub fn one_target_by(mut parts: Vec<Value>) -> Value
-    ensures { value result ≡ deed_val (place_in (at 0 (values parts.items))) (Goes (number_in (at 0 (values parts.items)))) }
+pub fn one_target_by(alloc: Global, parts: &mut Vec<Value>) -> Result<Value, AllocError>
+    ensures { IfOk result (λ v. value v ≡ deed_val (place_in (at 0 (values parts.old.items))) (Goes (number_in (at 0 (values parts.old.items))))) }
 {
-    let target = pop_value(&mut parts);
+    let target = pop_value(parts);
     let place = place_of(&target);
     let label = take_number(target);
-    deed(place, StmtKind::Goto(label))
+    deed(alloc, place, StmtKind::Goto(label))
 }
 
-pub fn computed_target_by(alloc: Global, mut parts: Vec<Value>) -> Result<Value, AllocError>
-    ensures { IfOk result (λ v. value v ≡ deed_val (place_in (at 5 (values parts.items))) (Selects (number_in (at 4 (values parts.items)) ∷ as_numbers (at 3 (values parts.items))) (name_in (at 0 (values parts.items))))) }
+pub fn computed_target_by(alloc: Global, parts: &mut Vec<Value>) -> Result<Value, AllocError>
+    ensures { IfOk result (λ v. value v ≡ deed_val (place_in (at 5 (values parts.old.items))) (Selects (number_in (at 4 (values parts.old.items)) ∷ as_numbers (at 3 (values parts.old.items))) (name_in (at 0 (values parts.old.items))))) }
 {
-    let index = into_name(alloc, pop_value(&mut parts));
-    skip(&mut parts);
-    skip(&mut parts);
-    let labels = pop_value(&mut parts);
-    let label = take_number(pop_value(&mut parts));
-    let open = take_place(pop_value(&mut parts));
+    let index = into_name(alloc, pop_value(parts));
+    skip(parts);
+    skip(parts);
+    let labels = pop_value(parts);
+    let label = take_number(pop_value(parts));
+    let open = take_place(pop_value(parts));
     let labels = more_numbers(alloc, label, labels)?;
     let labels = ordered_numbers(alloc, labels);
-    Ok(deed(open, StmtKind::Computed(labels, index)))
+    deed(alloc, open, StmtKind::Computed(labels, index))
 }

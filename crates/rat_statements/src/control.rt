@@ -23,64 +23,64 @@ use rat_tree::{RatCase, RatKind, RatStmt};
 use std::alloc::{AllocError, Global};
 
 /// A statement without a label.
-fn stated(place: Place, kind: RatKind) -> Value
-    ensures { value result ≡ command place (command_of None place kind) }
+fn stated(alloc: Global, place: Place, kind: RatKind) -> Result<Value, AllocError>
+    ensures { IfOk result (λ v. value v ≡ command place (command_of None place kind)) }
 {
-    Value::Statement(StatementValue::Statement(RatStmt {
-        label: None,
-        place,
-        kind,
-    }))
+    let label = None;
+    let statement = Box::new(alloc, RatStmt { label, place, kind })?;
+    Ok(Value::Statement(StatementValue::Statement(statement)))
 }
 
-fn block(place: Place, list: List<RatStmt>) -> Value
-    ensures { value result ≡ command place (Together place (commands_of list.items)) }
+fn block(alloc: Global, place: Place, list: List<RatStmt>) -> Result<Value, AllocError>
+    ensures { IfOk result (λ v. value v ≡ command place (Together place (commands_of list.items))) }
 {
-    stated(place, RatKind::Block(list))
+    stated(alloc, place, RatKind::Block(list))
 }
 
-fn switch(place: Place, test: Expr, list: List<RatCase>) -> Value
-    ensures { value result ≡ command place (Switches place (formula_of test) (clauses_of list.items)) }
+fn switch(alloc: Global, place: Place, test: Expr, list: List<RatCase>) -> Result<Value, AllocError>
+    ensures { IfOk result (λ v. value v ≡ command place (Switches place (formula_of test) (clauses_of list.items))) }
 {
-    stated(place, RatKind::Switch(test, list))
+    stated(alloc, place, RatKind::Switch(test, list))
 }
 
 fn boxed(alloc: Global, part: Value) -> Result<Box<RatStmt>, AllocError>
     ensures { IfOk result (λ b. command_seen b.value ≡ as_command (value part)) }
 {
-    let statement = into_statement(part);
-    Ok(Box::new(alloc, statement)?)
+    match part {
+        Value::Statement(StatementValue::Statement(statement)) => Ok(statement),
+        other => Ok(Box::new(alloc, into_statement(other))?),
+    }
 }
 
-fn boxed_if_any(alloc: Global, part: Value) -> Result<Option<Box<RatStmt>>, AllocError>
-    ensures { IfOk result (λ b. boxed_command b ≡ command_if_any (value part)) }
+fn boxed_if_any(part: Value) -> Option<Box<RatStmt>>
+    ensures { boxed_command result ≡ command_if_any (value part) }
 {
     match part {
-        Value::Statement(StatementValue::Statement(statement)) => some_boxed(alloc, statement),
+        Value::Statement(StatementValue::Statement(statement)) => Some(statement),
         other => {
             drop(other);
-            Ok(None)
+            None
         }
     }
 }
 
-fn some_boxed(alloc: Global, statement: RatStmt) -> Result<Option<Box<RatStmt>>, AllocError>
-    ensures { IfOk result (λ b. boxed_command b ≡ Some (command_seen statement)) }
-{
-    Ok(Some(Box::new(alloc, statement)?))
-}
-
-fn choose(place: Place, test: Expr, body: Box<RatStmt>, other: Option<Box<RatStmt>>) -> Value
-    ensures { value result ≡ command place (chosen place (formula_of test) (command_seen body.value) (boxed_command other)) }
+fn choose(
+    alloc: Global,
+    place: Place,
+    test: Expr,
+    body: Box<RatStmt>,
+    other: Option<Box<RatStmt>>,
+) -> Result<Value, AllocError>
+    ensures { IfOk result (λ v. value v ≡ command place (chosen place (formula_of test) (command_seen body.value) (boxed_command other))) }
 {
     match other {
-        Some(other) => stated(place, RatKind::If(test, body, Some(other))),
-        None => stated(place, RatKind::If(test, body, None)),
+        Some(other) => stated(alloc, place, RatKind::If(test, body, Some(other))),
+        None => stated(alloc, place, RatKind::If(test, body, None)),
     }
 }
 
-fn repeat(alloc: Global, place: Place, body: RatStmt, part: Value) -> Result<Value, AllocError>
-    ensures { IfOk result (λ v. value v ≡ command place (repetition place (command_seen body) (value part))) }
+fn repeat(alloc: Global, place: Place, body: Box<RatStmt>, part: Value) -> Result<Value, AllocError>
+    ensures { IfOk result (λ v. value v ≡ command place (repetition place (command_seen body.value) (value part))) }
 {
     match part {
         Value::Expression(ExpressionValue::Located(until, test)) => repeat_until(
@@ -96,28 +96,26 @@ fn repeat(alloc: Global, place: Place, body: RatStmt, part: Value) -> Result<Val
 fn repeat_until(
     alloc: Global,
     place: Place,
-    body: RatStmt,
+    body: Box<RatStmt>,
     test: Expr,
     until: Place,
 ) -> Result<Value, AllocError>
-    ensures { IfOk result (λ v. value v ≡ command place (Until place (command_seen body) (formula_of test) until)) }
+    ensures { IfOk result (λ v. value v ≡ command place (Until place (command_seen body.value) (formula_of test) until)) }
 {
-    let body = Box::new(alloc, body)?;
-    Ok(stated(place, RatKind::Repeat(body, Some((test, until)))))
+    stated(alloc, place, RatKind::Repeat(body, Some((test, until))))
 }
 
-fn repeat_ever(alloc: Global, place: Place, body: RatStmt) -> Result<Value, AllocError>
-    ensures { IfOk result (λ v. value v ≡ command place (Repeats place (command_seen body))) }
+fn repeat_ever(alloc: Global, place: Place, body: Box<RatStmt>) -> Result<Value, AllocError>
+    ensures { IfOk result (λ v. value v ≡ command place (Repeats place (command_seen body.value))) }
 {
-    let body = Box::new(alloc, body)?;
-    Ok(stated(place, RatKind::Repeat(body, None)))
+    stated(alloc, place, RatKind::Repeat(body, None))
 }
 
 /// The statement with a label, where it has none.
 #[tactic(auto, using(crate::proofs::TreeLemmas::marked_first, crate::proofs::TreeLemmas::marked_again))]
-fn mark(label: u32, mut statement: RatStmt) -> RatStmt
-    ensures command { command_seen result ≡ marked label statement.place (command_seen statement) }
-    ensures place { result.place ≡ statement.place }
+fn mark(label: u32, mut statement: Box<RatStmt>) -> Box<RatStmt>
+    ensures command { command_seen result.value ≡ marked label statement.value.place (command_seen statement.value) }
+    ensures place { result.value.place ≡ statement.value.place }
 {
     if statement.label.is_none() {
         statement.label = Some(label);
@@ -137,69 +135,67 @@ pub fn mark_value(label: u32, part: Value) -> Value
     }
 }
 
-pub fn empty_by(mut parts: Vec<Value>) -> Value
-    ensures { value result ≡ placed (place_in (at 0 (values parts.items))) Empty }
+pub fn empty_by(alloc: Global, parts: &mut Vec<Value>) -> Result<Value, AllocError>
+    ensures { IfOk result (λ v. value v ≡ placed (place_in (at 0 (values parts.old.items))) Empty) }
 {
-    stated(take_place(pop_value(&mut parts)), RatKind::Empty)
+    stated(alloc, take_place(pop_value(parts)), RatKind::Empty)
 }
 
-pub fn braces_by(alloc: Global, mut parts: Vec<Value>) -> Value
-    ensures { value result ≡ placed (place_in (at 2 (values parts.items))) (λ p. Together p (as_statements (at 1 (values parts.items)))) }
+pub fn braces_by(alloc: Global, parts: &mut Vec<Value>) -> Result<Value, AllocError>
+    ensures { IfOk result (λ v. value v ≡ placed (place_in (at 2 (values parts.old.items))) (λ p. Together p (as_statements (at 1 (values parts.old.items))))) }
 {
-    skip(&mut parts);
-    let second = ordered_statements(alloc, pop_value(&mut parts));
-    let third = take_place(pop_value(&mut parts));
-    block(third, second)
+    skip(parts);
+    let second = ordered_statements(alloc, pop_value(parts));
+    let third = take_place(pop_value(parts));
+    block(alloc, third, second)
 }
 
 #[tactic(auto, using(crate::proofs::TreeLemmas::choice_is))]
-pub fn if_by(alloc: Global, mut parts: Vec<Value>) -> Result<Value, AllocError>
-    ensures { IfOk result (λ v. value v ≡ placed (place_in (at 3 (values parts.items))) (λ p. conditional p (as_formula (at 2 (values parts.items))) (as_command (at 1 (values parts.items))) (at 0 (values parts.items)))) }
+pub fn if_by(alloc: Global, parts: &mut Vec<Value>) -> Result<Value, AllocError>
+    ensures { IfOk result (λ v. value v ≡ placed (place_in (at 3 (values parts.old.items))) (λ p. conditional p (as_formula (at 2 (values parts.old.items))) (as_command (at 1 (values parts.old.items))) (at 0 (values parts.old.items)))) }
 {
-    let other = boxed_if_any(alloc, pop_value(&mut parts))?;
-    let body = boxed(alloc, pop_value(&mut parts))?;
-    let test = into_expr(pop_value(&mut parts));
-    let place = take_place(pop_value(&mut parts));
-    Ok(choose(place, test, body, other))
+    let other = boxed_if_any(pop_value(parts));
+    let body = boxed(alloc, pop_value(parts))?;
+    let test = into_expr(pop_value(parts));
+    let place = take_place(pop_value(parts));
+    choose(alloc, place, test, body, other)
 }
 
-pub fn while_by(alloc: Global, mut parts: Vec<Value>) -> Result<Value, AllocError>
-    ensures { IfOk result (λ v. value v ≡ placed (place_in (at 2 (values parts.items))) (λ p. Whilst p (as_formula (at 1 (values parts.items))) (as_command (at 0 (values parts.items))))) }
+pub fn while_by(alloc: Global, parts: &mut Vec<Value>) -> Result<Value, AllocError>
+    ensures { IfOk result (λ v. value v ≡ placed (place_in (at 2 (values parts.old.items))) (λ p. Whilst p (as_formula (at 1 (values parts.old.items))) (as_command (at 0 (values parts.old.items))))) }
 {
-    let last = into_statement(pop_value(&mut parts));
-    let second = into_expr(pop_value(&mut parts));
-    let third = take_place(pop_value(&mut parts));
-    let test = second;
-    let body = Box::new(alloc, last)?;
-    Ok(stated(third, RatKind::While(test, body)))
+    let body = boxed(alloc, pop_value(parts))?;
+    let test = into_expr(pop_value(parts));
+    let place = take_place(pop_value(parts));
+    stated(alloc, place, RatKind::While(test, body))
 }
 
-pub fn for_by(alloc: Global, mut parts: Vec<Value>) -> Result<Value, AllocError>
-    ensures { IfOk result (λ v. value v ≡ placed (place_in (at 8 (values parts.items))) (λ p. Through p (act_if_any (at 6 (values parts.items))) (formula_if_any (at 4 (values parts.items))) (act_if_any (at 2 (values parts.items))) (as_command (at 0 (values parts.items))))) }
+pub fn for_by(alloc: Global, parts: &mut Vec<Value>) -> Result<Value, AllocError>
+    ensures { IfOk result (λ v. value v ≡ placed (place_in (at 8 (values parts.old.items))) (λ p. Through p (act_if_any (at 6 (values parts.old.items))) (formula_if_any (at 4 (values parts.old.items))) (act_if_any (at 2 (values parts.old.items))) (as_command (at 0 (values parts.old.items))))) }
 {
-    let body = pop_value(&mut parts);
-    skip(&mut parts);
-    let step = pop_value(&mut parts);
-    skip(&mut parts);
-    let test = pop_value(&mut parts);
-    skip(&mut parts);
-    let first = pop_value(&mut parts);
-    skip(&mut parts);
-    let place = take_place(pop_value(&mut parts));
-    let body = Box::new(alloc, into_statement(body))?;
+    let body = pop_value(parts);
+    skip(parts);
+    let step = pop_value(parts);
+    skip(parts);
+    let test = pop_value(parts);
+    skip(parts);
+    let first = pop_value(parts);
+    skip(parts);
+    let place = take_place(pop_value(parts));
+    let body = boxed(alloc, body)?;
     let first = into_act_if_any(first);
     let test = into_expr_if_any(test);
     let step = into_act_if_any(step);
-    Ok(stated(place, RatKind::For(first, test, step, body)))
+    stated(alloc, place, RatKind::For(first, test, step, body))
 }
 
-pub fn repeat_by(alloc: Global, mut parts: Vec<Value>) -> Result<Value, AllocError>
-    ensures { IfOk result (λ v. value v ≡ placed (place_in (at 2 (values parts.items))) (λ p. repetition p (as_command (at 1 (values parts.items))) (at 0 (values parts.items)))) }
+pub fn repeat_by(alloc: Global, parts: &mut Vec<Value>) -> Result<Value, AllocError>
+    ensures { IfOk result (λ v. value v ≡ placed (place_in (at 2 (values parts.old.items))) (λ p. repetition p (as_command (at 1 (values parts.old.items))) (at 0 (values parts.old.items)))) }
 {
-    let last = pop_value(&mut parts);
-    let second = into_statement(pop_value(&mut parts));
-    let third = take_place(pop_value(&mut parts));
-    repeat(alloc, third, second, last)
+    let last = pop_value(parts);
+    let body = boxed(alloc, pop_value(parts))?;
+    let place = take_place(pop_value(parts));
+    repeat(alloc, place, body, last)
 }
 
 fn count(
@@ -207,89 +203,86 @@ fn count(
     place: Place,
     variable: Name,
     range: Range,
-    body: RatStmt,
+    body: Box<RatStmt>,
 ) -> Result<Value, AllocError>
-    ensures { IfOk result (λ v. value v ≡ command place (Counts place variable (range_of range).first (range_of range).last (range_of range).step (command_seen body))) }
+    ensures { IfOk result (λ v. value v ≡ command place (Counts place variable (range_of range).first (range_of range).last (range_of range).step (command_seen body.value))) }
 {
     let Range { first, last, step } = range;
-    let body = Box::new(alloc, body)?;
-    Ok(stated(place, RatKind::Do(variable, first, last, step, body)))
+    stated(alloc, place, RatKind::Do(variable, first, last, step, body))
 }
 
-pub fn do_by(alloc: Global, mut parts: Vec<Value>) -> Result<Value, AllocError>
-    ensures { IfOk result (λ v. value v ≡ placed (place_in (at 4 (values parts.items))) (λ p. Counts p (name_in (at 3 (values parts.items))) (as_range (at 1 (values parts.items))).first (as_range (at 1 (values parts.items))).last (as_range (at 1 (values parts.items))).step (as_command (at 0 (values parts.items))))) }
+pub fn do_by(alloc: Global, parts: &mut Vec<Value>) -> Result<Value, AllocError>
+    ensures { IfOk result (λ v. value v ≡ placed (place_in (at 4 (values parts.old.items))) (λ p. Counts p (name_in (at 3 (values parts.old.items))) (as_range (at 1 (values parts.old.items))).first (as_range (at 1 (values parts.old.items))).last (as_range (at 1 (values parts.old.items))).step (as_command (at 0 (values parts.old.items))))) }
 {
-    let body = into_statement(pop_value(&mut parts));
-    let range = pop_value(&mut parts);
-    skip(&mut parts);
-    let variable = pop_value(&mut parts);
-    let place = take_place(pop_value(&mut parts));
+    let body = boxed(alloc, pop_value(parts))?;
+    let range = pop_value(parts);
+    skip(parts);
+    let variable = pop_value(parts);
+    let place = take_place(pop_value(parts));
     let variable = into_name(alloc, variable);
     let range = into_range(range);
     count(alloc, place, variable, range, body)
 }
 
-pub fn switch_by(alloc: Global, mut parts: Vec<Value>) -> Value
-    ensures { value result ≡ placed (place_in (at 6 (values parts.items))) (λ p. Switches p (as_formula (at 5 (values parts.items))) (as_clauses (at 1 (values parts.items)))) }
+pub fn switch_by(alloc: Global, parts: &mut Vec<Value>) -> Result<Value, AllocError>
+    ensures { IfOk result (λ v. value v ≡ placed (place_in (at 6 (values parts.old.items))) (λ p. Switches p (as_formula (at 5 (values parts.old.items))) (as_clauses (at 1 (values parts.old.items))))) }
 {
-    skip(&mut parts);
-    let clauses = pop_value(&mut parts);
-    skip(&mut parts);
-    skip(&mut parts);
-    skip(&mut parts);
-    let test = into_expr(pop_value(&mut parts));
-    let word = take_place(pop_value(&mut parts));
+    skip(parts);
+    let clauses = pop_value(parts);
+    skip(parts);
+    skip(parts);
+    skip(parts);
+    let test = into_expr(pop_value(parts));
+    let word = take_place(pop_value(parts));
     let clauses = ordered_clauses(alloc, clauses);
-    switch(word, test, clauses)
+    switch(alloc, word, test, clauses)
 }
 
-fn leave(word: &Value, place: Place, count: u32) -> Value
-    ensures { value result ≡ command place (left (value word.now) place count) }
+fn leave(alloc: Global, word: &Value, place: Place, count: u32) -> Result<Value, AllocError>
+    ensures { IfOk result (λ v. value v ≡ command place (left (value word.now) place count)) }
 {
     if is_word(b"NEXT", word) {
-        stated(place, RatKind::Next(count))
+        stated(alloc, place, RatKind::Next(count))
     } else {
-        stated(place, RatKind::Break(count))
+        stated(alloc, place, RatKind::Break(count))
     }
 }
 
-pub fn leave_by(mut parts: Vec<Value>) -> Value
-    ensures { value result ≡ placed (place_in (at 2 (values parts.items))) (λ p. left (at 2 (values parts.items)) p (count_or_one (at 1 (values parts.items)))) }
+pub fn leave_by(alloc: Global, parts: &mut Vec<Value>) -> Result<Value, AllocError>
+    ensures { IfOk result (λ v. value v ≡ placed (place_in (at 2 (values parts.old.items))) (λ p. left (at 2 (values parts.old.items)) p (count_or_one (at 1 (values parts.old.items))))) }
 {
-    skip(&mut parts);
-    let second = take_count_or_one(pop_value(&mut parts));
-    let third = pop_value(&mut parts);
+    skip(parts);
+    let second = take_count_or_one(pop_value(parts));
+    let third = pop_value(parts);
     let place = place_of(&third);
-    let statement = leave(&third, place, second);
-    drop(third);
-    statement
+    leave(alloc, &third, place, second)
 }
 
-pub fn return_by(mut parts: Vec<Value>) -> Value
-    ensures { value result ≡ placed (place_in (at 2 (values parts.items))) (λ p. GivesBack p (formula_if_any (at 1 (values parts.items)))) }
+pub fn return_by(alloc: Global, parts: &mut Vec<Value>) -> Result<Value, AllocError>
+    ensures { IfOk result (λ v. value v ≡ placed (place_in (at 2 (values parts.old.items))) (λ p. GivesBack p (formula_if_any (at 1 (values parts.old.items))))) }
 {
-    skip(&mut parts);
-    let second = into_expr_if_any(pop_value(&mut parts));
-    let third = take_place(pop_value(&mut parts));
-    stated(third, RatKind::Return(second))
+    skip(parts);
+    let second = into_expr_if_any(pop_value(parts));
+    let third = take_place(pop_value(parts));
+    stated(alloc, third, RatKind::Return(second))
 }
 
-pub fn plain_by(mut parts: Vec<Value>) -> Value
-    ensures { value result ≡ placed (place_in (at 1 (values parts.items))) (λ p. Plainly None p (as_act (at 1 (values parts.items)))) }
+pub fn plain_by(alloc: Global, parts: &mut Vec<Value>) -> Result<Value, AllocError>
+    ensures { IfOk result (λ v. value v ≡ placed (place_in (at 1 (values parts.old.items))) (λ p. Plainly None p (as_act (at 1 (values parts.old.items))))) }
 {
-    skip(&mut parts);
-    let second = pop_value(&mut parts);
+    skip(parts);
+    let second = pop_value(parts);
     let place = place_of(&second);
-    stated(place, RatKind::Plain(into_act(second)))
+    stated(alloc, place, RatKind::Plain(into_act(second)))
 }
 
-pub fn until_by(mut parts: Vec<Value>) -> Value
-    ensures { value result ≡ located (place_in (at 2 (values parts.items))) (as_formula (at 1 (values parts.items))) }
+pub fn until_by(parts: &mut Vec<Value>) -> Result<Value, AllocError>
+    ensures { IfOk result (λ v. value v ≡ located (place_in (at 2 (values parts.old.items))) (as_formula (at 1 (values parts.old.items)))) }
 {
-    skip(&mut parts);
-    let second = into_expr(pop_value(&mut parts));
-    let third = take_place(pop_value(&mut parts));
-    Value::Expression(ExpressionValue::Located(third, second))
+    skip(parts);
+    let second = into_expr(pop_value(parts));
+    let third = take_place(pop_value(parts));
+    Ok(Value::Expression(ExpressionValue::Located(third, second)))
 }
 
 /// A statement that declares names, without a label.
@@ -305,30 +298,29 @@ pub fn declare(alloc: Global, word: &Value, list: Value) -> RatStmt
     }
 }
 
-pub fn typed_by(alloc: Global, mut parts: Vec<Value>) -> Value
-    ensures { value result ≡ command (place_in (at 2 (values parts.items))) (declares (at 2 (values parts.items)) (at 1 (values parts.items))) }
+pub fn typed_by(alloc: Global, parts: &mut Vec<Value>) -> Result<Value, AllocError>
+    ensures { IfOk result (λ v. value v ≡ command (place_in (at 2 (values parts.old.items))) (declares (at 2 (values parts.old.items)) (at 1 (values parts.old.items)))) }
 {
-    skip(&mut parts);
-    let second = pop_value(&mut parts);
-    let third = pop_value(&mut parts);
-    let statement = declare(alloc, &third, second);
-    drop(third);
-    Value::Statement(StatementValue::Statement(statement))
+    skip(parts);
+    let second = pop_value(parts);
+    let third = pop_value(parts);
+    let statement = Box::new(alloc, declare(alloc, &third, second))?;
+    Ok(Value::Statement(StatementValue::Statement(statement)))
 }
 
-pub fn marked_by(mut parts: Vec<Value>) -> Value
-    ensures { value result ≡ with_label (number_in (at 1 (values parts.items))) (at 0 (values parts.items)) }
+pub fn marked_by(parts: &mut Vec<Value>) -> Result<Value, AllocError>
+    ensures { IfOk result (λ v. value v ≡ with_label (number_in (at 1 (values parts.old.items))) (at 0 (values parts.old.items))) }
 {
-    let last = pop_value(&mut parts);
-    let second = take_number(pop_value(&mut parts));
-    mark_value(second, last)
+    let last = pop_value(parts);
+    let second = take_number(pop_value(parts));
+    Ok(mark_value(second, last))
 }
 
-pub fn more_statements_by(alloc: Global, mut parts: Vec<Value>) -> Result<Value, AllocError>
-    ensures { IfOk result (λ v. value v ≡ commands (AndCommand (as_command (at 1 (values parts.items))) (as_statements (at 0 (values parts.items))))) }
+pub fn more_statements_by(alloc: Global, parts: &mut Vec<Value>) -> Result<Value, AllocError>
+    ensures { IfOk result (λ v. value v ≡ commands (AndCommand (as_command (at 1 (values parts.old.items))) (as_statements (at 0 (values parts.old.items))))) }
 {
-    let last = pop_value(&mut parts);
-    let second = into_statement(pop_value(&mut parts));
+    let last = pop_value(parts);
+    let second = into_statement(pop_value(parts));
     more_statements(alloc, second, last)
 }
 
@@ -343,33 +335,33 @@ fn clause(tests: List<Expr>, fallback: bool, body: List<RatStmt>, place: Place) 
     }))
 }
 
-pub fn case_by(alloc: Global, mut parts: Vec<Value>) -> Result<Value, AllocError>
-    ensures { IfOk result (λ v. value v ≡ clause_val (AndClause (chained (as_formula (at 3 (values parts.items)) ∷ as_exprs (at 2 (values parts.items)))) false (as_statements (at 0 (values parts.items))) (place_in (at 4 (values parts.items))))) }
+pub fn case_by(alloc: Global, parts: &mut Vec<Value>) -> Result<Value, AllocError>
+    ensures { IfOk result (λ v. value v ≡ clause_val (AndClause (chained (as_formula (at 3 (values parts.old.items)) ∷ as_exprs (at 2 (values parts.old.items)))) false (as_statements (at 0 (values parts.old.items))) (place_in (at 4 (values parts.old.items))))) }
 {
-    let body = ordered_statements(alloc, pop_value(&mut parts));
-    skip(&mut parts);
-    let rest = pop_value(&mut parts);
-    let first = pop_value(&mut parts);
-    let place = take_place(pop_value(&mut parts));
+    let body = ordered_statements(alloc, pop_value(parts));
+    skip(parts);
+    let rest = pop_value(parts);
+    let first = pop_value(parts);
+    let place = take_place(pop_value(parts));
     let tests = more_exprs(alloc, first, rest)?;
     let tests = ordered_exprs(alloc, tests);
     Ok(clause(tests, false, body, place))
 }
 
-pub fn default_by(alloc: Global, mut parts: Vec<Value>) -> Value
-    ensures { value result ≡ clause_val (AndClause Nought true (as_statements (at 0 (values parts.items))) (place_in (at 2 (values parts.items)))) }
+pub fn default_by(alloc: Global, parts: &mut Vec<Value>) -> Result<Value, AllocError>
+    ensures { IfOk result (λ v. value v ≡ clause_val (AndClause Nought true (as_statements (at 0 (values parts.old.items))) (place_in (at 2 (values parts.old.items))))) }
 {
-    let body = pop_value(&mut parts);
-    skip(&mut parts);
-    let word = take_place(pop_value(&mut parts));
+    let body = pop_value(parts);
+    skip(parts);
+    let word = take_place(pop_value(parts));
     let body = ordered_statements(alloc, body);
-    clause(Vec::new(alloc), true, body, word)
+    Ok(clause(Vec::new(alloc), true, body, word))
 }
 
-pub fn more_clauses_by(alloc: Global, mut parts: Vec<Value>) -> Result<Value, AllocError>
-    ensures { IfOk result (λ v. value v ≡ clauses (with_clause (at 1 (values parts.items)) (as_clauses (at 0 (values parts.items))))) }
+pub fn more_clauses_by(alloc: Global, parts: &mut Vec<Value>) -> Result<Value, AllocError>
+    ensures { IfOk result (λ v. value v ≡ clauses (with_clause (at 1 (values parts.old.items)) (as_clauses (at 0 (values parts.old.items))))) }
 {
-    let last = pop_value(&mut parts);
-    let second = pop_value(&mut parts);
+    let last = pop_value(parts);
+    let second = pop_value(parts);
     more_clauses(alloc, second, last)
 }

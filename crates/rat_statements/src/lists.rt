@@ -99,7 +99,7 @@ pub fn more_units(alloc: Global, first: Value, rest: Value) -> Result<Value, All
     let mut list = into_units(alloc, rest);
     match first {
         Value::Unit(UnitValue::Unit(item)) => {
-            list.push(item)?;
+            list.push(Box::into_inner(item))?;
             Ok(Value::Unit(UnitValue::Units(list)))
         }
         other => {
@@ -113,7 +113,7 @@ pub fn into_statement(part: Value) -> RatStmt
     ensures { command_seen result ≡ as_command (value part) }
 {
     match part {
-        Value::Statement(StatementValue::Statement(statement)) => statement,
+        Value::Statement(StatementValue::Statement(statement)) => Box::into_inner(statement),
         other => {
             drop(other);
             RatStmt {

@@ -21,14 +21,23 @@ use rat_parts::{
 use rat_tree::{RatProgram, RatStmt, RatUnit};
 use std::alloc::{AllocError, Global};
 
-fn unit(header: Header, body: List<RatStmt>, place: Place) -> Value
-    ensures { value result ≡ routine (record { header = header_of header; body = commands_of body.items; place = place }) }
+fn unit(
+    alloc: Global,
+    header: Header,
+    body: List<RatStmt>,
+    place: Place,
+) -> Result<Value, AllocError>
+    ensures { IfOk result (λ v. value v ≡ routine (record { header = header_of header; body = commands_of body.items; place = place })) }
 {
-    Value::Unit(UnitValue::Unit(RatUnit {
-        header,
-        body,
-        place,
-    }))
+    let unit = Box::new(
+        alloc,
+        RatUnit {
+            header,
+            body,
+            place,
+        },
+    )?;
+    Ok(Value::Unit(UnitValue::Unit(unit)))
 }
 
 /// A main whose first statement stands before its others.
@@ -37,7 +46,7 @@ fn main_with(alloc: Global, place: Place, first: RatStmt, rest: Value) -> Result
 {
     let body = more_statements(alloc, first, rest)?;
     let body = ordered_statements(alloc, body);
-    Ok(unit(Header::Main, body, place))
+    unit(alloc, Header::Main, body, place)
 }
 
 fn with_type(word: TypeWord, header: Header) -> Header
@@ -56,7 +65,7 @@ fn typed_unit(alloc: Global, word: Value, start: Value, body: Value) -> Result<V
         Value::Unit(UnitValue::Header(_, header)) => {
             let body = ordered_statements(alloc, body);
             let header = with_type(type_of(&word), header);
-            Ok(unit(header, body, place_of(&word)))
+            unit(alloc, header, body, place_of(&word))
         }
         other => {
             let first = declare(alloc, &word, other);
@@ -65,42 +74,42 @@ fn typed_unit(alloc: Global, word: Value, start: Value, body: Value) -> Result<V
     }
 }
 
-pub fn program_by(alloc: Global, mut parts: Vec<Value>) -> Value
-    ensures { value result ≡ program (record { routines = as_units (at 1 (values parts.items)); finish = place_in (at 0 (values parts.items)) }) }
+pub fn program_by(alloc: Global, parts: &mut Vec<Value>) -> Result<Value, AllocError>
+    ensures { IfOk result (λ v. value v ≡ program (record { routines = as_units (at 1 (values parts.old.items)); finish = place_in (at 0 (values parts.old.items)) })) }
 {
-    let last = take_place(pop_value(&mut parts));
-    let second = ordered_units(alloc, pop_value(&mut parts));
+    let last = take_place(pop_value(parts));
+    let second = ordered_units(alloc, pop_value(parts));
     let units = second;
     let finish = last;
-    Value::Unit(UnitValue::Program(RatProgram { units, finish }))
+    Ok(Value::Unit(UnitValue::Program(RatProgram { units, finish })))
 }
 
-pub fn more_units_by(alloc: Global, mut parts: Vec<Value>) -> Result<Value, AllocError>
-    ensures { IfOk result (λ v. value v ≡ routines (with_routine (at 1 (values parts.items)) (as_units (at 0 (values parts.items))))) }
+pub fn more_units_by(alloc: Global, parts: &mut Vec<Value>) -> Result<Value, AllocError>
+    ensures { IfOk result (λ v. value v ≡ routines (with_routine (at 1 (values parts.old.items)) (as_units (at 0 (values parts.old.items))))) }
 {
-    let last = pop_value(&mut parts);
-    let second = pop_value(&mut parts);
+    let last = pop_value(parts);
+    let second = pop_value(parts);
     more_units(alloc, second, last)
 }
 
-pub fn headed_by(alloc: Global, mut parts: Vec<Value>) -> Value
-    ensures { value result ≡ routine (record { header = as_header (at 2 (values parts.items)); body = as_statements (at 0 (values parts.items)); place = place_in (at 2 (values parts.items)) }) }
+pub fn headed_by(alloc: Global, parts: &mut Vec<Value>) -> Result<Value, AllocError>
+    ensures { IfOk result (λ v. value v ≡ routine (record { header = as_header (at 2 (values parts.old.items)); body = as_statements (at 0 (values parts.old.items)); place = place_in (at 2 (values parts.old.items)) })) }
 {
-    let last = ordered_statements(alloc, pop_value(&mut parts));
-    skip(&mut parts);
-    let third = pop_value(&mut parts);
+    let last = ordered_statements(alloc, pop_value(parts));
+    skip(parts);
+    let third = pop_value(parts);
     let body = last;
     let place = place_of(&third);
-    unit(into_header(third), body, place)
+    unit(alloc, into_header(third), body, place)
 }
 
-pub fn typed_unit_by(alloc: Global, mut parts: Vec<Value>) -> Result<Value, AllocError>
-    ensures { IfOk result (λ v. value v ≡ routine (typed_routine (at 3 (values parts.items)) (at 2 (values parts.items)) (as_statements (at 0 (values parts.items))))) }
+pub fn typed_unit_by(alloc: Global, parts: &mut Vec<Value>) -> Result<Value, AllocError>
+    ensures { IfOk result (λ v. value v ≡ routine (typed_routine (at 3 (values parts.old.items)) (at 2 (values parts.old.items)) (as_statements (at 0 (values parts.old.items))))) }
 {
-    let last = pop_value(&mut parts);
-    skip(&mut parts);
-    let third = pop_value(&mut parts);
-    let fourth = pop_value(&mut parts);
+    let last = pop_value(parts);
+    skip(parts);
+    let third = pop_value(parts);
+    let fourth = pop_value(parts);
     typed_unit(alloc, fourth, third, last)
 }
 
@@ -113,58 +122,58 @@ fn marked_main(alloc: Global, label: Value, first: Value, rest: Value) -> Result
     main_with(alloc, place, first, rest)
 }
 
-pub fn marked_main_by(alloc: Global, mut parts: Vec<Value>) -> Result<Value, AllocError>
-    ensures { IfOk result (λ v. value v ≡ routine (main_unit (place_in (at 2 (values parts.items))) (AndCommand (as_command (with_label (number_in (at 2 (values parts.items))) (at 1 (values parts.items)))) (as_statements (at 0 (values parts.items)))))) }
+pub fn marked_main_by(alloc: Global, parts: &mut Vec<Value>) -> Result<Value, AllocError>
+    ensures { IfOk result (λ v. value v ≡ routine (main_unit (place_in (at 2 (values parts.old.items))) (AndCommand (as_command (with_label (number_in (at 2 (values parts.old.items))) (at 1 (values parts.old.items)))) (as_statements (at 0 (values parts.old.items)))))) }
 {
-    let last = pop_value(&mut parts);
-    let second = pop_value(&mut parts);
-    let third = pop_value(&mut parts);
+    let last = pop_value(parts);
+    let second = pop_value(parts);
+    let third = pop_value(parts);
     marked_main(alloc, third, second, last)
 }
 
-pub fn plain_main_by(alloc: Global, mut parts: Vec<Value>) -> Result<Value, AllocError>
-    ensures { IfOk result (λ v. value v ≡ routine (main_unit (place_in (at 1 (values parts.items))) (AndCommand (as_command (at 1 (values parts.items))) (as_statements (at 0 (values parts.items)))))) }
+pub fn plain_main_by(alloc: Global, parts: &mut Vec<Value>) -> Result<Value, AllocError>
+    ensures { IfOk result (λ v. value v ≡ routine (main_unit (place_in (at 1 (values parts.old.items))) (AndCommand (as_command (at 1 (values parts.old.items))) (as_statements (at 0 (values parts.old.items)))))) }
 {
-    let last = pop_value(&mut parts);
-    let second = pop_value(&mut parts);
+    let last = pop_value(parts);
+    let second = pop_value(parts);
     let place = place_of(&second);
     main_with(alloc, place, into_statement(second), last)
 }
 
-pub fn empty_main_by(alloc: Global, mut parts: Vec<Value>) -> Value
-    ensures { value result ≡ routine (main_unit (place_in (at 1 (values parts.items))) NoCommand) }
+pub fn empty_main_by(alloc: Global, parts: &mut Vec<Value>) -> Result<Value, AllocError>
+    ensures { IfOk result (λ v. value v ≡ routine (main_unit (place_in (at 1 (values parts.old.items))) NoCommand)) }
 {
-    skip(&mut parts);
-    let second = take_place(pop_value(&mut parts));
-    unit(Header::Main, Vec::new(alloc), second)
+    skip(parts);
+    let second = take_place(pop_value(parts));
+    unit(alloc, Header::Main, Vec::new(alloc), second)
 }
 
-pub fn subroutine_by(alloc: Global, mut parts: Vec<Value>) -> Value
-    ensures { value result ≡ heading (place_in (at 2 (values parts.items))) (SubUnit (name_in (at 1 (values parts.items))) (as_names (at 0 (values parts.items)))) }
+pub fn subroutine_by(alloc: Global, parts: &mut Vec<Value>) -> Result<Value, AllocError>
+    ensures { IfOk result (λ v. value v ≡ heading (place_in (at 2 (values parts.old.items))) (SubUnit (name_in (at 1 (values parts.old.items))) (as_names (at 0 (values parts.old.items))))) }
 {
-    let last = ordered_names(alloc, pop_value(&mut parts));
-    let second = into_name(alloc, pop_value(&mut parts));
-    let third = take_place(pop_value(&mut parts));
+    let last = ordered_names(alloc, pop_value(parts));
+    let second = into_name(alloc, pop_value(parts));
+    let third = take_place(pop_value(parts));
     let name = second;
     let formals = last;
-    Value::Unit(UnitValue::Header(third, Header::Sub(name, formals)))
+    Ok(Value::Unit(UnitValue::Header(third, Header::Sub(name, formals))))
 }
 
-pub fn function_by(alloc: Global, mut parts: Vec<Value>) -> Value
-    ensures { value result ≡ heading (place_in (at 2 (values parts.items))) (FuncUnit None (name_in (at 1 (values parts.items))) (as_names (at 0 (values parts.items)))) }
+pub fn function_by(alloc: Global, parts: &mut Vec<Value>) -> Result<Value, AllocError>
+    ensures { IfOk result (λ v. value v ≡ heading (place_in (at 2 (values parts.old.items))) (FuncUnit None (name_in (at 1 (values parts.old.items))) (as_names (at 0 (values parts.old.items))))) }
 {
-    let last = ordered_names(alloc, pop_value(&mut parts));
-    let second = into_name(alloc, pop_value(&mut parts));
-    let third = take_place(pop_value(&mut parts));
+    let last = ordered_names(alloc, pop_value(parts));
+    let second = into_name(alloc, pop_value(parts));
+    let third = take_place(pop_value(parts));
     let name = second;
     let formals = last;
-    Value::Unit(UnitValue::Header(third, Header::Func(None, name, formals)))
+    Ok(Value::Unit(UnitValue::Header(third, Header::Func(None, name, formals))))
 }
 
-pub fn block_by(mut parts: Vec<Value>) -> Value
-    ensures { value result ≡ heading (place_in (at 1 (values parts.items))) DataUnit }
+pub fn block_by(parts: &mut Vec<Value>) -> Result<Value, AllocError>
+    ensures { IfOk result (λ v. value v ≡ heading (place_in (at 1 (values parts.old.items))) DataUnit) }
 {
-    skip(&mut parts);
-    let second = take_place(pop_value(&mut parts));
-    Value::Unit(UnitValue::Header(second, Header::Block))
+    skip(parts);
+    let second = take_place(pop_value(parts));
+    Ok(Value::Unit(UnitValue::Header(second, Header::Block)))
 }
