@@ -24,6 +24,20 @@ fn apply(name: Name, arguments: Option<List<Expr>>) -> Expr
     }
 }
 
+fn entry_value(alloc: Global, item: Entry) -> Result<Value, AllocError>
+    ensures { IfOk result (λ v. value v ≡ entry (entry_of item)) }
+{
+    let item = Box::new(alloc, item)?;
+    Ok(Value::Transfer(TransferValue::Entry(item)))
+}
+
+fn many(list: List<Entry>, variable: Name, range: Range) -> Entry
+    ensures { entry_of result ≡ Many (listed (map entry_of list.items)) variable (range_of range).first (range_of range).last (range_of range).step }
+{
+    let Range { first, last, step } = range;
+    Entry::Many(list, variable, first, last, step)
+}
+
 fn close_loop(alloc: Global, first: Value, rest: LoopRest) -> Result<Value, AllocError>
     ensures { IfOk result (λ v. value v ≡ entry (Many (listed (with_entry (value first) (rest_of rest).list)) (rest_of rest).variable (rest_of rest).range.first (rest_of rest).range.last (rest_of rest).range.step)) }
 {
@@ -34,9 +48,7 @@ fn close_loop(alloc: Global, first: Value, rest: LoopRest) -> Result<Value, Allo
     } = rest;
     let entries = more_entries(alloc, first, Value::Transfer(TransferValue::Entries(list)))?;
     let list = ordered_entries(alloc, entries);
-    let Range { first, last, step } = range;
-    let entry = Box::new(alloc, Entry::Many(list, variable, first, last, step))?;
-    Ok(Value::Transfer(TransferValue::Entry(entry)))
+    entry_value(alloc, many(list, variable, range))
 }
 
 fn rest_value(
@@ -199,8 +211,7 @@ pub fn item_entry_by(alloc: Global, parts: &mut Vec<Value>) -> Result<Value, All
     ensures { IfOk result (λ v. value v ≡ entry (One (as_formula (at 0 (values parts.old.items))))) }
 {
     let item = into_expr(pop_value(parts));
-    let entry = Box::new(alloc, Entry::Item(item))?;
-    Ok(Value::Transfer(TransferValue::Entry(entry)))
+    entry_value(alloc, Entry::Item(item))
 }
 
 pub fn more_entries_by(alloc: Global, parts: &mut Vec<Value>) -> Result<Value, AllocError>
