@@ -1,12 +1,12 @@
 #!/bin/sh
 # How fast the tokens of a Ratfor text become its tree: times the program parse_bench on texts of 20,000 and 200,000 tokens
 # that are made here, and tests that ten times the tokens take at most twelve times as long. The times are those of the whole
-# program; that of scan_bench on the same text stands beside them. Wants the programs of both crates (`rt run` in their
-# folders makes them).
+# program; that of gather_bench on the same text, which scans and expands, stands beside them: parsing is to take less than
+# it once that is taken off. Wants the programs of both crates (`rt run` in their folders makes them).
 here=$(CDPATH= cd -- "$(dirname -- "$0")/.." && pwd) || exit 1
 parse=$here/crates/parse_bench/out/parse_bench
-scan=$here/crates/scan_bench/out/scan_bench
-for program in "$parse" "$scan"; do
+gather=$here/crates/gather_bench/out/gather_bench
+for program in "$parse" "$gather"; do
     if [ ! -x "$program" ]; then
         echo "no program $program: run 'rt run' in its crate first" >&2
         exit 2
@@ -22,8 +22,8 @@ sums_unit() { # 3,330 assignments of 6 tokens, and `end`
     echo end
 }
 
-blocks_unit() { # 832 conditions of 24 tokens, and `end`
-    yes 'if (k > f(i, 2) * 3) { k = -k; call s(k) }' | head -n 832
+blocks_unit() { # 768 conditions of 26 tokens, and `end`
+    yes 'if (k > f(i, 2) * 3) { k = -k; call s(k) }' | head -n 768
     echo end
 }
 
@@ -50,8 +50,8 @@ for shape in sums blocks; do
     "$parse" "$shape.small" && "$parse" "$shape.large" || exit 1
     small=$(time_of "$parse" "$shape.small")
     large=$(time_of "$parse" "$shape.large")
-    scanned=$(time_of "$scan" ratfor "$shape.large")
-    echo "$shape: 20,000 tokens $small us, 200,000 tokens $large us, ratio $((large * 100 / small))%; scan alone $scanned us, ratio $((large * 100 / scanned))%"
+    gathered=$(time_of "$gather" ratfor "$shape.large")
+    echo "$shape: 20,000 tokens $small us, 200,000 tokens $large us, ratio $((large * 100 / small))%; gathering alone $gathered us, ratio $((large * 100 / gathered))%"
     if [ "$large" -gt $((12 * small)) ]; then
         echo "$shape: 200,000 tokens take more than 12 times as long as 20,000" >&2
         status=1
