@@ -21,148 +21,153 @@ pub fn build(
 ) -> Result<Value, AllocError>
     ensures { IfOk result (λ v. value v ≡ built production (values parts.items)) }
 {
+    build_from(alloc, production, &mut parts)
+}
+
+/// Takes the parts that it needs.
+fn build_from(
+    alloc: Global,
+    production: Production,
+    parts: &mut Vec<Value>,
+) -> Result<Value, AllocError>
+    ensures { IfOk result (λ v. value v ≡ built production (values parts.old.items)) }
+{
     match production {
-        Production::Whole => units::program_by(alloc, &mut parts),
-        Production::MoreUnits => units::more_units_by(alloc, &mut parts),
+        Production::Whole => units::program_by(alloc, parts),
+        Production::MoreUnits => units::more_units_by(alloc, parts),
         Production::NoUnit => empty::no_units(alloc),
-        Production::HeadedUnit => units::headed_by(alloc, &mut parts),
-        Production::TypedUnit => units::typed_unit_by(alloc, &mut parts),
-        Production::MarkedMain => units::marked_main_by(alloc, &mut parts),
-        Production::PlainMain => units::plain_main_by(alloc, &mut parts),
-        Production::EmptyMain => units::empty_main_by(alloc, &mut parts),
-        Production::SubroutineHeader => units::subroutine_by(alloc, &mut parts),
-        Production::FunctionHeader | Production::TypedFunction => units::function_by(
-            alloc, &mut parts,
-        ),
-        Production::BlockHeader => units::block_by(&mut parts),
+        Production::HeadedUnit => units::headed_by(alloc, parts),
+        Production::TypedUnit => units::typed_unit_by(alloc, parts),
+        Production::MarkedMain => units::marked_main_by(alloc, parts),
+        Production::PlainMain => units::plain_main_by(alloc, parts),
+        Production::EmptyMain => units::empty_main_by(alloc, parts),
+        Production::SubroutineHeader => units::subroutine_by(alloc, parts),
+        Production::FunctionHeader | Production::TypedFunction => units::function_by(alloc, parts),
+        Production::BlockHeader => units::block_by(parts),
         Production::TwoWords
         | Production::Condition
         | Production::GoToWords
         | Production::LoopRange
-        | Production::CountedGroup => second_part(&mut parts),
+        | Production::CountedGroup => second_part(parts),
         Production::NoFormals | Production::NoMoreFormal => empty::no_names(alloc),
-        Production::FormalList => declarations::listed_names_by(alloc, &mut parts),
-        Production::MoreFormal => declarations::more_names_by(alloc, &mut parts),
+        Production::FormalList => declarations::listed_names_by(alloc, parts),
+        Production::MoreFormal => declarations::more_names_by(alloc, parts),
         Production::BodyMore | Production::StatementsMore => control::more_statements_by(
-            alloc, &mut parts,
+            alloc, parts,
         ),
         Production::BodyEnd | Production::StatementsDone => empty::no_statements(alloc),
-        Production::Marked => control::marked_by(&mut parts),
-        Production::TypedBare => control::typed_by(alloc, &mut parts),
-        Production::Empty => control::empty_by(alloc, &mut parts),
-        Production::Braces => control::braces_by(alloc, &mut parts),
-        Production::IfStatement => control::if_by(alloc, &mut parts),
-        Production::WhileStatement => control::while_by(alloc, &mut parts),
-        Production::ForStatement => control::for_by(alloc, &mut parts),
-        Production::RepeatStatement => control::repeat_by(alloc, &mut parts),
-        Production::DoStatement => control::do_by(alloc, &mut parts),
-        Production::SwitchStatement => control::switch_by(alloc, &mut parts),
-        Production::LeaveStatement => control::leave_by(alloc, &mut parts),
-        Production::ReturnStatement => control::return_by(alloc, &mut parts),
-        Production::PlainStatement => control::plain_by(alloc, &mut parts),
-        Production::UntilTest => control::until_by(&mut parts),
-        Production::MoreClauses => control::more_clauses_by(alloc, &mut parts),
+        Production::Marked => control::marked_by(parts),
+        Production::TypedBare => control::typed_by(alloc, parts),
+        Production::Empty => control::empty_by(alloc, parts),
+        Production::Braces => control::braces_by(alloc, parts),
+        Production::IfStatement => control::if_by(alloc, parts),
+        Production::WhileStatement => control::while_by(alloc, parts),
+        Production::ForStatement => control::for_by(alloc, parts),
+        Production::RepeatStatement => control::repeat_by(alloc, parts),
+        Production::DoStatement => control::do_by(alloc, parts),
+        Production::SwitchStatement => control::switch_by(alloc, parts),
+        Production::LeaveStatement => control::leave_by(alloc, parts),
+        Production::ReturnStatement => control::return_by(alloc, parts),
+        Production::PlainStatement => control::plain_by(alloc, parts),
+        Production::UntilTest => control::until_by(parts),
+        Production::MoreClauses => control::more_clauses_by(alloc, parts),
         Production::NoClause => empty::no_clauses(alloc),
-        Production::CaseClause => control::case_by(alloc, &mut parts),
-        Production::DefaultClause => control::default_by(alloc, &mut parts),
-        Production::GoPlain => plain::go_by(alloc, &mut parts),
-        Production::ContinuePlain => plain::continue_by(alloc, &mut parts),
-        Production::StopPlain => plain::stop_by(alloc, &mut parts),
-        Production::TransferPlain => plain::transfer_by(alloc, &mut parts),
-        Production::FormatPlain => plain::format_by(alloc, &mut parts),
-        Production::DimensionPlain => plain::dimension_by(alloc, &mut parts),
-        Production::CommonPlain => plain::common_by(alloc, &mut parts),
-        Production::EquivalencePlain => plain::equivalence_by(alloc, &mut parts),
-        Production::DataPlain => plain::data_by(alloc, &mut parts),
-        Production::Assignment => plain::assignment_by(alloc, &mut parts),
-        Production::Invocation => plain::invocation_by(alloc, &mut parts),
-        Production::OneTarget => plain::one_target_by(alloc, &mut parts),
-        Production::ComputedTarget => plain::computed_target_by(alloc, &mut parts),
-        Production::MoreNumber => declarations::more_numbers_by(alloc, &mut parts),
+        Production::CaseClause => control::case_by(alloc, parts),
+        Production::DefaultClause => control::default_by(alloc, parts),
+        Production::GoPlain => plain::go_by(alloc, parts),
+        Production::ContinuePlain => plain::continue_by(alloc, parts),
+        Production::StopPlain => plain::stop_by(alloc, parts),
+        Production::TransferPlain => plain::transfer_by(alloc, parts),
+        Production::FormatPlain => plain::format_by(alloc, parts),
+        Production::DimensionPlain => plain::dimension_by(alloc, parts),
+        Production::CommonPlain => plain::common_by(alloc, parts),
+        Production::EquivalencePlain => plain::equivalence_by(alloc, parts),
+        Production::DataPlain => plain::data_by(alloc, parts),
+        Production::Assignment => plain::assignment_by(alloc, parts),
+        Production::Invocation => plain::invocation_by(alloc, parts),
+        Production::OneTarget => plain::one_target_by(alloc, parts),
+        Production::ComputedTarget => plain::computed_target_by(alloc, parts),
+        Production::MoreNumber => declarations::more_numbers_by(alloc, parts),
         Production::NoMoreNumber => empty::no_numbers(alloc),
-        Production::SomeActuals | Production::Subscripts => expressions::listed_by(
-            alloc, &mut parts,
-        ),
+        Production::SomeActuals | Production::Subscripts => expressions::listed_by(alloc, parts),
         Production::NoActuals
         | Production::NoMoreActual
         | Production::NoMoreRef
         | Production::NoMoreExpr => empty::no_exprs(alloc),
-        Production::LetterActual | Production::LetterConstant => letter_by(alloc, &mut parts),
+        Production::LetterActual | Production::LetterConstant => letter_by(alloc, parts),
         Production::MoreActual | Production::MoreRef | Production::MoreExpr =>
-            expressions::more_exprs_by(alloc, &mut parts),
-        Production::NumberPar => declarations::number_par_by(&mut parts),
-        Production::NamePar => declarations::name_par_by(alloc, &mut parts),
-        Production::Range => declarations::range_by(alloc, &mut parts),
-        Production::SomeEntries | Production::MoreEntry => transfers::more_entries_by(
-            alloc, &mut parts,
-        ),
+            expressions::more_exprs_by(alloc, parts),
+        Production::NumberPar => declarations::number_par_by(parts),
+        Production::NamePar => declarations::name_par_by(alloc, parts),
+        Production::Range => declarations::range_by(alloc, parts),
+        Production::SomeEntries | Production::MoreEntry => transfers::more_entries_by(alloc, parts),
         Production::NoEntries | Production::NoMoreEntry => empty::no_entries(alloc),
-        Production::ItemEntry => transfers::item_entry_by(alloc, &mut parts),
-        Production::Loop => transfers::loop_by(alloc, &mut parts),
-        Production::LoopLoop => transfers::loop_loop_by(alloc, &mut parts),
-        Production::LoopName => transfers::loop_name_by(alloc, &mut parts),
-        Production::LoopElement => transfers::loop_element_by(alloc, &mut parts),
-        Production::LoopScalar => transfers::loop_scalar_by(&mut parts),
+        Production::ItemEntry => transfers::item_entry_by(alloc, parts),
+        Production::Loop => transfers::loop_by(alloc, parts),
+        Production::LoopLoop => transfers::loop_loop_by(alloc, parts),
+        Production::LoopName => transfers::loop_name_by(alloc, parts),
+        Production::LoopElement => transfers::loop_element_by(alloc, parts),
+        Production::LoopScalar => transfers::loop_scalar_by(parts),
         Production::DeclaredList | Production::MoreDeclared => declarations::more_declareds_by(
-            alloc, &mut parts,
+            alloc, parts,
         ),
         Production::NoMoreDeclared => empty::no_declareds(alloc),
-        Production::Declared => declarations::declared_by(alloc, &mut parts),
-        Production::SomeSizes => declarations::listed_pars_by(alloc, &mut parts),
+        Production::Declared => declarations::declared_by(alloc, parts),
+        Production::SomeSizes => declarations::listed_pars_by(alloc, parts),
         Production::NoSizes | Production::NoMorePar => empty::no_pars(alloc),
-        Production::MorePar => declarations::more_pars_by(alloc, &mut parts),
-        Production::BlankFirst => declarations::blank_area_by(alloc, &mut parts),
-        Production::Area => declarations::area_by(alloc, &mut parts),
-        Production::MoreArea => declarations::more_areas_by(alloc, &mut parts),
+        Production::MorePar => declarations::more_pars_by(alloc, parts),
+        Production::BlankFirst => declarations::blank_area_by(alloc, parts),
+        Production::Area => declarations::area_by(alloc, parts),
+        Production::MoreArea => declarations::more_areas_by(alloc, parts),
         Production::NoMoreArea => empty::no_areas(alloc),
-        Production::Alias => declarations::alias_by(alloc, &mut parts),
-        Production::MoreAlias => declarations::more_groups_by(alloc, &mut parts),
+        Production::Alias => declarations::alias_by(alloc, parts),
+        Production::MoreAlias => declarations::more_groups_by(alloc, parts),
         Production::NoMoreAlias => empty::no_groups(alloc),
-        Production::Preset => declarations::preset_by(alloc, &mut parts),
-        Production::MorePreset => declarations::more_presets_by(alloc, &mut parts),
+        Production::Preset => declarations::preset_by(alloc, parts),
+        Production::MorePreset => declarations::more_presets_by(alloc, parts),
         Production::NoMorePreset => empty::no_presets(alloc),
-        Production::NumberDatum => declarations::number_datum_by(&mut parts),
-        Production::OtherDatum => declarations::other_datum_by(&mut parts),
-        Production::MoreDatum => declarations::more_data_by(alloc, &mut parts),
+        Production::NumberDatum => declarations::number_datum_by(parts),
+        Production::OtherDatum => declarations::other_datum_by(parts),
+        Production::MoreDatum => declarations::more_data_by(alloc, parts),
         Production::NoMoreDatum => empty::no_data(alloc),
-        Production::NumberConstant | Production::NumberPrime => integer_by(&mut parts),
-        Production::SignedNumber => expressions::signed_number_by(alloc, &mut parts),
-        Production::TruthConstant | Production::TruthPrime => truth_by(&mut parts),
+        Production::NumberConstant | Production::NumberPrime => integer_by(parts),
+        Production::SignedNumber => expressions::signed_number_by(alloc, parts),
+        Production::TruthConstant | Production::TruthPrime => truth_by(parts),
         Production::EditFirst | Production::NextEdit | Production::SlashEdit =>
-            formats::more_fields_by(alloc, &mut parts),
+            formats::more_fields_by(alloc, parts),
         Production::SlashFirst
         | Production::EditSlash
         | Production::NextSlash
-        | Production::SlashSlash => formats::slash_by(alloc, &mut parts),
+        | Production::SlashSlash => formats::slash_by(alloc, parts),
         Production::NoFields | Production::EditDone | Production::SlashDone => empty::no_fields(
             alloc,
         ),
-        Production::CountedEdit => formats::counted_edit_by(alloc, &mut parts),
-        Production::WordEdit => formats::word_edit_by(alloc, &mut parts),
-        Production::GroupEdit => formats::group_edit_by(alloc, &mut parts),
-        Production::LetterEdit | Production::CharsEdit => formats::text_edit_by(alloc, &mut parts),
+        Production::CountedEdit => formats::counted_edit_by(alloc, parts),
+        Production::WordEdit => formats::word_edit_by(alloc, parts),
+        Production::GroupEdit => formats::group_edit_by(alloc, parts),
+        Production::LetterEdit | Production::CharsEdit => formats::text_edit_by(alloc, parts),
         Production::Expr
         | Production::Conjunction
         | Production::Relational
         | Production::Sum
         | Production::Term
-        | Production::Factor => expressions::joined_by(alloc, &mut parts),
+        | Production::Factor => expressions::joined_by(alloc, parts),
         Production::OrMore
         | Production::AndMore
         | Production::SumMore
         | Production::TimesMore
-        | Production::OverMore => expressions::more_joins_by(alloc, &mut parts),
+        | Production::OverMore => expressions::more_joins_by(alloc, parts),
         Production::OrDone
         | Production::AndDone
         | Production::NotCompared
         | Production::SumDone
         | Production::TermDone
         | Production::NotRaised => empty::no_joins(alloc),
-        Production::Negated => expressions::negated_by(alloc, &mut parts),
-        Production::Compared | Production::Raised => expressions::one_join_by(alloc, &mut parts),
-        Production::SignedTerm => expressions::signed_by(alloc, &mut parts),
-        Production::GroupPrime => expressions::group_by(alloc, &mut parts),
-        Production::Ref => expressions::ref_by(alloc, &mut parts),
+        Production::Negated => expressions::negated_by(alloc, parts),
+        Production::Compared | Production::Raised => expressions::one_join_by(alloc, parts),
+        Production::SignedTerm => expressions::signed_by(alloc, parts),
+        Production::GroupPrime => expressions::group_by(alloc, parts),
+        Production::Ref => expressions::ref_by(alloc, parts),
         Production::BlankLine
         | Production::OneUnit
         | Production::TypedMain
@@ -170,7 +175,7 @@ pub fn build(
         | Production::SomeFormals
         | Production::BodyLine
         | Production::EndingLine
-        | Production::EndingSign => last_part(&mut parts),
+        | Production::EndingSign => last_part(parts),
         Production::NoEnding
         | Production::StatementLine
         | Production::StatementItem
@@ -178,7 +183,7 @@ pub fn build(
         | Production::Unmarked
         | Production::UntypedBare
         | Production::ElseLine
-        | Production::ElseBody => last_part(&mut parts),
+        | Production::ElseBody => last_part(parts),
         Production::NoElse
         | Production::UntilLine
         | Production::NoUntil
@@ -186,7 +191,7 @@ pub fn build(
         | Production::NoPart
         | Production::SomeTest
         | Production::NoTest
-        | Production::SomeCount => last_part(&mut parts),
+        | Production::SomeCount => last_part(parts),
         Production::NoCount
         | Production::SomeOutcome
         | Production::NoOutcome
@@ -194,7 +199,7 @@ pub fn build(
         | Production::NoLine
         | Production::SimplePlain
         | Production::GotoWord
-        | Production::OctalStop => last_part(&mut parts),
+        | Production::OctalStop => last_part(parts),
         Production::BareStop
         | Production::ExprActual
         | Production::SomeStep
@@ -202,7 +207,7 @@ pub fn build(
         | Production::LoopEntry
         | Production::Element
         | Production::NamedFirst
-        | Production::SomeArea => last_part(&mut parts),
+        | Production::SomeArea => last_part(parts),
         Production::NoArea
         | Production::Repeated
         | Production::Once
@@ -210,7 +215,7 @@ pub fn build(
         | Production::EditComma
         | Production::SlashComma
         | Production::CountedWord
-        | Production::Affirmed => last_part(&mut parts),
+        | Production::Affirmed => last_part(parts),
         Production::UnsignedTerm
         | Production::RefPrime
         | Production::SomeArguments
@@ -218,7 +223,7 @@ pub fn build(
         | Production::PlainName
         | Production::FieldName
         | Production::OctalNumber
-        | Production::DecimalNumber => last_part(&mut parts),
+        | Production::DecimalNumber => last_part(parts),
     }
 }
 
