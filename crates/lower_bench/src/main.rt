@@ -1,5 +1,6 @@
-//! Lowers a tree of Ratfor of as many statements as its first word says, and prints what it becomes. With a second word it
-//! lowers the tree so many times instead, and prints the least time that one lowering took, for bench/lower.sh.
+//! Lowers a tree of Ratfor of as many statements as its first word says, and prints what it becomes. With two more words it
+//! makes so many such trees, lowers them one after another so many times, and prints the least time that this took, for
+//! bench/lower.sh.
 #![tactic(auto)]
 
 mod tree;
@@ -13,22 +14,29 @@ use tree::{FINISH, unit_of};
 fn main(rt: HostRuntime) -> Result<()> {
     let mut words = env::args(&rt)?.skip(1);
     let Some(count) = words.next() else {
-        bail!("usage: lower_bench STATEMENTS [ROUNDS]");
+        bail!("usage: lower_bench STATEMENTS [TREES ROUNDS]");
     };
     let count: u32 = count.as_str().parse()?;
-    let unit = unit_of(rt.alloc(), count)?;
-    let Some(rounds) = words.next() else {
+    let (Some(trees), Some(rounds)) = (words.next(), words.next()) else {
+        let unit = unit_of(rt.alloc(), count)?;
         let lines = lower(rt.alloc(), &unit, FINISH)?.statements.len();
         println!(rt; "{count} statements become {lines}")?;
         return Ok(());
     };
+    let trees: u32 = trees.as_str().parse()?;
     let rounds: u32 = rounds.as_str().parse()?;
+    let mut units = Vec::new(rt.alloc());
+    for _ in 0..trees {
+        units.push(unit_of(rt.alloc(), count)?)?;
+    }
     let mut least = u128::MAX;
     for _ in 0..rounds {
+        let mut made = Vec::new(rt.alloc());
         let start = Instant::now(&rt)?;
-        let made = lower(rt.alloc(), &unit, FINISH)?;
+        for unit in &units {
+            made.push(lower(rt.alloc(), unit, FINISH)?)?;
+        }
         least = least.min(start.elapsed(&rt)?.as_nanos());
-        drop(made);
     }
     println!(rt; "{least} ns")?;
     Ok(())
