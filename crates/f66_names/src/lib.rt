@@ -22,8 +22,7 @@ pub use declarations::Declarations;
 pub use name_form::{Arity, Class, Manner, NameForm};
 pub use names::{Names, names_of};
 pub use rules::{broken_rule, condition_rule, counting_rule, saying_rule, value_rule};
-pub use saying::{Saying, declared_in_saying};
-pub use uses::{Use, uses_of_saying};
+pub use saying::Saying;
 
 #[cfg(test)]
 mod tests;

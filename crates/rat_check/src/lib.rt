@@ -1,29 +1,22 @@
-//! The checks of a Ratfor tree: what is not built yet, the rules of names, types, counts, constants and stores, and those of order, labels, loops and clauses.
+//! The checks of a Ratfor tree: what is not built yet, and the rules of names, labels, loops, clauses and formats.
 #![tactic(auto)]
 
-mod before;
 mod built;
 mod forms;
 mod labels;
-mod parts;
-mod rules;
-mod said;
+mod names;
 mod survey;
 mod targets;
 mod unit_check;
 mod visit;
 
-use before::Before;
-use built::first_unbuilt;
+use built::{are_whole, is_built_act, is_condition, is_par, is_simple, is_test, is_whole};
 use forms::{Around, Form};
 use labels::LabelSet;
-use parts::Part;
-use rules::broken_rule;
-use said::{add_form, sayings_of};
+use names::{
+    NameTest, name_of_act, name_of_acts, name_of_par, name_of_test, some_name, some_name_of,
+};
 use survey::Survey;
 use targets::add_targets;
-pub use unit_check::{check, sayings};
+pub use unit_check::check;
 use visit::visit_list;
-
-#[cfg(test)]
-mod tests;

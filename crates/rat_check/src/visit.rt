@@ -3,7 +3,6 @@ ghost use Rattle.std.specs.Prelude.{◌≡◌, suc, OnOk, None, false};
 ghost use Rattle.rat_tree.specs.Views.{command, commands, clauses};
 ghost use Rattle.rat_check.specs.Parts.{parts_of, parts_in, clause_parts, with_labels};
 ghost use Rattle.rat_check.specs.FormViews.{depth_of, other_parts, until_parts, case_parts};
-ghost use Rattle.rat_check.specs.PartViews.{survey_of};
 ghost use Rattle.rat_check.specs.Survey.{is_among, noting_all};
 
 use crate::{Around, Form, Survey};
@@ -15,12 +14,8 @@ use std::alloc::AllocError;
 /// A statement with all that it holds.
 #[cycle(visit)]
 #[tactic(auto, using(crate::proofs::PartLemmas::part_steps))]
-fn visit<'a>(
-    statement: &'a RatStmt,
-    around: &Around,
-    survey: &mut Survey<'a>,
-) -> Result<(), AllocError>
-    ensures { OnOk result (survey_of survey.new ≡ noting_all (parts_of (depth_of around.now) (is_among survey.old.reach) None (command statement.now)) (survey_of survey.old)) }
+fn visit(statement: &RatStmt, around: &Around, survey: &mut Survey) -> Result<(), AllocError>
+    ensures { OnOk result (survey.new ≡ noting_all (parts_of (depth_of around.now) (is_among survey.old.reach) None (command statement.now)) survey.old) }
 {
     let label = statement.label;
     let place = statement.place;
@@ -45,7 +40,7 @@ fn visit<'a>(
             visit(body, &inside, survey)
         }
         RatKind::Repeat(body, until) => {
-            survey.note(&*around, label, place, Form::Repeating)?;
+            survey.note(&*around, label, place, Form::Rests)?;
             visit(body, &inside, survey)?;
             note_until(until, &*around, survey)
         }
@@ -71,12 +66,12 @@ fn visit<'a>(
 
 // The statement behind `else`.
 #[cycle(visit)]
-fn visit_other<'a>(
-    other: &'a Option<Box<RatStmt>>,
+fn visit_other(
+    other: &Option<Box<RatStmt>>,
     around: &Around,
-    survey: &mut Survey<'a>,
+    survey: &mut Survey,
 ) -> Result<(), AllocError>
-    ensures { OnOk result (survey_of survey.new ≡ noting_all (other_parts (depth_of around.now) (is_among survey.old.reach) other.now) (survey_of survey.old)) }
+    ensures { OnOk result (survey.new ≡ noting_all (other_parts (depth_of around.now) (is_among survey.old.reach) other.now) survey.old) }
 {
     match other {
         None => Ok(()),
@@ -85,12 +80,12 @@ fn visit_other<'a>(
 }
 
 // The condition of `until`.
-fn note_until<'a>(
-    until: &'a Option<(Expr, Place)>,
+fn note_until(
+    until: &Option<(Expr, Place)>,
     around: &Around,
-    survey: &mut Survey<'a>,
+    survey: &mut Survey,
 ) -> Result<(), AllocError>
-    ensures { OnOk result (survey_of survey.new ≡ noting_all (until_parts (depth_of around.now) (is_among survey.old.reach) until.now) (survey_of survey.old)) }
+    ensures { OnOk result (survey.new ≡ noting_all (until_parts (depth_of around.now) (is_among survey.old.reach) until.now) survey.old) }
 {
     match until {
         None => Ok(()),
@@ -100,12 +95,8 @@ fn note_until<'a>(
 
 /// The statements of a list, whose labels they can reach.
 #[cycle(visit)]
-pub fn visit_list<'a>(
-    list: &'a [RatStmt],
-    around: &Around,
-    survey: &mut Survey<'a>,
-) -> Result<(), AllocError>
-    ensures { OnOk result (survey_of survey.new ≡ noting_all (parts_in (depth_of around.now) (with_labels (commands list.now) (is_among survey.old.reach)) (commands list.now)) (survey_of survey.old)) }
+pub fn visit_list(list: &[RatStmt], around: &Around, survey: &mut Survey) -> Result<(), AllocError>
+    ensures { OnOk result (survey.new ≡ noting_all (parts_in (depth_of around.now) (with_labels (commands list.now) (is_among survey.old.reach)) (commands list.now)) survey.old) }
 {
     let outside = survey.enter(list)?;
     visit_each(list, &*around, survey)?;
@@ -114,12 +105,8 @@ pub fn visit_list<'a>(
 }
 
 #[cycle(visit)]
-fn visit_each<'a>(
-    list: &'a [RatStmt],
-    around: &Around,
-    survey: &mut Survey<'a>,
-) -> Result<(), AllocError>
-    ensures { OnOk result (survey_of survey.new ≡ noting_all (parts_in (depth_of around.now) (is_among survey.old.reach) (commands list.now)) (survey_of survey.old)) }
+fn visit_each(list: &[RatStmt], around: &Around, survey: &mut Survey) -> Result<(), AllocError>
+    ensures { OnOk result (survey.new ≡ noting_all (parts_in (depth_of around.now) (is_among survey.old.reach) (commands list.now)) survey.old) }
 {
     for statement in list {
         visit(statement, &*around, survey)?;
@@ -128,12 +115,8 @@ fn visit_each<'a>(
 }
 
 #[cycle(visit)]
-fn visit_clauses<'a>(
-    list: &'a [RatCase],
-    around: &Around,
-    survey: &mut Survey<'a>,
-) -> Result<(), AllocError>
-    ensures { OnOk result (survey_of survey.new ≡ noting_all (clause_parts (depth_of around.now) (is_among survey.old.reach) false (clauses list.now)) (survey_of survey.old)) }
+fn visit_clauses(list: &[RatCase], around: &Around, survey: &mut Survey) -> Result<(), AllocError>
+    ensures { OnOk result (survey.new ≡ noting_all (clause_parts (depth_of around.now) (is_among survey.old.reach) false (clauses list.now)) survey.old) }
 {
     let mut seen = false;
     for clause in list {
@@ -144,13 +127,13 @@ fn visit_clauses<'a>(
 }
 
 #[cycle(visit)]
-fn visit_clause<'a>(
-    clause: &'a RatCase,
+fn visit_clause(
+    clause: &RatCase,
     second: bool,
     around: &Around,
-    survey: &mut Survey<'a>,
+    survey: &mut Survey,
 ) -> Result<(), AllocError>
-    ensures { OnOk result (survey_of survey.new ≡ noting_all (case_parts (depth_of around.now) (is_among survey.old.reach) second clause.now) (survey_of survey.old)) }
+    ensures { OnOk result (survey.new ≡ noting_all (case_parts (depth_of around.now) (is_among survey.old.reach) second clause.now) survey.old) }
 {
     let form = Form::Compares(&clause.tests, second);
     survey.note(&*around, None, clause.place, form)?;

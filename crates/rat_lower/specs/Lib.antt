@@ -3,4 +3,5 @@ pub mod OneUnit
 pub mod Checked
 pub mod Around
 pub mod Emitted
+pub mod Profile
 pub mod Lowered
