@@ -19,7 +19,7 @@ fn main(rt: HostRuntime) -> Result<()> {
     let count: u32 = count.as_str().parse()?;
     let (Some(trees), Some(rounds)) = (words.next(), words.next()) else {
         let unit = unit_of(rt.alloc(), count)?;
-        let lines = lower(rt.alloc(), &unit, FINISH)?.statements.len();
+        let lines = lower(rt.alloc(), &unit, FINISH)?.unit().statements.len();
         println!(rt; "{count} statements become {lines}")?;
         return Ok(());
     };

@@ -2,7 +2,7 @@
 use Rattle.std.specs.Prelude.{ℕ, ◌+◌, ◌-◌, ◌*◌, ◌/◌, ◌%◌, Bool, true, false, not, ◌&&◌, ◌||◌, nat_eq, nat_le, List, [], ◌∷◌, ◌++◌, length, slice_index, Option, Some, None, codes, if◌then◌else◌}
 use Rattle.std.specs.Str.{bytes_eq}
 use Rattle.std.specs.List.{list_any}
-use Rattle.name_alloc.specs.Numbers.{Numbering, is_in, next_number, taking, making}
+use Rattle.name_alloc.specs.Numbers.{Numbering, is_in, next_number, starting, taking, making}
 
 pub record Used : Type 0 where
   pub letter : ℕ
@@ -64,6 +64,15 @@ naming s = record { letter = s.letter; kept = s.kept; numbers = making s.numbers
 
 abbrev pub labelling : Used → Numbering → Used
 labelling s labels = record { letter = s.letter; kept = s.kept; numbers = s.numbers; labels = labels }
+
+-- nothing is in use, and made names begin with Z
+abbrev pub unused : Used
+unused = record { letter = 90; kept = []; numbers = starting 1; labels = starting 23000 }
+
+-- all these names are kept, in their order
+abbrev pub keeping_all : List (List ℕ) → Used → Used
+keeping_all [] s = s
+keeping_all (x ∷ xs) s = keeping_all xs (keeping s x)
 
 -- each kept name that could be made has its number taken
 abbrev pub covered : List ℕ → Option ℕ → Bool

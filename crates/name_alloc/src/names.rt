@@ -3,7 +3,7 @@ ghost use Rattle.std.specs.Prelude.{◌≡◌, ◌+◌, ◌<◌, ◌≤◌, [], 
 ghost use Rattle.std.specs.List.{list_any};
 ghost use Rattle.std.specs.Str.{bytes_eq};
 ghost use Rattle.name_alloc.specs.Numbers.{is_in, next_number, starting, taking, making};
-ghost use Rattle.name_alloc.specs.MadeNames.{digit_at, digit_of, holds_number, made_name, number_of, is_used, is_free, intrinsics, next_name, keeping, naming, labelling};
+ghost use Rattle.name_alloc.specs.MadeNames.{digit_at, digit_of, holds_number, made_name, number_of, is_used, is_free, intrinsics, next_name, unused, keeping, naming, labelling};
 
 use crate::Numbers;
 use f66_tree::Name;
@@ -35,10 +35,7 @@ impl Model for Names {
 impl Names {
     /// Made names begin with Z. It takes no memory.
     pub fn new(alloc: Global) -> Names
-        ensures letter { result.letter ≡ 90 }
-        ensures kept { result.kept ≡ [] }
-        ensures numbers { result.numbers ≡ starting 1 }
-        ensures labels { result.labels ≡ starting 23000 }
+        ensures { result ≡ unused }
     {
         Names {
             alloc,
@@ -118,6 +115,26 @@ impl Names {
         Ok(label)
     }
 
+    /// Keeps a name of the source as it stands, whatever it is. A name that was made before is not taken back: the caller
+    /// keeps all names of a unit before it makes any, or knows that they differ.
+    pub fn keep_name(&mut self, name: &Name) -> Result<(), AllocError>
+        ensures used { OnOk result (self.new ≡ keeping self.old name.now) }
+        ensures kept { OnErr result (self.new ≡ self.old) }
+    {
+        let copy = name.copy()?;
+        self.kept.push(copy)?;
+        let Some(number) = number_of(self.letter, name.as_bytes()) else {
+            return Ok(());
+        };
+        match self.numbers.take(number) {
+            Ok(()) => Ok(()),
+            Err(error) => {
+                self.kept.pop();
+                Err(error)
+            }
+        }
+    }
+
     /// Keeps a free name of at most six characters, and else makes one. The intrinsic names are never free.
     pub fn keep_or_rename(&mut self, name: &Text) -> Result<Name, Memory>
         requires { length self.old.numbers.made + length self.old.kept < 99999 }
@@ -171,18 +188,8 @@ impl Names {
         ensures kept { OnErr result (self.new ≡ self.old) }
     {
         let answer = name_of(name)?;
-        let copy = answer.copy()?;
-        self.kept.push(copy)?;
-        let Some(number) = number_of(self.letter, name.as_bytes()) else {
-            return Ok(answer);
-        };
-        match self.numbers.take(number) {
-            Ok(()) => Ok(answer),
-            Err(error) => {
-                self.kept.pop();
-                Err(error)
-            }
-        }
+        self.keep_name(&answer)?;
+        Ok(answer)
     }
 }
 

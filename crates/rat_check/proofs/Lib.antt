@@ -1,5 +1,8 @@
-pub mod BuiltLemmas
 pub mod PartLemmas
 pub mod StatementLemmas
 pub mod SurveyLemmas
 pub mod LoopLemmas
+pub mod RuleLemmas
+pub mod CleanLemmas
+pub mod SaidLemmas
+mod Examples

@@ -11,7 +11,7 @@ use Rattle.rat_tree.specs.declared.program.RatKind.TheVariants.{Block, If, Repea
 use Rattle.rat_tree.specs.Commands.{Together, When, Either, Repeats, Until, Switches}
 use Rattle.rat_tree.specs.Views.{command, command_of, commands, clauses}
 use Rattle.rat_tree.proofs.Rows.{block_commands, switch_clauses}
-use Rattle.rat_check.specs.Parts.{Labels, Part, part, parts_of, parts_in, clause_parts, with_labels, Rests, Asks, Takes}
+use Rattle.rat_check.specs.Parts.{Labels, Part, part, parts_of, parts_in, clause_parts, with_labels, Rests, Repeating, Asks, Takes}
 use Rattle.rat_check.specs.FormViews.{other_parts, until_parts}
 use Rattle.rat_check.specs.Survey.{is_among, Survey, noting_all}
 use Rattle.rat_check.proofs.PartLemmas.{parts-labelled, behind}
@@ -39,11 +39,11 @@ if_parts k r s e body other is = by other ∙ sym (ap (λ kind. parts_of k r Non
     by (Some other) = sym (parts-labelled k r s.label s.place (Either s.place (formula_of e) (command body.value) (command other.value)))
 
 pub repeat_parts : (k : ℕ) (r : Labels) (s : RatStmt) (body : Box RatStmt Global) (u : Option (Expr × Place)) → s.kind ≡ Repeat body u →
-    part k r s.label s.place Rests ∷ (parts_of (suc k) r None (command body.value) ++ until_parts k r u) ≡ parts_of k r None (command s)
+    part k r s.label s.place Repeating ∷ (parts_of (suc k) r None (command body.value) ++ until_parts k r u) ≡ parts_of k r None (command s)
 repeat_parts k r s body u is = by u ∙ sym (ap (λ kind. parts_of k r None (command_of s.label s.place kind)) is)
   where
-    by : (o : Option (Expr × Place)) → part k r s.label s.place Rests ∷ (parts_of (suc k) r None (command body.value) ++ until_parts k r o) ≡ parts_of k r None (command_of s.label s.place (Repeat body o))
-    by None = ap (λ vs. part k r s.label s.place Rests ∷ vs) (append-nil _) ∙ sym (parts-labelled k r s.label s.place (Repeats s.place (command body.value)))
+    by : (o : Option (Expr × Place)) → part k r s.label s.place Repeating ∷ (parts_of (suc k) r None (command body.value) ++ until_parts k r o) ≡ parts_of k r None (command_of s.label s.place (Repeat body o))
+    by None = ap (λ vs. part k r s.label s.place Repeating ∷ vs) (append-nil _) ∙ sym (parts-labelled k r s.label s.place (Repeats s.place (command body.value)))
     by (Some v) = sym (parts-labelled k r s.label s.place (Until s.place (command body.value) (formula_of v.0) v.1))
 
 -- what comes behind a first part, where a call says what it notes

@@ -12,10 +12,11 @@ use Rattle.rat_check.specs.declared.forms.Form.TheVariants as f
 use Rattle.rat_check.specs.declared.forms.Around.{Around}
 use Rattle.rat_check.specs.declared.forms.Around.TheVariants.{Outside, Inside'}
 use Rattle.rat_check.specs.Parts as parts
-use Rattle.rat_check.specs.Parts.{Labels, Part, part, parts_of, parts_in, with_labels, Rests, Says, Asks, Takes, Compares, Prepares, Counting, Leaving, Returning}
+use Rattle.rat_check.specs.Parts.{Labels, Part, part, parts_of, parts_in, with_labels, Rests, Repeating, Says, Asks, Takes, Compares, Prepares, Counting, Leaving, Returning}
 
 abbrev pub form_of : Form → parts.Form
 form_of f.Rests = Rests
+form_of f.Repeating = Repeating
 form_of (f.Says a) = Says (act_of a.now)
 form_of (f.Asks e) = Asks (formula_of e.now)
 form_of (f.Takes e) = Takes (formula_of e.now)

@@ -1,6 +1,7 @@
 pub mod Parts
+pub mod Said
 pub mod Rules
 pub mod FirstFault
-pub mod NameTests
 pub mod FormViews
+pub mod PartViews
 pub mod Survey

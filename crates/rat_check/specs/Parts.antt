@@ -1,16 +1,19 @@
--- The parts of a Ratfor unit in reading order, each with what its rules ask of the statements around it. The words of a
+-- The parts of a Ratfor unit in reading order, each with what is asked of the statements around it. The words of a
 -- control statement with what stands in its parentheses are one part; the condition of `until` and each clause of a switch
 -- are parts of their own, at their own places (Kernighan, Ratfor: A Preprocessor for a Rational Fortran, 1975).
-use Rattle.std.specs.Prelude.{ℕ, suc, nat_eq, Bool, false, ◌&&◌, ◌||◌, List, [], ◌∷◌, ◌++◌, Option, Some, None, if◌then◌else◌}
+use Rattle.std.specs.Prelude.{ℕ, suc, nat_eq, nat_le, Bool, true, false, ◌&&◌, ◌||◌, List, [], ◌∷◌, ◌++◌, Option, Some, None, if◌then◌else◌}
+use Rattle.std.specs.List.{list_all}
 use Rattle.ground.specs.declared.place.Place.{Place}
-use Rattle.f66_tree.specs.Forms.{Text, Formula, Formulas, Par, Act}
+use Rattle.f66_tree.specs.Forms.{Text, Formula, Formulas, Par, Act, Goes, Selects}
 use Rattle.f66_tree.specs.Units.{is_note}
 use Rattle.rat_tree.specs.Commands.{Command, Empty, Together, When, Either, Whilst, Through, Repeats, Until, Counts, Switches, Leaves, Turns, GivesBack, Plainly, Marked, Commands, NoCommand, AndCommand, Clauses, NoClause, AndClause}
 
 -- what a part says
 pub data Form : Type 0 where
-  -- a word or sign alone: an empty statement, a brace, `repeat`
+  -- a sign alone: an empty statement, a brace
   Rests : Form
+  -- the word `repeat`
+  Repeating : Form
   Says : Act → Form
   Asks : Formula → Form
   -- the value of a switch; the case expressions of a clause, and whether it is a second default
@@ -34,16 +37,29 @@ abbrev pub with_label : Option ℕ → Labels → Labels
 with_label None ls m = ls m
 with_label (Some l) ls m = nat_eq m l || ls m
 
--- a part: its label, its place, how many loops are around it, and the labels that stand directly in the lists around it
+-- `break` and `next` name a loop, where k loops are around them
+abbrev pub finds_loop : ℕ → Form → Bool
+finds_loop k (Leaving n) = nat_le 1 n && nat_le n k
+finds_loop k _ = true
+
+-- the labels that a jump names are in reach
+abbrev pub reaches : Labels → Form → Bool
+reaches r (Says (Goes l)) = r l
+reaches r (Says (Selects ls x)) = list_all r ls
+reaches r _ = true
+
+-- a part: its label, its place, what it says, whether it finds the loop that it names around it, and whether the labels
+-- that it jumps to are in reach there
 pub record Part : Type 0 where
   pub label : Option ℕ
   pub place : Place
   pub form : Form
-  pub loops : ℕ
-  pub reach : Labels
+  pub inside : Bool
+  pub reached : Bool
 
+-- a part with k loops around it, where the labels r stand directly in the lists around it
 abbrev pub part : ℕ → Labels → Option ℕ → Place → Form → Part
-part k r l p form = record { label = l; place = p; form = form; loops = k; reach = r }
+part k r l p form = record { label = l; place = p; form = form; inside = finds_loop k form; reached = reaches r form }
 
 -- the label of a statement that a jump may go to: a statement that isn't executed is no target
 abbrev pub target_of : Command → Option ℕ
@@ -69,8 +85,8 @@ abbrev mutual
   parts_of k r l (Either p e c d) = part k r l p (Asks e) ∷ (parts_of k r None c ++ parts_of k r None d)
   parts_of k r l (Whilst p e c) = part k r l p (Asks e) ∷ parts_of (suc k) r None c
   parts_of k r l (Through p a e b c) = part k r l p (Prepares a e b) ∷ parts_of (suc k) r None c
-  parts_of k r l (Repeats p c) = part k r l p Rests ∷ parts_of (suc k) r None c
-  parts_of k r l (Until p c e q) = part k r l p Rests ∷ (parts_of (suc k) r None c ++ part k r None q (Asks e) ∷ [])
+  parts_of k r l (Repeats p c) = part k r l p Repeating ∷ parts_of (suc k) r None c
+  parts_of k r l (Until p c e q) = part k r l p Repeating ∷ (parts_of (suc k) r None c ++ part k r None q (Asks e) ∷ [])
   parts_of k r l (Counts p x a b d c) = part k r l p (Counting x a b d) ∷ parts_of (suc k) r None c
   parts_of k r l (Switches p e cs) = part k r l p (Takes e) ∷ clause_parts k r false cs
   parts_of k r l (Leaves p n) = part k r l p (Leaving n) ∷ []

@@ -1,123 +1,76 @@
--- The rules that each part keeps (X3.9-1966, sections 3.4, 3.5, 5.3, 7.1.2 and 7.2.3; Kernighan's Ratfor). What is not built
--- yet is told before all of them, so that they speak of built parts alone.
-use Rattle.std.specs.Prelude.{ℕ, nat_eq, nat_le, nat_lt, Bool, true, false, not, ◌&&◌, ◌||◌, length, Option, Some, None}
+-- What each part of a unit breaks (X3.9-1966, sections 3 to 9; Kernighan's Ratfor). What is not built yet is told before all
+-- rules, so that they speak of built parts alone.
+use Rattle.std.specs.Prelude.{ℕ, suc, ◌+◌, nat_le, Bool, true, false, not, ◌&&◌, ◌||◌, List, [], ◌∷◌, length, Option, Some, None}
 use Rattle.std.specs.List.{list_all}
 use Rattle.ground.specs.declared.fault.FaultKind.{FaultKind}
-use Rattle.ground.specs.declared.fault.FaultKind.TheVariants.{NameTooLong, OutOfProfileType, BadLabel, BadBreak, DuplicateCase, BadFormat}
-use Rattle.f66_tree.specs.declared.declaration.TypeWord.{TypeWord}
-use Rattle.f66_tree.specs.declared.declaration.TypeWord.TheVariants.{Other}
-use Rattle.f66_tree.specs.declared.editing.EditKind.TheVariants as edits
-use Rattle.f66_tree.specs.Fields.{Takes as TakesItem, Fields, NoField, Single}
-use Rattle.f66_tree.specs.Forms.{Text, Formula, Variable, Applied, Grouped, Positive, Negative, Negated, Joined, Formulas, Nought, Also, Par, Constant, Named, One, Entries, AndEntry, Act, Assigns, Goes, Selects, Passes, Stops, Writes, Formats}
-use Rattle.f66_tree.specs.Units.{by_letter}
-use Rattle.f66_tree.specs.Built.{is_whole, is_condition, is_par, is_printer, is_one_variable, is_variable}
-use Rattle.rat_check.specs.Parts.{Form, Rests, Says, Asks, Takes, Compares, Prepares, Counting, Leaving, Returning, Labels, Part}
+use Rattle.ground.specs.declared.fault.FaultKind.TheVariants.{Syntax, BadLabel, BadBreak, DuplicateCase}
+use Rattle.rule_table.specs.FaultRules.{first_rule}
+use Rattle.f66_tree.specs.Forms.{Act, Assigns, Signs, Chooses, Loops, Writes}
+use Rattle.f66_tree.specs.Units.{Context}
+use Rattle.f66_names.specs.BuiltActs.{is_built}
+use Rattle.f66_names.specs.Rules.{breaks_name}
+use Rattle.f66_flow.specs.Acts.{is_specification, is_format}
+use Rattle.rat_check.specs.Parts.{Form, Rests, Repeating, Says, Compares, Prepares, Leaving, Returning, Labels, no_label, with_label, Part}
+use Rattle.rat_check.specs.Said.{said_by}
 
 -- ---- what is built ----
 
--- a format of one integer field
-abbrev pub is_whole_field : Fields → Bool
-is_whole_field (Single n (TakesItem edits.Whole w) NoField) = nat_eq n 1
-is_whole_field _ = false
+-- a plain statement of Ratfor: neither an IF nor a DO of FORTRAN
+abbrev pub is_plain : Act → Bool
+is_plain (Signs e l m n) = false
+is_plain (Chooses e a) = false
+is_plain (Loops l x a b c) = false
+is_plain _ = true
 
-abbrev pub is_built_act : Act → Bool
-is_built_act (Assigns x e) = is_variable x && is_whole e
-is_built_act (Goes l) = true
-is_built_act (Selects ls x) = true
-is_built_act Passes = true
-is_built_act (Stops n) = true
-is_built_act (Writes u l es) = is_printer u && is_one_variable es
-is_built_act (Formats f) = is_whole_field f
-is_built_act _ = false
-
-abbrev pub are_whole : Formulas → Bool
-are_whole Nought = true
-are_whole (Also e es) = is_whole e && are_whole es
-
--- an assignment or nothing, and a condition or nothing
+-- an assignment or nothing
 abbrev pub is_simple : Option Act → Bool
 is_simple None = true
-is_simple (Some (Assigns x e)) = is_variable x && is_whole e
+is_simple (Some (Assigns x e)) = true
 is_simple (Some _) = false
 
-abbrev pub is_test : Option Formula → Bool
-is_test None = true
-is_test (Some e) = is_condition e
+abbrev pub is_ratfor : Form → Bool
+is_ratfor (Says a) = is_plain a
+is_ratfor (Prepares a e b) = is_simple a && is_simple b
+is_ratfor Returning = false
+is_ratfor _ = true
 
-abbrev pub is_built_form : Form → Bool
-is_built_form Rests = true
-is_built_form (Says a) = is_built_act a
-is_built_form (Asks e) = is_condition e
-is_built_form (Takes e) = is_whole e
-is_built_form (Compares es second) = are_whole es
-is_built_form (Prepares a e b) = is_simple a && (is_test e && is_simple b)
-is_built_form (Counting x a b c) = is_par a && (is_par b && is_par c)
-is_built_form (Leaving n) = true
-is_built_form Returning = false
+abbrev pub is_built_form : Context → Form → Bool
+is_built_form c form = is_ratfor form && list_all (is_built c) (said_by form)
 
--- ---- names ----
+-- ---- what stands before a part ----
 
-module _ (test : Text → Bool) where
-  -- whether some name passes a test
-  abbrev mutual
-    pub some_name : Formula → Bool
-    some_name (Variable x) = test x
-    some_name (Applied x es) = test x || some_name_of es
-    some_name (Grouped a) = some_name a
-    some_name (Positive a) = some_name a
-    some_name (Negative a) = some_name a
-    some_name (Negated a) = some_name a
-    some_name (Joined op a b) = some_name a || some_name b
-    some_name _ = false
+-- the labels of the parts before it, whether the executable statements have begun, and how much was said of names
+pub record Before : Type 0 where
+  pub labels : Labels
+  pub begun : Bool
+  pub said : ℕ
 
-    pub some_name_of : Formulas → Bool
-    some_name_of Nought = false
-    some_name_of (Also e es) = some_name e || some_name_of es
+abbrev pub nothing_before : Before
+nothing_before = record { labels = no_label; begun = false; said = 0 }
 
-  abbrev pub name_of_par : Par → Bool
-  name_of_par (Constant z) = false
-  name_of_par (Named x) = test x
+-- Behind which no specification comes: each statement but specifications and FORMAT, and an empty statement or a brace
+-- where it has a label.
+abbrev pub begins : Option ℕ → Form → Bool
+begins None Rests = false
+begins (Some l) Rests = true
+begins l (Says a) = not (is_specification a || is_format a)
+begins l _ = true
 
-  abbrev pub name_of_entries : Entries → Bool
-  name_of_entries (AndEntry (One e) es) = some_name e || name_of_entries es
-  name_of_entries _ = false
+abbrev pub behind : Before → Part → Before
+behind b v = record { labels = with_label v.label b.labels; begun = b.begun || begins v.label v.form; said = b.said + length (said_by v.form) }
 
-  abbrev pub name_of_act : Act → Bool
-  name_of_act (Assigns x e) = some_name x || some_name e
-  name_of_act (Selects ls x) = test x
-  name_of_act (Writes u l es) = name_of_entries es
-  name_of_act _ = false
+-- ---- the rules ----
 
-  abbrev pub name_of_acts : Option Act → Bool
-  name_of_acts None = false
-  name_of_acts (Some a) = name_of_act a
+-- what the rules ask of a unit as a whole: what its names mean, all that it says of names, and the labels of its formats
+pub record Whole : Type 0 where
+  pub context : Context
+  pub said : List Act
+  pub formats : Labels
 
-  abbrev pub name_of_test : Option Formula → Bool
-  name_of_test None = false
-  name_of_test (Some e) = some_name e
-
-  abbrev pub name_of_form : Form → Bool
-  name_of_form (Says a) = name_of_act a
-  name_of_form (Asks e) = some_name e
-  name_of_form (Takes e) = some_name e
-  name_of_form (Compares es second) = some_name_of es
-  name_of_form (Prepares a e b) = name_of_acts a || (name_of_test e || name_of_acts b)
-  name_of_form (Counting x a b c) = test x || (name_of_par a || (name_of_par b || name_of_par c))
-  name_of_form _ = false
-
--- a name has at most six characters
-abbrev pub is_long : Text → Bool
-is_long x = nat_lt 6 (length x)
-
-abbrev pub is_other : TypeWord → Bool
-is_other Other = true
-is_other _ = false
-
--- a name that is not declared and begins with another letter than I to N would be real
-abbrev pub is_real : Text → Bool
-is_real x = is_other (by_letter x)
-
--- ---- labels, loops, clauses and formats ----
+-- a specification behind an executable statement
+abbrev pub is_late : Bool → Form → Bool
+is_late begun (Says a) = is_specification a && begun
+is_late begun _ = false
 
 -- a label is one to 99999, and no part before has it
 abbrev pub is_own_label : Labels → Option ℕ → Bool
@@ -125,42 +78,30 @@ is_own_label before None = true
 is_own_label before (Some l) = (nat_le 1 l && nat_le l 99999) && not (before l)
 
 -- a jump reaches its labels, and a WRITE has a format
-abbrev pub finds_labels : Labels → Labels → Form → Bool
-finds_labels formats reach (Says (Goes l)) = reach l
-finds_labels formats reach (Says (Selects ls x)) = list_all reach ls
-finds_labels formats reach (Says (Writes u l es)) = formats l
-finds_labels formats reach _ = true
-
--- `break` and `next` name a loop around them
-abbrev pub finds_loop : ℕ → Form → Bool
-finds_loop k (Leaving n) = nat_le 1 n && nat_le n k
-finds_loop k _ = true
+abbrev pub finds_labels : Labels → Bool → Form → Bool
+finds_labels formats reached (Says (Writes u l es)) = formats l
+finds_labels formats reached _ = reached
 
 abbrev pub is_second_default : Form → Bool
 is_second_default (Compares es second) = second
 is_second_default _ = false
 
--- a width is one to 132
-abbrev pub has_fit_width : Fields → Bool
-has_fit_width (Single n (TakesItem edits.Whole w) fs) = nat_le 1 w && nat_le w 132
-has_fit_width _ = true
+-- the rules of Ratfor itself, one row for each fault
+abbrev pub breaks_own : Labels → Before → Part → FaultKind → Bool
+breaks_own formats b v Syntax = is_late b.begun v.form
+breaks_own formats b v BadLabel = not (is_own_label b.labels v.label && finds_labels formats v.reached v.form)
+breaks_own formats b v BadBreak = not v.inside
+breaks_own formats b v DuplicateCase = is_second_default v.form
+breaks_own formats b v _ = false
 
-abbrev pub is_fit_format : Form → Bool
-is_fit_format (Says (Formats f)) = has_fit_width f
-is_fit_format _ = true
+-- what is said of names, from the n-th of the unit on, breaks a rule of names, types, counts, constants and stores
+abbrev pub break_names : Context → List Act → ℕ → List Act → FaultKind → Bool
+break_names c said n [] k = false
+break_names c said n (a ∷ more) k = breaks_name c said n a k || break_names c said (n + 1) more k
 
--- ---- the rules, in the order of their numbers ----
+abbrev pub breaks : Whole → Before → Part → FaultKind → Bool
+breaks u b v k = breaks_own u.formats b v k || break_names u.context u.said b.said (said_by v.form) k
 
-abbrev pub first_of : Bool → FaultKind → Option FaultKind → Option FaultKind
-first_of true kind later = Some kind
-first_of false kind later = later
-
--- what a part is refused for, by the labels of the unit's formats and those of the parts before it
-abbrev pub broken_rule : Labels → Labels → Part → Option FaultKind
-broken_rule formats before v =
-    first_of (name_of_form is_long v.form) NameTooLong (
-    first_of (name_of_form is_real v.form) OutOfProfileType (
-    first_of (not (is_own_label before v.label && finds_labels formats v.reach v.form)) BadLabel (
-    first_of (not (finds_loop v.loops v.form)) BadBreak (
-    first_of (is_second_default v.form) DuplicateCase (
-    first_of (not (is_fit_format v.form)) BadFormat None)))))
+-- of the rules that a part breaks, that with the smallest number
+abbrev pub broken_rule : Whole → Before → Part → Option FaultKind
+broken_rule u b v = first_rule (breaks u b v)

@@ -1,22 +1,29 @@
-//! The checks of a Ratfor tree: what is not built yet, and the rules of names, labels, loops, clauses and formats.
+//! The checks of a Ratfor tree: what is not built yet, the rules of names, types, counts, constants and stores, and those of order, labels, loops and clauses.
 #![tactic(auto)]
 
+mod before;
 mod built;
 mod forms;
 mod labels;
-mod names;
+mod parts;
+mod rules;
+mod said;
 mod survey;
 mod targets;
 mod unit_check;
 mod visit;
 
-use built::{are_whole, is_built_act, is_condition, is_par, is_simple, is_test, is_whole};
+use before::Before;
+use built::first_unbuilt;
 use forms::{Around, Form};
 use labels::LabelSet;
-use names::{
-    NameTest, name_of_act, name_of_acts, name_of_par, name_of_test, some_name, some_name_of,
-};
+use parts::Part;
+use rules::broken_rule;
+use said::{add_form, sayings_of};
 use survey::Survey;
 use targets::add_targets;
-pub use unit_check::check;
+pub use unit_check::{check, sayings};
 use visit::visit_list;
+
+#[cfg(test)]
+mod tests;

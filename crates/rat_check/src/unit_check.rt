@@ -1,49 +1,135 @@
 // The check of a unit.
-ghost use Rattle.std.specs.Prelude.{◌≡◌, [], IfOk};
+ghost use Rattle.std.specs.Prelude.{◌≡◌, [], IfOk, OnOk};
 ghost use Rattle.rat_tree.specs.Views.{commands, routine_of};
-ghost use Rattle.rat_check.specs.Parts.{unit_parts};
-ghost use Rattle.rat_check.specs.FirstFault.{Tells, fault_of_parts, unit_fault};
-ghost use Rattle.rat_check.specs.Survey.{own_labels, starting, noting_all};
+ghost use Rattle.f66_names.specs.ActViews.{acts_of};
+ghost use Rattle.f66_names.specs.DeclarationViews.{acts_in};
+ghost use Rattle.rat_check.specs.Parts.{unit_parts, no_label};
+ghost use Rattle.rat_check.specs.Said.{said_in};
+ghost use Rattle.rat_check.specs.Rules.{nothing_before};
+ghost use Rattle.rat_check.specs.FirstFault.{Tells, fault_at as fault_of, format_label as label_of_format, with_formats, first_broken, fault_of_parts, unit_fault};
+ghost use Rattle.rat_check.specs.FormViews.{form_of};
+ghost use Rattle.rat_check.specs.PartViews.{parts_seen, whole_in};
+ghost use Rattle.rat_check.specs.Survey.{is_among, adding_if, own_labels};
 
-use crate::{Around, LabelSet, Survey, visit_list};
-use f66_tree::Header;
-use ground::{Fault, FaultKind, List, Refusal};
+use crate::{
+    Around, Before, Form, LabelSet, Part, Survey, add_form, broken_rule, first_unbuilt, sayings_of,
+    visit_list,
+};
+use f66_names::{Names, Saying, names_of};
+use f66_tree::{Header, StmtKind};
+use ground::{Fault, FaultKind, List, Place, Refusal};
 use rat_tree::{RatStmt, RatUnit};
+use rule_table::limit_of;
 use std::alloc::{AllocError, Global};
 
-/// Checks a unit, and gives the labels of its statements, each once. Faults 10, 11, 15, 16, 17, 26 and 31.
+/// Checks a unit, and gives the labels of its statements, each once. Faults 9 to 18, 26, 27, 30 and 31.
 pub fn check(alloc: Global, unit: &RatUnit) -> Result<List<u32>, Refusal>
     ensures fault { Tells result (unit_fault (routine_of unit.now)) }
     ensures labels { IfOk result (λ labels. labels.items ≡ own_labels (unit_parts (commands unit.now.body.items)) []) }
 {
     match unit.header {
         Header::Main => check_body(alloc, &unit.body),
-        _ => Err(Refusal::Fault(Fault {
-            kind: FaultKind::Unbuilt,
-            place: unit.place,
-            number: 0,
-        })),
+        _ => Err(Refusal::Fault(fault_at(unit.place, FaultKind::Unbuilt))),
     }
 }
 
-// It takes two walks over the tree: the first one finds the labels of the formats, which may stand behind the statements
-// that name them.
+// What isn't built goes first, so all parts are looked through for it; what names mean is known when all parts are.
 fn check_body(alloc: Global, body: &[RatStmt]) -> Result<List<u32>, Refusal>
     ensures fault { Tells result (fault_of_parts (unit_parts (commands body.now))) }
     ensures labels { IfOk result (λ labels. labels.items ≡ own_labels (unit_parts (commands body.now)) []) }
 {
-    let formats = survey_of(alloc, body, LabelSet::new(alloc))?.into_formats();
-    let survey = survey_of(alloc, body, formats)?;
-    match survey.verdict() {
-        Some(fault) => Err(Refusal::Fault(fault)),
-        None => Ok(survey.into_labels(alloc)?),
+    let parts = parts_of(alloc, body)?;
+    let sayings = sayings_in(alloc, &parts)?;
+    let header = Header::Main;
+    let names = names_of(alloc, &header, &sayings)?;
+    let unbuilt = first_unbuilt(alloc, &names, &parts)?;
+    if let Some(place) = unbuilt {
+        return Err(Refusal::Fault(fault_at(place, FaultKind::Unbuilt)));
+    }
+    let formats = formats_in(alloc, &parts)?;
+    check_parts(alloc, &names, &formats, &parts)
+}
+
+fn fault_at(place: Place, kind: FaultKind) -> Fault
+    ensures { result ≡ fault_of place kind }
+{
+    Fault {
+        kind,
+        place,
+        number: limit_of(kind),
     }
 }
 
-fn survey_of(alloc: Global, body: &[RatStmt], formats: LabelSet) -> Result<Survey, AllocError>
-    ensures { IfOk result (λ survey. survey ≡ noting_all (unit_parts (commands body.now)) (starting formats)) }
+/// What a unit says of names, in reading order.
+pub fn sayings<'a>(alloc: Global, unit: &'a RatUnit) -> Result<Vec<Saying<'a>>, AllocError>
+    ensures { IfOk result (λ v. acts_of v.items ≡ said_in (unit_parts (commands unit.now.body.items))) }
 {
-    let mut survey = Survey::new(alloc, formats);
+    let parts = parts_of(alloc, &unit.body)?;
+    sayings_in(alloc, &parts)
+}
+
+fn parts_of(alloc: Global, body: &[RatStmt]) -> Result<Vec<Part>, AllocError>
+    ensures { IfOk result (λ parts. parts_seen parts.items ≡ unit_parts (commands body.now)) }
+{
+    let mut survey = Survey::new(alloc);
     visit_list(body, &Around::Outside, &mut survey)?;
-    Ok(survey)
+    Ok(survey.parts)
+}
+
+/// What the parts say of names.
+fn sayings_in<'a>(alloc: Global, parts: &[Part<'a>]) -> Result<Vec<Saying<'a>>, AllocError>
+    ensures { IfOk result (λ v. acts_of v.items ≡ said_in (parts_seen parts.now)) }
+{
+    let mut sayings = Vec::new(alloc);
+    for part in parts {
+        add_form(part.form, &mut sayings)?;
+    }
+    Ok(sayings)
+}
+
+/// The labels of the formats, which may stand behind the statements that name them.
+fn formats_in(alloc: Global, parts: &[Part]) -> Result<LabelSet, AllocError>
+    ensures { IfOk result (λ formats. is_among formats ≡ with_formats (parts_seen parts.now) no_label) }
+{
+    let mut formats = LabelSet::new(alloc);
+    for part in parts {
+        add_format(part, &mut formats)?;
+    }
+    Ok(formats)
+}
+
+fn add_format(part: &Part, formats: &mut LabelSet) -> Result<(), AllocError>
+    ensures { OnOk result (formats.new ≡ adding_if (label_of_format part.now.label (form_of part.now.form)) formats.old) }
+{
+    let Some(label) = part.label else {
+        return Ok(());
+    };
+    match part.form {
+        Form::Says(StmtKind::Format(_)) => formats.insert(label),
+        _ => Ok(()),
+    }
+}
+
+/// The labels of the parts, or the first part that breaks a rule.
+fn check_parts(
+    alloc: Global,
+    names: &Names,
+    formats: &LabelSet,
+    parts: &[Part],
+) -> Result<List<u32>, Refusal>
+    requires { said_in (parts_seen parts.now) ≡ acts_in names.now.declarations }
+    ensures fault { Tells result (first_broken (whole_in names.now formats.now) nothing_before (parts_seen parts.now)) }
+    ensures labels { IfOk result (λ labels. labels.items ≡ own_labels (parts_seen parts.now) []) }
+{
+    let mut before = Before::new(alloc);
+    let _said = names.declarations.sayings.len();
+    for part in parts {
+        let sayings = sayings_of(alloc, part.form)?;
+        let broken = broken_rule(alloc, names, formats, &before, part, &sayings)?;
+        if let Some(kind) = broken {
+            return Err(Refusal::Fault(fault_at(part.place, kind)));
+        }
+        before.add(part, sayings.len())?;
+    }
+    Ok(before.labels.into_list(alloc)?)
 }

@@ -3,6 +3,7 @@ ghost use Rattle.std.specs.Prelude.{◌≡◌, suc, OnOk, None, false};
 ghost use Rattle.rat_tree.specs.Views.{command, commands, clauses};
 ghost use Rattle.rat_check.specs.Parts.{parts_of, parts_in, clause_parts, with_labels};
 ghost use Rattle.rat_check.specs.FormViews.{depth_of, other_parts, until_parts, case_parts};
+ghost use Rattle.rat_check.specs.PartViews.{survey_of};
 ghost use Rattle.rat_check.specs.Survey.{is_among, noting_all};
 
 use crate::{Around, Form, Survey};
@@ -14,8 +15,12 @@ use std::alloc::AllocError;
 /// A statement with all that it holds.
 #[cycle(visit)]
 #[tactic(auto, using(crate::proofs::PartLemmas::part_steps))]
-fn visit(statement: &RatStmt, around: &Around, survey: &mut Survey) -> Result<(), AllocError>
-    ensures { OnOk result (survey.new ≡ noting_all (parts_of (depth_of around.now) (is_among survey.old.reach) None (command statement.now)) survey.old) }
+fn visit<'a>(
+    statement: &'a RatStmt,
+    around: &Around,
+    survey: &mut Survey<'a>,
+) -> Result<(), AllocError>
+    ensures { OnOk result (survey_of survey.new ≡ noting_all (parts_of (depth_of around.now) (is_among survey.old.reach) None (command statement.now)) (survey_of survey.old)) }
 {
     let label = statement.label;
     let place = statement.place;
@@ -40,7 +45,7 @@ fn visit(statement: &RatStmt, around: &Around, survey: &mut Survey) -> Result<()
             visit(body, &inside, survey)
         }
         RatKind::Repeat(body, until) => {
-            survey.note(&*around, label, place, Form::Rests)?;
+            survey.note(&*around, label, place, Form::Repeating)?;
             visit(body, &inside, survey)?;
             note_until(until, &*around, survey)
         }
@@ -66,12 +71,12 @@ fn visit(statement: &RatStmt, around: &Around, survey: &mut Survey) -> Result<()
 
 // The statement behind `else`.
 #[cycle(visit)]
-fn visit_other(
-    other: &Option<Box<RatStmt>>,
+fn visit_other<'a>(
+    other: &'a Option<Box<RatStmt>>,
     around: &Around,
-    survey: &mut Survey,
+    survey: &mut Survey<'a>,
 ) -> Result<(), AllocError>
-    ensures { OnOk result (survey.new ≡ noting_all (other_parts (depth_of around.now) (is_among survey.old.reach) other.now) survey.old) }
+    ensures { OnOk result (survey_of survey.new ≡ noting_all (other_parts (depth_of around.now) (is_among survey.old.reach) other.now) (survey_of survey.old)) }
 {
     match other {
         None => Ok(()),
@@ -80,12 +85,12 @@ fn visit_other(
 }
 
 // The condition of `until`.
-fn note_until(
-    until: &Option<(Expr, Place)>,
+fn note_until<'a>(
+    until: &'a Option<(Expr, Place)>,
     around: &Around,
-    survey: &mut Survey,
+    survey: &mut Survey<'a>,
 ) -> Result<(), AllocError>
-    ensures { OnOk result (survey.new ≡ noting_all (until_parts (depth_of around.now) (is_among survey.old.reach) until.now) survey.old) }
+    ensures { OnOk result (survey_of survey.new ≡ noting_all (until_parts (depth_of around.now) (is_among survey.old.reach) until.now) (survey_of survey.old)) }
 {
     match until {
         None => Ok(()),
@@ -95,8 +100,12 @@ fn note_until(
 
 /// The statements of a list, whose labels they can reach.
 #[cycle(visit)]
-pub fn visit_list(list: &[RatStmt], around: &Around, survey: &mut Survey) -> Result<(), AllocError>
-    ensures { OnOk result (survey.new ≡ noting_all (parts_in (depth_of around.now) (with_labels (commands list.now) (is_among survey.old.reach)) (commands list.now)) survey.old) }
+pub fn visit_list<'a>(
+    list: &'a [RatStmt],
+    around: &Around,
+    survey: &mut Survey<'a>,
+) -> Result<(), AllocError>
+    ensures { OnOk result (survey_of survey.new ≡ noting_all (parts_in (depth_of around.now) (with_labels (commands list.now) (is_among survey.old.reach)) (commands list.now)) (survey_of survey.old)) }
 {
     let outside = survey.enter(list)?;
     visit_each(list, &*around, survey)?;
@@ -105,8 +114,12 @@ pub fn visit_list(list: &[RatStmt], around: &Around, survey: &mut Survey) -> Res
 }
 
 #[cycle(visit)]
-fn visit_each(list: &[RatStmt], around: &Around, survey: &mut Survey) -> Result<(), AllocError>
-    ensures { OnOk result (survey.new ≡ noting_all (parts_in (depth_of around.now) (is_among survey.old.reach) (commands list.now)) survey.old) }
+fn visit_each<'a>(
+    list: &'a [RatStmt],
+    around: &Around,
+    survey: &mut Survey<'a>,
+) -> Result<(), AllocError>
+    ensures { OnOk result (survey_of survey.new ≡ noting_all (parts_in (depth_of around.now) (is_among survey.old.reach) (commands list.now)) (survey_of survey.old)) }
 {
     for statement in list {
         visit(statement, &*around, survey)?;
@@ -115,8 +128,12 @@ fn visit_each(list: &[RatStmt], around: &Around, survey: &mut Survey) -> Result<
 }
 
 #[cycle(visit)]
-fn visit_clauses(list: &[RatCase], around: &Around, survey: &mut Survey) -> Result<(), AllocError>
-    ensures { OnOk result (survey.new ≡ noting_all (clause_parts (depth_of around.now) (is_among survey.old.reach) false (clauses list.now)) survey.old) }
+fn visit_clauses<'a>(
+    list: &'a [RatCase],
+    around: &Around,
+    survey: &mut Survey<'a>,
+) -> Result<(), AllocError>
+    ensures { OnOk result (survey_of survey.new ≡ noting_all (clause_parts (depth_of around.now) (is_among survey.old.reach) false (clauses list.now)) (survey_of survey.old)) }
 {
     let mut seen = false;
     for clause in list {
@@ -127,13 +144,13 @@ fn visit_clauses(list: &[RatCase], around: &Around, survey: &mut Survey) -> Resu
 }
 
 #[cycle(visit)]
-fn visit_clause(
-    clause: &RatCase,
+fn visit_clause<'a>(
+    clause: &'a RatCase,
     second: bool,
     around: &Around,
-    survey: &mut Survey,
+    survey: &mut Survey<'a>,
 ) -> Result<(), AllocError>
-    ensures { OnOk result (survey.new ≡ noting_all (case_parts (depth_of around.now) (is_among survey.old.reach) second clause.now) survey.old) }
+    ensures { OnOk result (survey_of survey.new ≡ noting_all (case_parts (depth_of around.now) (is_among survey.old.reach) second clause.now) (survey_of survey.old)) }
 {
     let form = Form::Compares(&clause.tests, second);
     survey.note(&*around, None, clause.place, form)?;

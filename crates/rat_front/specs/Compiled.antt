@@ -1,15 +1,14 @@
 -- What the compiler answers.
-use Rattle.std.specs.Prelude.{◌≡◌, ◌⊎◌, true, ⊤, ℕ, List, Option, Result, Ok, Err}
+use Rattle.std.specs.Prelude.{◌≡◌, ◌⊎◌, ⊤, ℕ, List, Option, Result, Ok, Err}
 use Rattle.ground.specs.declared.token.Token.{Token}
 use Rattle.ground.specs.declared.fault.Refusal.{Refusal}
 use Rattle.ground.specs.declared.fault.Refusal.TheVariants as whole
 use Rattle.f66_tree.specs.declared.unit.Unit.{Unit as AUnit}
-use Rattle.f66_tree.specs.Forms.{Line}
-use Rattle.f66_tree.specs.Views.{lines_of}
+use Rattle.f66_tree.specs.Views.{lines_of, routine_of}
 use Rattle.f66_tree.specs.World.{Record}
-use Rattle.f66_tree.specs.Built.{is_built_unit}
 use Rattle.f66_tree.specs.OneUnit.{executed}
 use Rattle.f66_tree.specs.Agreement.{Agrees}
+use Rattle.f66_check.specs.Answers.{IsSound}
 use Rattle.rat_tree.specs.Commands.{Commands}
 use Rattle.rat_lower.specs.OneUnit.{means}
 use Rattle.macro_define.specs.declared.refusal.GatherRefusal.{GatherRefusal}
@@ -18,20 +17,20 @@ use Rattle.macro_define.specs.Answers.{Known, IsOf}
 use Rattle.rat_front.specs.declared.compile.Compiled.{Compiled}
 use Rattle.rat_front.specs.Verdict.{Verdict, Refuses, Accepts, Checked, Faulty, Main, Becomes}
 
--- The statements of FORTRAN do what those of Ratfor mean, over any records of input, and they are of forms that can run.
-pub record Serves (body : Commands) (code : List Line) : Type 0 where
-  pub built : is_built_unit code ≡ true
-  pub agrees : (input : List Record) → Agrees (means body input) (executed code input)
+-- The unit of FORTRAN does what the statements of Ratfor mean, over any records of input, and it is sound.
+pub record Serves (body : Commands) (unit : AUnit) : Type 0 where
+  pub sound : IsSound (routine_of unit)
+  pub agrees : (input : List Record) → Agrees (means body input) (executed (lines_of unit.statements.items) input)
 
 -- a unit that serves for the main program, or the fault; want of memory says nothing
 abbrev pub Finds : (Checked → Type 0) → Result AUnit Refusal → Type 0
-Finds P (Ok unit) = (body : Commands) × P (Main body) × Serves body (lines_of unit.statements.items)
+Finds P (Ok unit) = (body : Commands) × P (Main body) × Serves body unit
 Finds P (Err (whole.Fault fault)) = P (Faulty fault)
 Finds P (Err whole.Memory) = ⊤
 
 -- the same of a whole text; a failed fetch says nothing either
 abbrev pub Gives : (Verdict → Type 0) → Result Compiled GatherRefusal → Type 0
-Gives P (Ok compiled) = (body : Commands) × P (Accepts compiled.files.items body) × Serves body (lines_of compiled.unit.statements.items)
+Gives P (Ok compiled) = (body : Commands) × P (Accepts compiled.files.items body) × Serves body compiled.unit
 Gives P (Err (refusals.Fault fault name)) = P (Refuses fault name)
 Gives P (Err refusals.Library) = ⊤
 Gives P (Err refusals.Memory) = ⊤

@@ -32,7 +32,7 @@ fn main_unit(alloc: Global, program: &RatProgram) -> Result<Unit, Refusal>
             let unit = lower(alloc, main, program.finish)?;
             check_units(alloc, others, program.finish)?;
             match others {
-                [] => Ok(unit),
+                [] => Ok(unit.into_unit()),
                 [second, ..] => Err(main_count(second.place)),
             }
         }

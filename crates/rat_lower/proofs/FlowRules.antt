@@ -10,7 +10,7 @@ use Rattle.rule_table.specs.Words.{first_place, last_place, is_some_and, is_belo
 use Rattle.f66_tree.specs.Forms.{Act, Loops, Line}
 use Rattle.f66_tree.specs.Units.{is_note}
 use Rattle.f66_tree.specs.Execution.{has_label, from_label}
-use Rattle.f66_flow.specs.Acts.{is_executable, is_specification, is_transfer, ends_no_range, branches, formats_named}
+use Rattle.f66_flow.specs.Acts.{is_executable, is_transfer, ends_no_range, branches, formats_named}
 use Rattle.f66_flow.specs.Ranges as range_words
 use Rattle.f66_flow.specs.Ranges.{place_of, named, range_end, range_ends, end_at, holds, some_below}
 use Rattle.f66_flow.specs.FlowRules.{is_late, lacks_transfer, has_bad_label, leads_nowhere, names_no_format, leads_wrong, has_no_end, ends_wrong, overlaps, enters_at, enters, breaks_flow, breaks_flow_at, header_breaks_flow}
@@ -172,18 +172,6 @@ none_first (x ∷ rest) e other = by (is_note x.act) refl (first_place Runs rest
     by true h None f later = ap (λ b. if b then code_words.ends_so other rest else code_words.ends_so (code_words.is_transfer x.act) rest) h ∙ later f
     by true h (Some n) f later = absurd (let no : Some (n + 1) ≡ None = sym (ap (λ b. cond (not b) (Some 0) (option_map (λ n1. n1 + 1) (first_place Runs rest))) h ∙ ap (option_map (λ n1. n1 + 1)) f) ∙ e in cc)
     by false h o f later = absurd (let no : Some 0 ≡ None = sym (ap (λ b. cond (not b) (Some 0) (option_map (λ n1. n1 + 1) (first_place Runs rest))) h) ∙ e in cc)
-
--- ---- specifications ----
-
--- a unit whose first statement alone may be a specification
-module _ (code : List Line) (first_alone : (i : ℕ) (s : Line) → slice_get code (suc i) ≡ Some s → is_specification s.act ≡ false) where
-  before_none : (o : Option ℕ) → is_below 0 o ≡ false
-  before_none None = refl
-  before_none (Some m) = le-ltb m 0 (omega arith)
-
-  pub first_early : (i : ℕ) (s : Line) → slice_get code i ≡ Some s → is_late code i s.act ≡ false
-  first_early zero s e = and_right (is_specification s.act) _ (or_from _ _ (before_none (first_place _ code)) (before_none (first_place _ code)))
-  first_early (suc i) s e = and_left (is_specification s.act) _ (first_alone i s e)
 
 -- ---- the rules ----
 

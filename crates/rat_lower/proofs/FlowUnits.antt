@@ -1,13 +1,13 @@
 -- The unit that a main unit becomes breaks no rule on order, labels and DO ranges.
-use Rattle.std.proofs.Common.{◌≡◌, ℕ, zero, suc, ◌+◌, ◌≤◌, ◌<◌, Bool, true, false, true≢false, List, [], ◌∷◌, ◌++◌, Some, refl, sym, ◌∙◌, subst, arith}
-use Rattle.std.specs.Prelude.{if◌then◌else◌}
-use Rattle.std.specs.List.{slice_get}
+use Rattle.std.proofs.Common.{◌≡◌, ℕ, zero, suc, ◌+◌, ◌≤◌, ◌<◌, Bool, true, false, true≢false, List, [], ◌∷◌, ◌++◌, Option, refl, sym, ap, ◌∙◌, subst, arith}
+use Rattle.std.specs.Prelude.{is_some, if◌then◌else◌}
+use Rattle.std.specs.List.{list_all}
 use Rattle.ground.specs.declared.place.Place.{Place}
 use Rattle.ground.specs.declared.fault.FaultKind.{FaultKind}
-use Rattle.f66_tree.specs.Forms.{Text, Act, Types, Dimensions, Commons, Equivalences, Line}
-use Rattle.f66_tree.specs.Units.{is_note, Note, notes_of}
-use Rattle.f66_tree.specs.Built.{is_built_unit}
-use Rattle.f66_flow.specs.Acts.{is_specification}
+use Rattle.f66_tree.specs.Fields.{Fields}
+use Rattle.f66_tree.specs.Forms.{Text, Act, Line}
+use Rattle.f66_tree.specs.Units.{is_note, Note, notes_of, format_of}
+use Rattle.f66_flow.specs.Acts.{formats_named}
 use Rattle.f66_flow.specs.FlowRules.{breaks_flow_at, header_breaks_flow}
 use Rattle.f66_flow.specs.declared.scope.Scope.TheVariants.{Whole}
 use Rattle.rat_tree.specs.Commands.{Commands}
@@ -18,10 +18,11 @@ use Rattle.rat_lower.proofs.Counts.{occurs, occurs-all, ends, ends-all, all_head
 use Rattle.rat_lower.proofs.Labels.{AreUnique, Within, within_self, within_cons}
 use Rattle.rat_lower.proofs.Distinct.{distinct, count-all, span, Made, span_made}
 use Rattle.rat_lower.proofs.Notes.{notes_whole}
-use Rattle.rat_lower.proofs.PartNotes.{NoSpecifications}
 use Rattle.rat_lower.proofs.Targets.{AllLead, ListsLead, lists_more, lead_all}
-use Rattle.rat_lower.proofs.FormatsNamed.{formats_named_right}
-use Rattle.rat_lower.proofs.FlowRules.{first_early, Orderly, flow_kept, header_kept}
+use Rattle.rat_lower.proofs.Kept.{AllSay, AllSayGood, good_unit}
+use Rattle.rat_lower.proofs.FormatsNamed.{IsFormatted, formatted_keeps, formatted_values, formats_named_right}
+use Rattle.rat_lower.proofs.Early.{Early, not_late}
+use Rattle.rat_lower.proofs.FlowRules.{Orderly, flow_kept, header_kept}
 
 -- ---- how a unit ends ----
 
@@ -38,30 +39,25 @@ ends_with_stop p (s ∷ rest) other = by (is_note s.act) (λ o. ends_with_stop p
     by true ih = ih other
     by false ih = ih (is_transfer s.act)
 
--- ---- specifications ----
+-- ---- formats ----
 
-no_note : (a : Act) → is_note a ≡ false → is_specification a ≡ false
-no_note (Types t ds) e = absurd (true≢false e)
-no_note (Dimensions ds) e = absurd (true≢false e)
-no_note (Commons areas) e = absurd (true≢false e)
-no_note (Equivalences es) e = absurd (true≢false e)
-no_note _ e = refl
+say_more : (Good Better : Act → Type 0) (code : List Line) → ((a : Act) → Better a → Good a) → AllSay Better code → AllSay Good code
+say_more Good Better [] f h = tt
+say_more Good Better (s ∷ rest) f h = (f s.act h.0, say_more Good Better rest f h.1)
 
-note_first : (s : Line) (notes : List Note) (v : Bool) → is_note s.act ≡ v → NoSpecifications (if v then (record { label = s.label; act = s.act } ∷ notes) else notes) → (is_specification s.act ≡ false) × NoSpecifications notes
-note_first s notes true e k = (k.0, k.1)
-note_first s notes false e k = (no_note s.act e, k)
+-- formats are the same where each label has the same one
+formatted_alike : (notes others : List Note) → ((l : ℕ) → format_of l others ≡ format_of l notes) → (a : Act) → IsFormatted notes a → IsFormatted others a
+formatted_alike notes others same a h = ap (λ (f : ℕ → Option Fields). list_all (λ l. is_some (f l)) (formats_named a)) (λ i l. same l i) ∙ h
 
-none_special : (code : List Line) → NoSpecifications (notes_of code) → (i : ℕ) (s : Line) → slice_get code i ≡ Some s → is_specification s.act ≡ false
-none_special [] k i s e = absurd (cc)
-none_special (x ∷ rest) k zero s e =
-    let same : x ≡ s = cc in
-    subst (λ y. is_specification y.act ≡ false) same (note_first x (notes_of rest) (is_note x.act) refl k).0
-none_special (x ∷ rest) k (suc i) s e = none_special rest (note_first x (notes_of rest) (is_note x.act) refl k).1 i s e
+-- the declaration of the spare name gives none
+declared_formats : (l : ℕ) (b : Bool) (p : Place) (spare : Text) (code : List Line) → format_of l (notes_of (declared_if b p spare code)) ≡ format_of l (notes_of code)
+declared_formats l true p spare code = refl
+declared_formats l false p spare code = refl
 
 -- ---- the unit ----
 
 module _ (made : ℕ → ℕ) (spare : Text) (first last : Place) (ss : Commands) (checked : IsChecked made spare ss) (given_ranged : (l : ℕ) → 1 ≤ all_given l ss → (1 ≤ l) × (l ≤ 99999)) (made_ranged : (i : ℕ) → i < all_labels ss → (1 ≤ made i) × (made i ≤ 99999))
-    (special : NoSpecifications (notes_of_unit ss)) (built : is_built_unit (unit_code made spare first last ss) ≡ true) (finished : ends_so false (unit_code made spare first last ss) ≡ true) where
+    (early1 : (v : Bool) → Early false (all_code made spare ss 0 [] (stop_unless v last))) (formatted : AllSayGood (IsFormatted (notes_of_unit ss)) ss) (finished : ends_so false (unit_code made spare first last ss) ≡ true) where
   abbrev added : Bool
   added = ends_so false (all_code made spare ss 0 [] [])
 
@@ -135,19 +131,32 @@ module _ (made : ℕ → ℕ) (spare : Text) (first last : Place) (ss : Commands
           let m : Made made l 0 (all_labels ss) = span_made made l 0 (all_labels ss) (omega (arith, e)) in
           subst (λ k. (1 ≤ k) × (k ≤ 99999)) m.is (made_ranged m.index (omega (arith, m.below)))
 
-  code1_plain : (i : ℕ) (s : Line) → slice_get code1 i ≡ Some s → is_specification s.act ≡ false
-  code1_plain = none_special code1 (subst NoSpecifications (sym (notes_whole made spare ss added last)) special)
+  same_formats : (l : ℕ) → format_of l (notes_of code) ≡ format_of l (notes_of_unit ss)
+  same_formats l = declared_formats l (have_switch ss) first spare code1 ∙ ap (format_of l) (notes_whole made spare ss added last)
 
-  first_alone : (v : Bool) (i : ℕ) (s : Line) → slice_get (declared_if v first spare code1) (suc i) ≡ Some s → is_specification s.act ≡ false
-  first_alone true i s e = code1_plain i s e
-  first_alone false i s e = code1_plain (suc i) s e
+  code1_formatted : AllSay (IsFormatted (notes_of_unit ss)) code1
+  code1_formatted = good_unit (IsFormatted (notes_of_unit ss)) made spare (formatted_keeps (notes_of_unit ss)) ss added last (λ e. formatted_values (notes_of_unit ss) spare) formatted
+
+  code_formatted : AllSay (IsFormatted (notes_of code)) code
+  code_formatted = say_more (IsFormatted (notes_of code)) (IsFormatted (notes_of_unit ss)) code (formatted_alike (notes_of_unit ss) (notes_of code) same_formats) (by (have_switch ss))
+    where
+      by : (v : Bool) → AllSay (IsFormatted (notes_of_unit ss)) (declared_if v first spare code1)
+      by true = (refl, code1_formatted)
+      by false = code1_formatted
+
+  code_early : Early false code
+  code_early = by (have_switch ss)
+    where
+      by : (v : Bool) → Early false (declared_if v first spare code1)
+      by true = (refl, early1 added)
+      by false = early1 added
 
   orderly : Orderly code
   orderly = record {
     once = λ l. omega (arith, all_end l, once l);
     ranged = label_range;
-    early = first_early code (first_alone (have_switch ss));
-    formats = formats_named_right code unique built;
+    early = not_late code code_early;
+    formats = formats_named_right code unique code code_formatted;
     last = finished;
   }
 

@@ -1,21 +1,26 @@
--- In a built unit, none of whose labels stands twice, each WRITE names a FORMAT.
+-- The labels of formats that the statements of a unit name are those of FORMATs.
 use Rattle.std.proofs.Common.{◌≡◌, ℕ, zero, suc, ◌≤◌, Bool, true, false, true≢false, List, [], ◌∷◌, Option, Some, None, refl, sym, ap, ◌∙◌, subst, arith}
-use Rattle.std.specs.Prelude.{is_some, not, ◌&&◌, cond, if◌then◌else◌}
-use Rattle.std.specs.List.{slice_get, list_any}
+use Rattle.std.specs.Prelude.{◌&&◌, not, is_some, cond, if◌then◌else◌}
+use Rattle.std.specs.List.{slice_get, list_any, list_all}
 use Rattle.std.proofs.lemmas.Bool.{or_from}
 use Rattle.rule_table.specs.Words.{is_some_and}
 use Rattle.f66_tree.specs.Fields.{Fields}
-use Rattle.f66_tree.specs.Forms.{Act, Chooses, Reads, Writes, Formats, Line}
-use Rattle.f66_tree.specs.Units.{is_note, Note, notes_of, format_by, format_of}
+use Rattle.f66_tree.specs.Forms.{Text, Act, Chooses, Reads, Writes, Formats, Line}
+use Rattle.f66_tree.specs.Units.{is_note, Note, Context, notes_of, format_by, format_of}
 use Rattle.f66_tree.specs.Execution.{has_label}
-use Rattle.f66_tree.specs.Built.{is_printer, is_one_variable, is_one_field_of, is_plain, is_condition, is_built, are_built}
+use Rattle.f66_names.specs.BuiltActs.{is_built}
 use Rattle.f66_flow.specs.Acts.{is_format, formats_named}
 use Rattle.f66_flow.specs.Ranges.{named}
 use Rattle.f66_flow.specs.FlowRules.{names_no_format}
+use Rattle.rat_check.specs.Parts.{Form, Rests, Repeating, Says, Asks, Takes, Compares, Prepares, Counting, Leaving, Returning, Part}
+use Rattle.rat_check.specs.Said.{said_by}
+use Rattle.rat_check.specs.Rules.{is_plain, is_ratfor, Whole, finds_labels}
+use Rattle.rat_check.proofs.CleanLemmas.{and_true}
 use Rattle.rat_lower.specs.Checked.{bit}
 use Rattle.rat_lower.proofs.Counts.{occurs}
 use Rattle.rat_lower.proofs.Labels.{AreUnique}
-use Rattle.rat_lower.proofs.NoFault.{and_true}
+use Rattle.rat_lower.proofs.NoFault.{AllParts, AllFine, AllOf, SaysSo, values_so, prepared_so}
+use Rattle.rat_lower.proofs.Kept.{AllSay, Keeps, KeepsValues}
 
 -- the notes behind a statement in front
 abbrev noted : Line → List Note → List Note
@@ -63,30 +68,52 @@ names_one l (s ∷ rest) once e = by (has_label l s.label) refl (is_format s.act
         let same : format_of l (notes_of (s ∷ rest)) ≡ format_of l (notes_of rest) = past l s (notes_of rest) (λ other. other_format l s.label s.act other h) in
         ap (λ b. not (is_some_and (λ t. is_format t.act) (cond b (Some s) (named rest l)))) h ∙ later (omega (arith, once)) (sym (ap is_some same) ∙ e)
 
-built_at : (notes : List Note) (code : List Line) (i : ℕ) (s : Line) → are_built notes code ≡ true → slice_get code i ≡ Some s → is_built notes s.act ≡ true
-built_at notes [] i s e is = absurd (cc)
-built_at notes (x ∷ rest) zero s e is = let same : x ≡ s = cc in subst (λ y. is_built notes y.act ≡ true) same (and_true (is_built notes x.act) (are_built notes rest) e).0
-built_at notes (x ∷ rest) (suc i) s e is = built_at notes rest i s (and_true (is_built notes x.act) (are_built notes rest) e).1 is
+-- ---- statements whose formats are there ----
 
-some_field : (o : Option Fields) → is_one_field_of o ≡ true → is_some o ≡ true
-some_field None e = e
-some_field (Some f) e = refl
+-- each label of a format that a statement names has one
+abbrev pub IsFormatted : List Note → Act → Type 0
+IsFormatted notes a = list_all (λ l. is_some (format_of l notes)) (formats_named a) ≡ true
+
+pub formatted_keeps : (notes : List Note) → Keeps (IsFormatted notes)
+formatted_keeps notes = record { passes = refl; goes = λ l. refl; stops = refl; denied = λ e l h. refl; counts = λ l x a b c h. refl }
+
+pub formatted_values : (notes : List Note) (spare : Text) → KeepsValues (IsFormatted notes) spare
+formatted_values notes spare = record { compared = λ e l h. refl; stored = λ e h. refl }
 
 module _ (code : List Line) (unique : AreUnique code) where
-  plain_named : (a : Act) → is_plain (notes_of code) a ≡ true → list_any (names_no_format code) (formats_named a) ≡ false
-  plain_named (Writes u l es) e =
-      let k = and_true (is_printer u) (is_one_variable es && is_one_field_of (format_of l (notes_of code))) e in
-      let m = and_true (is_one_variable es) (is_one_field_of (format_of l (notes_of code))) k.1 in
-      or_from (names_no_format code l) false (names_one l code (unique l) (some_field (format_of l (notes_of code)) m.1)) refl
-  plain_named (Reads u l es) e = absurd (true≢false (sym e))
-  plain_named (Chooses f a) e = absurd (true≢false (sym e))
-  plain_named _ e = refl
+  all_named : (ls : List ℕ) → list_all (λ l. is_some (format_of l (notes_of code))) ls ≡ true → list_any (names_no_format code) ls ≡ false
+  all_named [] e = refl
+  all_named (l ∷ ls) e =
+      let k = and_true (is_some (format_of l (notes_of code))) (list_all (λ m. is_some (format_of m (notes_of code))) ls) e in
+      or_from (names_no_format code l) _ (names_one l code (unique l) k.0) (all_named ls k.1)
 
-  act_named : (a : Act) → is_built (notes_of code) a ≡ true → list_any (names_no_format code) (formats_named a) ≡ false
-  act_named (Chooses f a) e = plain_named a (and_true (is_condition f) (is_plain (notes_of code) a) e).1
-  act_named (Writes u l es) e = plain_named (Writes u l es) e
-  act_named (Reads u l es) e = absurd (true≢false (sym e))
-  act_named _ e = refl
+  pub formats_named_right : (part : List Line) → AllSay (IsFormatted (notes_of code)) part → (i : ℕ) (s : Line) → slice_get part i ≡ Some s → list_any (names_no_format code) (formats_named s.act) ≡ false
+  formats_named_right [] h i s is = absurd (cc)
+  formats_named_right (x ∷ rest) h zero s is = let same : x ≡ s = cc in subst (λ y. list_any (names_no_format code) (formats_named y.act) ≡ false) same (all_named (formats_named x.act) h.0)
+  formats_named_right (x ∷ rest) h (suc i) s is = formats_named_right rest h.1 i s is
 
-  pub formats_named_right : are_built (notes_of code) code ≡ true → (i : ℕ) (s : Line) → slice_get code i ≡ Some s → list_any (names_no_format code) (formats_named s.act) ≡ false
-  formats_named_right e i s is = act_named s.act (built_at (notes_of code) code i s e is)
+-- ---- the source ----
+
+module _ (u : Whole) (notes : List Note) (has : (m : ℕ) → u.formats m ≡ true → is_some (format_of m notes) ≡ true) where
+  -- a plain statement of Ratfor that is built
+  act_formatted : (c : Context) (a : Act) (reached : Bool) → is_plain a ≡ true → is_built c a ≡ true → finds_labels u.formats reached (Says a) ≡ true → IsFormatted notes a
+  act_formatted c (Writes p l es) reached plain built found = ap (λ b. b && true) (has l found)
+  act_formatted c (Reads p l es) reached plain built found = absurd (true≢false (sym built))
+  act_formatted c (Chooses e a) reached plain built found = absurd (true≢false (sym plain))
+  act_formatted c _ reached plain built found = refl
+
+  form_formatted : (c : Context) (form : Form) (reached : Bool) → is_ratfor form ≡ true → AllOf (λ a. is_built c a ≡ true) (said_by form) → finds_labels u.formats reached form ≡ true → AllOf (IsFormatted notes) (said_by form)
+  form_formatted c (Says a) reached is built found = (act_formatted c a reached is built.0 found, tt)
+  form_formatted c Rests reached is built found = tt
+  form_formatted c Repeating reached is built found = tt
+  form_formatted c (Asks e) reached is built found = (refl, tt)
+  form_formatted c (Takes e) reached is built found = (refl, tt)
+  form_formatted c (Compares es second) reached is built found = values_so (IsFormatted notes) (λ e. refl) es
+  form_formatted c (Prepares a e b) reached is built found = prepared_so (IsFormatted notes) (λ x f. refl) (λ f. refl) a e b is
+  form_formatted c (Counting x a b d) reached is built found = (refl, tt)
+  form_formatted c (Leaving n) reached is built found = tt
+  form_formatted c Returning reached is built found = tt
+
+  pub parts_formatted : (c : Context) (vs : List Part) → AllFine u vs → AllParts (SaysSo (λ a. is_built c a ≡ true)) vs → AllParts (SaysSo (IsFormatted notes)) vs
+  parts_formatted c [] h k = tt
+  parts_formatted c (v ∷ vs) h k = (form_formatted c v.form v.reached h.0.ratfor k.0 h.0.found, parts_formatted c vs h.1 k.1)

@@ -95,7 +95,7 @@ module _ (Good : Act → Type 0) (made : ℕ → ℕ) (spare : Text) (keeps : Ke
       good_each v p es (made m) (tests made spare cs (m + 1 + all_labels ss) next) h.0 (good_tests v cs (m + 1 + all_labels ss) next h.2 k)
 
   mutual
-    good_code : (s : Command) (n : ℕ) (ls : Rings) (next : List Line) → (has_switch s ≡ true → KeepsValues Good spare) → SaysGood Good s → All next → All (code_of made spare s n ls next)
+    pub good_code : (s : Command) (n : ℕ) (ls : Rings) (next : List Line) → (has_switch s ≡ true → KeepsValues Good spare) → SaysGood Good s → All next → All (code_of made spare s n ls next)
     good_code (Empty p) n ls next may h k = k
     good_code (Together p ss) n ls next may h k = good_all ss n ls next may h k
     good_code (When p e s) n ls next may h k = (keeps.denied e (made n) h.0, good_code s (n + 1) ls (here (made n) p ∷ next) may h.1 (keeps.passes, k))

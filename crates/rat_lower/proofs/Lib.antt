@@ -16,7 +16,6 @@ pub mod Blocks
 pub mod Members
 pub mod CappedCounts
 pub mod Units
-pub mod BuiltUnits
 pub mod Alone
 pub mod Agreement
 pub mod Whole
@@ -24,18 +23,25 @@ pub mod Exits
 pub mod Fits
 pub mod Top
 pub mod NoFault
-pub mod BuiltForms
 pub mod Reached
-pub mod NamesKept
 pub mod PartLabels
+pub mod ActNames
+pub mod Alike
 pub mod PartNotes
 pub mod Accepted
+pub mod SpareNames
 pub mod Targets
 pub mod FlowRules
 pub mod FormatsNamed
-pub mod FlowUnits
 pub mod Kept
+pub mod KeptBack
+pub mod Classes
+pub mod Redeclared
+pub mod Says
+pub mod Early
+pub mod FlowUnits
 pub mod Soundness
 pub mod Checks
+pub mod CleanUnits
 pub mod MainUnits
 mod Examples

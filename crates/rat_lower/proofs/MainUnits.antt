@@ -1,16 +1,15 @@
--- The statements of a main unit that the checks accept: they do what it means, are built, and break no rule on order, labels and
--- DO ranges.
-use Rattle.std.proofs.Common.{◌≡◌, ℕ, ◌+◌, ◌≤◌, Bool, true, false, List, [], length, Some, None, sym, ap, ◌∙◌, subst}
+-- The statements of a main unit that the checks accept: they do what it means, and are a sound unit.
+use Rattle.std.proofs.Common.{◌≡◌, ℕ, ◌+◌, ◌≤◌, ◌<◌, Bool, true, false, List, [], length, Some, None, sym, ap, ◌∙◌, subst}
 use Rattle.std.specs.Prelude.{if◌then◌else◌}
 use Rattle.std.proofs.lemmas.Option.{none-some}
 use Rattle.ground.specs.declared.place.Place.{Place}
 use Rattle.ground.specs.declared.fault.FaultKind.TheVariants.{Unbuilt}
-use Rattle.f66_tree.specs.Forms.{Line}
+use Rattle.f66_tree.specs.Forms.{MainUnit, Line}
 use Rattle.f66_tree.specs.Units.{is_main}
 use Rattle.f66_tree.specs.World.{Record}
 use Rattle.f66_tree.specs.Agreement.{Agrees}
-use Rattle.f66_tree.specs.Built.{is_built_unit}
 use Rattle.f66_tree.specs.OneUnit.{executed}
+use Rattle.f66_check.specs.Answers.{IsSound}
 use Rattle.rat_tree.specs.Commands.{RatRoutine}
 use Rattle.rat_check.specs.Parts.{no_label, unit_parts}
 use Rattle.rat_check.specs.FirstFault.{fault_at, with_own, fault_of_parts, unit_fault}
@@ -18,11 +17,13 @@ use Rattle.rat_check.specs.Survey.{is_among, own_labels}
 use Rattle.rat_check.proofs.SurveyLemmas.{own_among}
 use Rattle.rat_lower.specs.OneUnit.{means}
 use Rattle.rat_lower.specs.Code.{all_labels, ends_so}
+use Rattle.rat_lower.specs.Emitted.{labels_past, names_of}
 use Rattle.rat_lower.specs.Lowered.{lowered, KeepsFlow}
-use Rattle.rat_lower.proofs.Checks.{accepted_agrees, accepted_built, accepted_flow}
+use Rattle.rat_lower.proofs.Checks.{accepted_agrees, accepted_flow}
+use Rattle.rat_lower.proofs.CleanUnits.{unit_is_sound}
 
 module _ (u : RatRoutine) (taken given : List ℕ) (first last : Place) (code : List Line) (none_found : unit_fault u ≡ None) (own : taken ≡ own_labels (unit_parts u.body) []) (same : given ≡ taken)
-    (made : code ≡ lowered given first last u.body) where
+    (few : length (names_of u.body) < 99999) (made : code ≡ lowered given first last u.body) where
   accepted : fault_of_parts (unit_parts u.body) ≡ None
   accepted = by (is_main u.header) none_found
     where
@@ -34,10 +35,12 @@ module _ (u : RatRoutine) (taken given : List ℕ) (first last : Place) (code : 
   all = ap is_among (same ∙ own) ∙ own_among (unit_parts u.body)
 
   pub code_agrees : (input : List Record) → Agrees (means u.body input) (executed code input)
-  code_agrees input = subst (λ lines. Agrees (means u.body input) (executed lines input)) (sym made) (accepted_agrees u.body accepted given all first last input)
-
-  pub code_built : is_built_unit code ≡ true
-  code_built = ap is_built_unit made ∙ accepted_built u.body accepted given all first last
+  code_agrees input = subst (λ lines. Agrees (means u.body input) (executed lines input)) (sym made) (accepted_agrees u.body accepted few given all first last input)
 
   pub code_flow : length given + all_labels u.body ≤ 77000 → ends_so false code ≡ true → KeepsFlow code
-  code_flow room finished = subst KeepsFlow (sym made) (accepted_flow u.body accepted given all first last room (sym (ap (ends_so false) made) ∙ finished))
+  code_flow room finished = subst KeepsFlow (sym made) (accepted_flow u.body accepted few given all first last room (sym (ap (ends_so false) made) ∙ finished))
+
+  pub code_sound : (place : Place) → length given + all_labels u.body ≤ 77000 → ends_so false code ≡ true → IsSound (record { header = MainUnit; lines = code; place = place })
+  code_sound place room finished =
+      subst (λ lines. IsSound (record { header = MainUnit; lines = lines; place = place })) (sym made)
+      (unit_is_sound u.body accepted few (labels_past given) first last place (accepted_flow u.body accepted few given all first last room (sym (ap (ends_so false) made) ∙ finished)))

@@ -1,112 +1,104 @@
--- The rules that each part keeps in a unit without a fault.
-use Rattle.std.proofs.Common.{◌≡◌, ℕ, Bool, true, false, true≢false, List, [], ◌∷◌, ◌++◌, Option, Some, None, refl, sym, ap, ◌∙◌}
-use Rattle.std.specs.Prelude.{not, ◌&&◌, ◌||◌, if◌then◌else◌, ⊤}
-use Rattle.std.proofs.lemmas.Option.{none-some}
+-- What each part of a unit without a fault is, whatever stands before it.
+use Rattle.std.proofs.Common.{◌≡◌, ℕ, Bool, true, false, true≢false, List, [], ◌∷◌, ◌++◌, Option, Some, None, refl, sym}
+use Rattle.std.specs.Prelude.{◌&&◌, ◌||◌, ⊤}
+use Rattle.std.specs.List.{list_all}
 use Rattle.ground.specs.declared.place.Place.{Place}
-use Rattle.ground.specs.declared.fault.FaultKind.{FaultKind}
-use Rattle.ground.specs.declared.fault.FaultKind.TheVariants.{NameTooLong, OutOfProfileType, BadLabel, BadBreak, DuplicateCase, BadFormat}
-use Rattle.rat_check.specs.Parts.{Labels, no_label, with_label, Part, with_mark}
-use Rattle.rat_check.specs.Rules.{is_built_form, name_of_form, is_long, is_real, is_own_label, finds_labels, finds_loop, is_second_default, is_fit_format, first_of, broken_rule}
-use Rattle.rat_check.specs.FirstFault.{or_else, first_unbuilt, with_formats, fault_if, first_broken, unbuilt_at, fault_of_parts}
-
--- ---- truth values ----
-
-pub and_true : (a b : Bool) → (a && b) ≡ true → (a ≡ true) × (b ≡ true)
-and_true true b e = (refl, e)
-and_true false b e = absurd (true≢false (sym e))
-
-pub both_true : (a b : Bool) → a ≡ true → b ≡ true → (a && b) ≡ true
-both_true a b e f = ap (λ v. v && b) e ∙ f
+use Rattle.f66_tree.specs.Forms.{Formula, Formulas, Nought, Also, Act, Assigns, Signs, Chooses, Passes}
+use Rattle.f66_names.specs.BuiltActs.{is_built}
+use Rattle.rat_check.specs.Parts.{Labels, Part, with_mark}
+use Rattle.rat_check.specs.Said.{said_by, said_in, values, act_if_any, condition_if_any}
+use Rattle.rat_check.specs.Rules.{is_simple, is_ratfor, Before, behind, Whole, finds_labels}
+use Rattle.rat_check.proofs.CleanLemmas.{and_true, AllKeep}
 
 pub both_false : (a b : Bool) → (a || b) ≡ false → (a ≡ false) × (b ≡ false)
 both_false true b e = absurd (true≢false e)
 both_false false b e = (refl, e)
 
-not_false : (a : Bool) → not a ≡ false → a ≡ true
-not_false true e = refl
-not_false false e = absurd (true≢false e)
+-- ---- all parts are so ----
 
--- ---- no fault ----
+abbrev pub AllParts : (Part → Type 0) → List Part → Type 0
+AllParts P [] = ⊤
+AllParts P (v ∷ vs) = P v × AllParts P vs
 
-or_none : {A : Type 0} (a b : Option A) → or_else a b ≡ None → (a ≡ None) × (b ≡ None)
-or_none None b e = (refl, e)
-or_none (Some x) b e = absurd (none-some x (sym e))
+module _ (P : Part → Type 0) where
+  pub split : (xs ys : List Part) → AllParts P (xs ++ ys) → AllParts P xs × AllParts P ys
+  split [] ys h = (tt, h)
+  split (x ∷ xs) ys h = let k = split xs ys h.1 in ((h.0, k.0), k.1)
 
-first_none : (b : Bool) (kind : FaultKind) (later : Option FaultKind) → first_of b kind later ≡ None → (b ≡ false) × (later ≡ None)
-first_none true kind later e = absurd (none-some kind (sym e))
-first_none false kind later e = (refl, e)
+  -- the parts behind a second label
+  pub unmarked : (k : ℕ) (r : Labels) (l : Option ℕ) (p : Place) (vs : List Part) → AllParts P (with_mark k r l p vs) → AllParts P vs
+  unmarked k r None p vs h = h
+  unmarked k r (Some l) p vs h = h.1
 
-no_rule : (p : Place) (o : Option FaultKind) → fault_if p o ≡ None → o ≡ None
-no_rule p None e = refl
-no_rule p (Some kind) e = absurd (none-some _ (sym e))
+-- ---- a unit without a fault ----
 
-no_place : (o : Option Place) → unbuilt_at o ≡ None → o ≡ None
-no_place None e = refl
-no_place (Some p) e = absurd (none-some _ (sym e))
+-- the part is one of Ratfor, and finds its labels and its loop
+pub record Fine (u : Whole) (v : Part) : Type 0 where
+  pub ratfor : is_ratfor v.form ≡ true
+  pub found : finds_labels u.formats v.reached v.form ≡ true
+  pub inside : v.inside ≡ true
 
-built_none : (b : Bool) (p : Place) (o : Option Place) → (if b then o else Some p) ≡ None → (b ≡ true) × (o ≡ None)
-built_none true p o e = (refl, e)
-built_none false p o e = absurd (none-some p (sym e))
+abbrev pub AllFine : Whole → List Part → Type 0
+AllFine u vs = AllParts (Fine u) vs
 
--- what a part without a fault keeps
-pub record Keeps (formats before : Labels) (v : Part) : Type 0 where
-  pub typed : name_of_form is_real v.form ≡ false
-  pub own : is_own_label before v.label ≡ true
-  pub found : finds_labels formats v.reach v.form ≡ true
-  pub inside : finds_loop v.loops v.form ≡ true
-  pub fit : is_fit_format v.form ≡ true
+pub all_fine : (u : Whole) (b : Before) (vs : List Part) → AllKeep u b vs → AllFine u vs
+all_fine u b [] h = tt
+all_fine u b (v ∷ vs) h =
+    (record { ratfor = (and_true (is_ratfor v.form) (list_all (is_built u.context) (said_by v.form)) h.0).0; found = h.1.found; inside = h.1.inside }, all_fine u (behind b v) vs h.2)
 
-pub keeps : (formats before : Labels) (v : Part) → broken_rule formats before v ≡ None → Keeps formats before v
-keeps formats before v e =
-    let a = first_none (name_of_form is_long v.form) NameTooLong _ e in
-    let b = first_none (name_of_form is_real v.form) OutOfProfileType _ a.1 in
-    let c = first_none (not (is_own_label before v.label && finds_labels formats v.reach v.form)) BadLabel _ b.1 in
-    let d = first_none (not (finds_loop v.loops v.form)) BadBreak _ c.1 in
-    let f = first_none (is_second_default v.form) DuplicateCase _ d.1 in
-    let g = first_none (not (is_fit_format v.form)) BadFormat None f.1 in
-    let l = and_true (is_own_label before v.label) (finds_labels formats v.reach v.form) (not_false _ c.0) in
-    record { typed = b.0; own = l.0; found = l.1; inside = not_false _ d.0; fit = not_false _ g.0 }
+-- ---- all that is said ----
 
--- the first part keeps the rules, and those behind it
-pub first_keeps : (formats before : Labels) (v : Part) (vs : List Part) → first_broken formats before (v ∷ vs) ≡ None → Keeps formats before v × (first_broken formats (with_label v.label before) vs ≡ None)
-first_keeps formats before v vs e =
-    let n = or_none (fault_if v.place (broken_rule formats before v)) (first_broken formats (with_label v.label before) vs) e in
-    (keeps formats before v (no_rule v.place (broken_rule formats before v) n.0), n.1)
+abbrev pub AllOf : (Act → Type 0) → List Act → Type 0
+AllOf Good [] = ⊤
+AllOf Good (a ∷ more) = Good a × AllOf Good more
 
--- what each part is, whatever stands before it
-pub record Fine (formats : Labels) (v : Part) : Type 0 where
-  pub built : is_built_form v.form ≡ true
-  pub typed : name_of_form is_real v.form ≡ false
-  pub found : finds_labels formats v.reach v.form ≡ true
-  pub inside : finds_loop v.loops v.form ≡ true
-  pub fit : is_fit_format v.form ≡ true
+-- all that a part says is so
+abbrev pub SaysSo : (Act → Type 0) → Part → Type 0
+SaysSo Good v = AllOf Good (said_by v.form)
 
-abbrev pub AllFine : Labels → List Part → Type 0
-AllFine formats [] = ⊤
-AllFine formats (v ∷ vs) = Fine formats v × AllFine formats vs
+pub of_split : (Good : Act → Type 0) (xs ys : List Act) → AllOf Good (xs ++ ys) → AllOf Good xs × AllOf Good ys
+of_split Good [] ys h = (tt, h)
+of_split Good (x ∷ xs) ys h = let k = of_split Good xs ys h.1 in ((h.0, k.0), k.1)
 
-pub split : (formats : Labels) (xs ys : List Part) → AllFine formats (xs ++ ys) → AllFine formats xs × AllFine formats ys
-split formats [] ys h = (tt, h)
-split formats (x ∷ xs) ys h = let k = split formats xs ys h.1 in ((h.0, k.0), k.1)
+pub of_weaker : (Good Better : Act → Type 0) (xs : List Act) → ((a : Act) → Better a → Good a) → AllOf Better xs → AllOf Good xs
+of_weaker Good Better [] f h = tt
+of_weaker Good Better (x ∷ xs) f h = (f x h.0, of_weaker Good Better xs f h.1)
 
--- the parts behind a second label
-pub unmarked : (formats : Labels) (k : ℕ) (r : Labels) (l : Option ℕ) (p : Place) (vs : List Part) → AllFine formats (with_mark k r l p vs) → AllFine formats vs
-unmarked formats k r None p vs h = h
-unmarked formats k r (Some l) p vs h = h.1
+pub of_both : (Good Fit : Act → Type 0) (xs : List Act) → AllOf Good xs → AllOf Fit xs → AllOf (λ a. Good a × Fit a) xs
+of_both Good Fit [] h k = tt
+of_both Good Fit (x ∷ xs) h k = ((h.0, k.0), of_both Good Fit xs h.1 k.1)
 
-all_fine : (formats before : Labels) (vs : List Part) → first_unbuilt vs ≡ None → first_broken formats before vs ≡ None → AllFine formats vs
-all_fine formats before [] u e = tt
-all_fine formats before (v ∷ vs) u e =
-    let n = first_keeps formats before v vs e in
-    let b = built_none (is_built_form v.form) v.place (first_unbuilt vs) u in
-    (record { built = b.0; typed = n.0.typed; found = n.0.found; inside = n.0.inside; fit = n.0.fit }, all_fine formats (with_label v.label before) vs b.1 n.1)
+pub of_test : (test : Act → Bool) (xs : List Act) → list_all test xs ≡ true → AllOf (λ a. test a ≡ true) xs
+of_test test [] e = tt
+of_test test (x ∷ xs) e = let h = and_true (test x) (list_all test xs) e in (h.0, of_test test xs h.1)
 
--- a unit without a fault
-pub record Passed (vs : List Part) : Type 0 where
-  pub fine : AllFine (with_formats vs no_label) vs
-  pub unbroken : first_broken (with_formats vs no_label) no_label vs ≡ None
+pub said_so : (Good : Act → Type 0) (vs : List Part) → AllOf Good (said_in vs) → AllParts (SaysSo Good) vs
+said_so Good [] h = tt
+said_so Good (v ∷ vs) h = let k = of_split Good (said_by v.form) (said_in vs) h in (k.0, said_so Good vs k.1)
 
-pub passed : (vs : List Part) → fault_of_parts vs ≡ None → Passed vs
-passed vs e =
-    let n = or_none (unbuilt_at (first_unbuilt vs)) (first_broken (with_formats vs no_label) no_label vs) e in
-    record { fine = all_fine (with_formats vs no_label) no_label vs (no_place (first_unbuilt vs) n.0) n.1; unbroken = n.1 }
+-- ---- what conditions, values and the parts of a `for` say ----
+
+module _ (Good : Act → Type 0) where
+  pub values_so : ((e : Formula) → Good (Signs e 0 0 0)) → (es : Formulas) → AllOf Good (values es)
+  values_so value Nought = tt
+  values_so value (Also e es) = (value e, values_so value es)
+
+  step_so : ((x e : Formula) → Good (Assigns x e)) → (o : Option Act) (more : List Act) → is_simple o ≡ true → AllOf Good more → AllOf Good (act_if_any o ++ more)
+  step_so assigns None more is h = h
+  step_so assigns (Some (Assigns x e)) more is h = (assigns x e, h)
+  step_so assigns (Some _) more is h = absurd (true≢false (sym is))
+
+  last_so : ((x e : Formula) → Good (Assigns x e)) → (o : Option Act) → is_simple o ≡ true → AllOf Good (act_if_any o)
+  last_so assigns None is = tt
+  last_so assigns (Some (Assigns x e)) is = (assigns x e, tt)
+  last_so assigns (Some _) is = absurd (true≢false (sym is))
+
+  test_so : ((e : Formula) → Good (Chooses e Passes)) → (o : Option Formula) (more : List Act) → AllOf Good more → AllOf Good (condition_if_any o ++ more)
+  test_so condition None more h = h
+  test_so condition (Some e) more h = (condition e, h)
+
+  pub prepared_so : ((x e : Formula) → Good (Assigns x e)) → ((e : Formula) → Good (Chooses e Passes)) → (a : Option Act) (e : Option Formula) (b : Option Act) → (is_simple a && is_simple b) ≡ true →
+      AllOf Good (act_if_any a ++ (condition_if_any e ++ act_if_any b))
+  prepared_so assigns condition a e b is =
+      let k = and_true (is_simple a) (is_simple b) is in
+      step_so assigns a (condition_if_any e ++ act_if_any b) k.0 (test_so condition e (act_if_any b) (last_so assigns b k.1))

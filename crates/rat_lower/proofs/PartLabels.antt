@@ -7,11 +7,12 @@ use Rattle.f66_tree.specs.Execution.{has_label}
 use Rattle.rat_tree.specs.Commands.{Command, Empty, Together, When, Either, Whilst, Through, Repeats, Until, Counts, Switches, Leaves, Turns, GivesBack, Plainly, Marked, Commands, NoCommand, AndCommand, Clauses, NoClause, AndClause}
 use Rattle.name_alloc.specs.Numbers.{is_in}
 use Rattle.rat_check.specs.Parts.{Says, Asks, Labels, no_label, with_label, Part, part, with_mark, with_labels, parts_of, parts_in, clause_parts, unit_parts}
-use Rattle.rat_check.specs.Rules.{is_own_label}
+use Rattle.rat_check.specs.Rules.{is_own_label, Before, nothing_before, behind, Whole}
+use Rattle.rat_check.proofs.CleanLemmas.{and_true, first_keeps}
 use Rattle.rat_check.specs.FirstFault.{with_own, first_broken}
 use Rattle.rat_check.specs.Survey.{is_among}
 use Rattle.rat_lower.specs.Checked.{bit, given, all_given, clause_given}
-use Rattle.rat_lower.proofs.NoFault.{and_true, both_false, first_keeps}
+use Rattle.rat_lower.proofs.NoFault.{both_false}
 use Rattle.rat_lower.proofs.Reached.{eq_turned}
 
 -- how many parts have a label
@@ -80,14 +81,14 @@ at_most : (b : Bool) → bit b ≤ 1
 at_most true = omega arith
 at_most false = omega arith
 
-at_most_once : (formats before : Labels) (vs : List Part) (l : ℕ) → first_broken formats before vs ≡ None → bit (before l) + uses l vs ≤ 1
-at_most_once formats before [] l e = omega (arith, at_most (before l))
-at_most_once formats before (v ∷ vs) l e =
-    let h = first_keeps formats before v vs e in
-    one_more before v.label l (uses l vs) h.0.own (at_most_once formats (with_label v.label before) vs l h.1)
+at_most_once : (u : Whole) (b : Before) (vs : List Part) (l : ℕ) → first_broken u b vs ≡ None → bit (b.labels l) + uses l vs ≤ 1
+at_most_once u b [] l e = omega (arith, at_most (b.labels l))
+at_most_once u b (v ∷ vs) l e =
+    let h = first_keeps u b v vs e in
+    one_more b.labels v.label l (uses l vs) h.0.own (at_most_once u (behind b v) vs l h.1)
 
-pub given_once : (formats : Labels) (ss : Commands) → first_broken formats no_label (unit_parts ss) ≡ None → (l : ℕ) → all_given l ss ≤ 1
-given_once formats ss e l = omega (arith, at_most_once formats no_label (unit_parts ss) l e, uses_in l ss 0 (with_labels ss no_label))
+pub given_once : (u : Whole) (ss : Commands) → first_broken u nothing_before (unit_parts ss) ≡ None → (l : ℕ) → all_given l ss ≤ 1
+given_once u ss e l = omega (arith, at_most_once u nothing_before (unit_parts ss) l e, uses_in l ss 0 (with_labels ss no_label))
 
 -- ---- labels are from 1 to 99999 ----
 
@@ -99,18 +100,18 @@ own_range before (Some m) l e h =
     let same : m ≡ l = eqb-true m l h in
     (omega (arith, leb-true 1 m r.0, same), omega (arith, leb-true m 99999 r.1, same))
 
-in_range : (formats before : Labels) (vs : List Part) (l : ℕ) → first_broken formats before vs ≡ None → 1 ≤ uses l vs → (1 ≤ l) × (l ≤ 99999)
-in_range formats before [] l e h = absurd (omega (arith, h))
-in_range formats before (v ∷ vs) l e h =
-    let k = first_keeps formats before v vs e in
-    by (has_label l v.label) refl (own_range before v.label l k.0.own) (in_range formats (with_label v.label before) vs l k.1)
+in_range : (u : Whole) (b : Before) (vs : List Part) (l : ℕ) → first_broken u b vs ≡ None → 1 ≤ uses l vs → (1 ≤ l) × (l ≤ 99999)
+in_range u b [] l e h = absurd (omega (arith, h))
+in_range u b (v ∷ vs) l e h =
+    let k = first_keeps u b v vs e in
+    by (has_label l v.label) refl (own_range b.labels v.label l k.0.own) (in_range u (behind b v) vs l k.1)
   where
     by : (b : Bool) → has_label l v.label ≡ b → (has_label l v.label ≡ true → (1 ≤ l) × (l ≤ 99999)) → (1 ≤ uses l vs → (1 ≤ l) × (l ≤ 99999)) → (1 ≤ l) × (l ≤ 99999)
     by true is own later = own is
     by false is own later = later (omega (arith, h, ap bit is))
 
-pub given_range : (formats : Labels) (ss : Commands) → first_broken formats no_label (unit_parts ss) ≡ None → (l : ℕ) → 1 ≤ all_given l ss → (1 ≤ l) × (l ≤ 99999)
-given_range formats ss e l h = in_range formats no_label (unit_parts ss) l e (omega (arith, h, uses_in l ss 0 (with_labels ss no_label)))
+pub given_range : (u : Whole) (ss : Commands) → first_broken u nothing_before (unit_parts ss) ≡ None → (l : ℕ) → 1 ≤ all_given l ss → (1 ≤ l) × (l ≤ 99999)
+given_range u ss e l h = in_range u nothing_before (unit_parts ss) l e (omega (arith, h, uses_in l ss 0 (with_labels ss no_label)))
 
 -- ---- labels that are not there ----
 

@@ -3,16 +3,15 @@ use Rattle.std.proofs.Common.{◌≡◌, ℕ, Bool, true, false, true≢false, L
 use Rattle.std.specs.Prelude.{nat_eq, ◌||◌, if◌then◌else◌}
 use Rattle.std.specs.List.{list_all}
 use Rattle.std.proofs.lemmas.Bool.{ne_eqb, eqb-true, eq-eqb}
-use Rattle.f66_tree.specs.Forms.{Act}
+use Rattle.f66_tree.specs.Forms.{Act, Goes, Selects, Signs}
 use Rattle.f66_tree.specs.Units.{is_note}
 use Rattle.f66_tree.specs.Execution.{has_label}
 use Rattle.rat_tree.specs.Commands.{Command, Empty, Together, When, Either, Whilst, Through, Repeats, Until, Counts, Switches, Leaves, Turns, GivesBack, Plainly, Marked, Commands, NoCommand, AndCommand}
 use Rattle.rat_tree.specs.Meaning.{marks, stands}
-use Rattle.rat_check.specs.Parts.{Says, Labels, with_label, target_of, with_labels}
-use Rattle.rat_check.specs.Rules.{is_built_act, is_simple, finds_labels}
+use Rattle.rat_check.specs.Parts.{Says, Labels, with_label, reaches, target_of, with_labels}
+use Rattle.rat_check.specs.Rules.{is_plain, is_simple, finds_labels}
+use Rattle.rat_check.proofs.CleanLemmas.{and_true}
 use Rattle.rat_lower.specs.Checked.{stands_in, AllStandIn, ActLands, ActLandsIfAny}
-use Rattle.rat_lower.proofs.NoFault.{and_true}
-use Rattle.rat_lower.proofs.BuiltForms.{each_act, each_simple}
 
 -- numbers are compared in either order
 pub eq_turned : (a b : ℕ) → nat_eq a b ≡ nat_eq b a
@@ -94,10 +93,16 @@ module _ (formats r : Labels) (around : List Commands) (sees : Sees r around) wh
   all_there [] e = tt
   all_there (l ∷ ls) e = let h = and_true (r l) (list_all r ls) e in (sees l h.0, all_there ls h.1)
 
-  pub act_lands : (a : Act) → is_built_act a ≡ true → finds_labels formats r (Says a) ≡ true → ActLands around a
-  act_lands =
-      each_act (λ a. finds_labels formats r (Says a) ≡ true → ActLands around a)
-      (λ x e v w h. tt) (λ l h. sees l h) (λ ls x h. all_there ls h) (λ h. tt) (λ n h. tt) (λ u l es v w h. tt) (λ f v h. tt)
+  pub act_lands : (a : Act) → is_plain a ≡ true → finds_labels formats (reaches r (Says a)) (Says a) ≡ true → ActLands around a
+  act_lands (Goes l) h found = sees l found
+  act_lands (Selects ls x) h found = all_there ls found
+  act_lands (Signs e l m n) h found = absurd (true≢false (sym h))
+  act_lands _ h found = tt
 
-  pub step_lands : (o : Option Act) → is_simple o ≡ true → ActLandsIfAny around o
-  step_lands = each_simple (ActLandsIfAny around) tt (λ x e v w. tt)
+-- the first and the last part of a `for` jump nowhere
+pub step_lands : (around : List Commands) (o : Option Act) → is_simple o ≡ true → ActLandsIfAny around o
+step_lands around None h = tt
+step_lands around (Some (Goes l)) h = absurd (true≢false (sym h))
+step_lands around (Some (Selects ls x)) h = absurd (true≢false (sym h))
+step_lands around (Some (Signs e l m n)) h = absurd (true≢false (sym h))
+step_lands around (Some _) h = tt

@@ -2,14 +2,13 @@
 use Rattle.std.proofs.Common.{◌≡◌, ℕ, zero, suc, Bool, true, false, List, [], ◌∷◌, ◌++◌, Option, Some, None, refl, ap, ◌∙◌, subst, arith}
 use Rattle.std.specs.Prelude.{◌+◌, ◌&&◌, ◌||◌, not, cond, option_map}
 use Rattle.std.specs.List.{slice_get, list_any}
-use Rattle.std.proofs.lemmas.Bool.{or_from, le-ltb}
+use Rattle.std.proofs.lemmas.Bool.{or_from, or_parts, le-ltb}
 use Rattle.std.proofs.lemmas.List.{append-nil}
 use Rattle.ground.specs.declared.place.Place.{Place}
 use Rattle.ground.specs.declared.fault.FaultKind.{FaultKind}
-use Rattle.ground.specs.declared.fault.FaultKind.TheVariants.{Syntax, NameTooLong, OutOfProfileType, DuplicateName}
+use Rattle.ground.specs.declared.fault.FaultKind.TheVariants.{Syntax, NameTooLong, OutOfProfileType, TypeClash, WrongCount, DuplicateName, BadConstant, BadFormat, NotAssignable, Limit}
 use Rattle.rule_table.specs.Words.{first_place, is_some_and, is_below}
-use Rattle.f66_tree.specs.declared.declaration.TypeWord.TheVariants.{Integer}
-use Rattle.f66_tree.specs.Forms.{Text, MainUnit, Act, Types, Line, Routine}
+use Rattle.f66_tree.specs.Forms.{Text, MainUnit, Act, Line, Routine}
 use Rattle.f66_tree.specs.Units.{Context}
 use Rattle.f66_names.specs.declared.name_form.NameForm.{NameForm}
 use Rattle.f66_names.specs.declared.name_form.NameForm.TheVariants as forms
@@ -17,6 +16,7 @@ use Rattle.f66_names.specs.declared.name_form.Manner.TheVariants.{Alone}
 use Rattle.f66_names.specs.Declaring.{context_by, types}
 use Rattle.f66_names.specs.Sorts.{form_of}
 use Rattle.f66_names.specs.Uses.{uses_of}
+use Rattle.f66_names.specs.NameRules.{redeclares}
 use Rattle.f66_names.specs.Rules.{breaks_name}
 use Rattle.f66_names.specs.BuiltActs.{is_function_by, is_function, is_built}
 use Rattle.f66_names.proofs.JumpLemmas.{IsScalar, passes_clean, goes_clean, stops_clean, loops_alike, denied_breaks, compared_breaks, stored_breaks}
@@ -29,33 +29,44 @@ use Rattle.rat_tree.specs.Commands.{Commands}
 use Rattle.rat_lower.specs.Code.{have_switch, all_code, ends_so, stop_unless, declared_if, unit_code}
 use Rattle.rat_lower.specs.Lowered.{KeepsFlow}
 use Rattle.rat_lower.proofs.Kept.{AllSay, AllSayGood, Keeps, KeepsValues, good_unit}
+use Rattle.rat_lower.proofs.Redeclared.{declaration}
 
--- what says nothing that breaks a rule of names, wherever it stands
+-- what breaks no rule of names where it stands before all others
 abbrev pub IsCleanAct : Context → List Act → Act → Type 0
-IsCleanAct c acts a = (i : ℕ) (k : FaultKind) → breaks_name c acts i a k ≡ false
+IsCleanAct c acts a = (k : FaultKind) → breaks_name c acts 0 a k ≡ false
 
 abbrev pub IsBuiltAct : Context → Act → Type 0
 IsBuiltAct c a = is_built c a ≡ true
 
--- INTEGER spare
-abbrev declaration : Text → Act
-declaration spare = Types Integer (record { name = spare; sizes = [] } ∷ [])
-
 module _ (c : Context) (acts : List Act) where
   clean_keeps : Keeps (IsCleanAct c acts)
   clean_keeps = record {
-    passes = λ i k. passes_clean c acts i k;
-    goes = λ l i k. goes_clean c acts i l k;
-    stops = λ i k. stops_clean c acts i k;
-    denied = λ e l h i k. denied_breaks c acts i e l k ∙ h i k;
-    counts = λ l x a b d h i k. loops_alike c acts i l 0 x a b d k ∙ h i k;
+    passes = λ k. passes_clean c acts 0 k;
+    goes = λ l k. goes_clean c acts 0 l k;
+    stops = λ k. stops_clean c acts 0 k;
+    denied = λ e l h k. denied_breaks c acts 0 e l k ∙ h k;
+    counts = λ l x a b d h k. loops_alike c acts 0 l 0 x a b d k ∙ h k;
   }
 
   clean_values : (spare : Text) → IsScalar c acts spare → KeepsValues (IsCleanAct c acts) spare
   clean_values spare scalar = record {
-    compared = λ e l h i k. compared_breaks c acts i spare scalar e l 0 0 0 k ∙ h i k;
-    stored = λ e h i k. stored_breaks c acts i spare scalar e 0 0 0 k ∙ h i k;
+    compared = λ e l h k. compared_breaks c acts 0 spare scalar e l 0 0 0 k ∙ h k;
+    stored = λ e h k. stored_breaks c acts 0 spare scalar e 0 0 0 k ∙ h k;
   }
+
+  -- and elsewhere, where it declares nothing again
+  at_place : (a : Act) (i : ℕ) → IsCleanAct c acts a → redeclares acts i a ≡ false → (k : FaultKind) → breaks_name c acts i a k ≡ false
+  at_place a i h once Syntax = h Syntax
+  at_place a i h once NameTooLong = h NameTooLong
+  at_place a i h once OutOfProfileType = h OutOfProfileType
+  at_place a i h once TypeClash = h TypeClash
+  at_place a i h once WrongCount = h WrongCount
+  at_place a i h once DuplicateName = or_from (redeclares acts i a) _ once (or_parts (redeclares acts 0 a) _ (h DuplicateName)).1
+  at_place a i h once BadConstant = h BadConstant
+  at_place a i h once BadFormat = h BadFormat
+  at_place a i h once NotAssignable = h NotAssignable
+  at_place a i h once Limit = h Limit
+  at_place a i h once _ = refl
 
   -- the first statement is declared by none before it
   none_before : (o : Option ℕ) → is_below 0 o ≡ false
@@ -119,7 +130,8 @@ module _ (made : ℕ → ℕ) (spare : Text) (first last place : Place) (ss : Co
   abbrev code1 : List Line
   code1 = all_code made spare ss 0 [] (stop_unless (ends_so false (all_code made spare ss 0 [] [])) last)
 
-  module _ (flow : KeepsFlow lines) (built : AllSayGood (IsBuiltAct means_here) ss) (clean : AllSayGood (IsCleanAct means_here acts) ss) (scalar : have_switch ss ≡ true → IsScalar means_here acts spare) where
+  module _ (flow : KeepsFlow lines) (built : AllSayGood (IsBuiltAct means_here) ss) (clean : AllSayGood (IsCleanAct means_here acts) ss)
+      (anew : (i : ℕ) (s : Line) → slice_get lines i ≡ Some s → redeclares acts i s.act ≡ false) (scalar : have_switch ss ≡ true → IsScalar means_here acts spare) where
     code1_built : AllSay (IsBuiltAct means_here) code1
     code1_built = good_unit (IsBuiltAct means_here) made spare (built_keeps means_here) ss (ends_so false (all_code made spare ss 0 [] [])) last (λ e. built_values means_here spare) built
 
@@ -130,14 +142,15 @@ module _ (made : ℕ → ℕ) (spare : Text) (first last place : Place) (ss : Co
     lines_built true = (refl, code1_built)
     lines_built false = code1_built
 
-    line_clean : (v : Bool) → have_switch ss ≡ v → (i : ℕ) (s : Line) → slice_get (declared_if v first spare code1) i ≡ Some s → (k : FaultKind) → breaks_name means_here acts i s.act k ≡ false
-    line_clean true e zero s is k = let same : record { label = None; place = first; act = declaration spare } ≡ s = cc in subst (λ (y : Line). breaks_name means_here acts 0 y.act k ≡ false) same (declaration_clean means_here acts spare (scalar e) k)
-    line_clean true e (suc i) s is k = said_at (IsCleanAct means_here acts) code1 i s code1_clean is (suc i) k
-    line_clean false e i s is k = said_at (IsCleanAct means_here acts) code1 i s code1_clean is i k
+    line_clean : (v : Bool) → have_switch ss ≡ v → ((i : ℕ) (s : Line) → slice_get (declared_if v first spare code1) i ≡ Some s → redeclares acts i s.act ≡ false) →
+        (i : ℕ) (s : Line) → slice_get (declared_if v first spare code1) i ≡ Some s → (k : FaultKind) → breaks_name means_here acts i s.act k ≡ false
+    line_clean true e once zero s is k = let same : record { label = None; place = first; act = declaration spare } ≡ s = cc in subst (λ (y : Line). breaks_name means_here acts 0 y.act k ≡ false) same (declaration_clean means_here acts spare (scalar e) k)
+    line_clean true e once (suc i) s is k = at_place means_here acts s.act (suc i) (said_at (IsCleanAct means_here acts) code1 i s code1_clean is) (once (suc i) s is) k
+    line_clean false e once i s is k = at_place means_here acts s.act i (said_at (IsCleanAct means_here acts) code1 i s code1_clean is) (once i s is) k
 
     kept : (i : ℕ) (o : Option Line) → slice_get lines i ≡ o → (k : FaultKind) → is_some_and (λ s. breaks_flow Whole lines i s k) o ≡ false → is_some_and (λ s. breaks_line Whole means_here acts lines i s k) o ≡ false
     kept i None e k h = refl
-    kept i (Some s) e k h = or_from (breaks_flow Whole lines i s k) _ h (line_clean (have_switch ss) refl i s e k)
+    kept i (Some s) e k h = or_from (breaks_flow Whole lines i s k) _ h (line_clean (have_switch ss) refl anew i s e k)
 
     pub unit_sound : IsSound unit
     unit_sound = record { built = ap (option_map (λ i. i + 1)) (all_built means_here lines (lines_built (have_switch ss))); clean = part }

@@ -1,7 +1,13 @@
 -- What is added to the statements of a unit.
-use Rattle.std.specs.Prelude.{◌≡◌, ℕ, ◌+◌, Bool, List, ◌++◌, Option, Some, None, codes, if◌then◌else◌}
+use Rattle.std.specs.Prelude.{◌≡◌, ℕ, ◌+◌, Bool, List, ◌++◌, map, Option, Some, None, if◌then◌else◌}
+use Rattle.std.specs.List.{flat_map}
 use Rattle.name_alloc.specs.Numbers.{made_number}
-use Rattle.f66_tree.specs.Forms.{Text, Line}
+use Rattle.name_alloc.specs.MadeNames.{next_name, unused, keeping_all}
+use Rattle.f66_names.specs.Declaring.{declared_in}
+use Rattle.f66_names.specs.Uses.{uses_in}
+use Rattle.rat_check.specs.Parts.{unit_parts}
+use Rattle.rat_check.specs.Said.{said_in}
+use Rattle.f66_tree.specs.Forms.{Text, Act, Line}
 use Rattle.rat_tree.specs.Commands.{Command, Commands, Clauses}
 use Rattle.rat_lower.specs.Code.{Rings, labels, all_labels, clause_labels, code_of, all_code, tests, bodies}
 
@@ -15,9 +21,17 @@ pub record Making : Type 0 where
 abbrev pub labels_past : List ℕ → ℕ → ℕ
 labels_past taken i = made_number 23000 taken i
 
--- the spare name of a unit
-abbrev pub spare_name : Text
-spare_name = codes "Z00001"
+-- the names that a statement declares or uses
+abbrev pub named_in : Act → List Text
+named_in a = map (λ d. d.name) (declared_in a) ++ map (λ u. u.name) (uses_in a)
+
+-- the names of the source, once more for each place where one stands
+abbrev pub names_of : Commands → List Text
+names_of ss = flat_map named_in (said_in (unit_parts ss))
+
+-- the spare name of a unit: Z with the first number from 1 on that none of its names has there
+abbrev pub spare_name : Commands → Text
+spare_name ss = next_name (keeping_all (names_of ss) unused)
 
 -- new is old with some statements more: f puts these before others
 pub record Adds (old new : List Line) (f : List Line → List Line) : Type 0 where

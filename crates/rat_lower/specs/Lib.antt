@@ -3,5 +3,4 @@ pub mod OneUnit
 pub mod Checked
 pub mod Around
 pub mod Emitted
-pub mod Profile
 pub mod Lowered

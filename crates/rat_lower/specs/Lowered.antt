@@ -1,5 +1,5 @@
 -- The unit of FORTRAN that a main unit of Ratfor becomes, and what is refused.
-use Rattle.std.specs.Prelude.{◌≡◌, ℕ, ◌+◌, nat_le, false, List, [], length, Option, Some, None, if◌then◌else◌}
+use Rattle.std.specs.Prelude.{◌≡◌, ℕ, ◌+◌, nat_le, nat_lt, ◌&&◌, false, List, [], length, Option, Some, None, if◌then◌else◌}
 use Rattle.ground.specs.declared.place.Place.{Place}
 use Rattle.ground.specs.declared.fault.Fault.{Fault}
 use Rattle.ground.specs.declared.fault.FaultKind.{FaultKind}
@@ -13,11 +13,11 @@ use Rattle.rat_check.specs.Parts.{unit_parts}
 use Rattle.rat_check.specs.FirstFault.{or_else, unit_fault}
 use Rattle.rat_check.specs.Survey.{own_labels}
 use Rattle.rat_lower.specs.Code.{all_labels, unit_code}
-use Rattle.rat_lower.specs.Emitted.{labels_past, spare_name}
+use Rattle.rat_lower.specs.Emitted.{labels_past, names_of, spare_name}
 
 -- its labels are made from 23000 on, without these; the places are that of the unit and that of the end of the text
 abbrev pub lowered : List ℕ → Place → Place → Commands → List Line
-lowered taken first last ss = unit_code (labels_past taken) spare_name first last ss
+lowered taken first last ss = unit_code (labels_past taken) (spare_name ss) first last ss
 
 -- the labels of the source, each once in reading order
 abbrev pub source_labels : Commands → List ℕ
@@ -27,10 +27,11 @@ source_labels ss = own_labels (unit_parts ss) []
 abbrev pub label_count : Commands → ℕ
 label_count ss = length (source_labels ss) + all_labels ss
 
+-- and one of the names Z00001 to Z99999 is that of no name of the source
 abbrev pub room_fault : RatRoutine → Option Fault
-room_fault u = if nat_le (label_count u.body) 77000 then None else Some (record { kind = Limit; place = u.place; number = 6 })
+room_fault u = if nat_le (label_count u.body) 77000 && nat_lt (length (names_of u.body)) 99999 then None else Some (record { kind = Limit; place = u.place; number = 6 })
 
--- what the checks refuse, and then what has too many labels
+-- what the checks refuse, and then what has too many labels or names
 abbrev pub lower_fault : RatRoutine → Option Fault
 lower_fault u = or_else (unit_fault u) (room_fault u)
 

@@ -7,6 +7,7 @@ mod emission;
 mod lines;
 mod main_unit;
 mod maker;
+mod names;
 mod unit;
 
 use around::{Around, Turn, label_again, label_behind};
@@ -18,4 +19,5 @@ use lines::{
 };
 pub use main_unit::lower;
 use maker::Maker;
+use names::{has_name, names_in};
 use unit::lower_body;

@@ -1,6 +1,8 @@
 // The labels and the spare name of a unit.
-ghost use Rattle.std.specs.Prelude.{◌≡◌, ℕ, ◌+◌, ◌<◌, ◌≤◌, length, IfOk, OnOk};
-ghost use Rattle.rat_lower.specs.Emitted.{labels_past, spare_name};
+ghost use Rattle.std.specs.Prelude.{◌≡◌, ℕ, ◌+◌, ◌<◌, ◌≤◌, [], length, IfOk, OnOk};
+ghost use Rattle.name_alloc.specs.Numbers.{starting};
+ghost use Rattle.name_alloc.specs.MadeNames.{next_name};
+ghost use Rattle.rat_lower.specs.Emitted.{labels_past};
 
 use f66_tree::Name;
 use ground::Memory;
@@ -30,18 +32,20 @@ impl Model for Maker {
 }
 
 impl Maker {
-    /// No label is made yet, and these are taken.
-    pub fn new(alloc: Global, taken: &[u32]) -> Result<Maker, Memory>
+    /// The names are those of the source, and `taken` are its labels.
+    pub fn new(alloc: Global, mut names: Names, taken: &[u32]) -> Result<Maker, Memory>
+        requires none_made { names.numbers.made ≡ [] }
+        requires few_names { length names.kept < 99999 }
+        requires no_labels { names.labels ≡ starting 23000 }
         ensures made { IfOk result (λ maker. maker.made ≡ 0) }
-        ensures spare { IfOk result (λ maker. maker.spare ≡ spare_name) }
+        ensures spare { IfOk result (λ maker. maker.spare ≡ next_name names) }
         ensures few { IfOk result (λ maker. length maker.taken ≤ length taken.now) }
         ensures labels { IfOk result (λ maker. (i : ℕ) → labels_past maker.taken i ≡ labels_past taken.now i) }
     {
-        let mut names = Names::new(alloc);
+        let spare = names.fresh_name()?;
         for label in taken {
             names.keep_label(*label)?;
         }
-        let spare = names.fresh_name()?;
         Ok(Maker {
             alloc,
             names,

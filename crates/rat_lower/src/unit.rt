@@ -1,34 +1,37 @@
 // The statements of a main unit.
-ghost use Rattle.std.specs.Prelude.{◌≡◌, ◌+◌, ◌++◌, ◌≤◌, length, true, false, IfOk, OnOk};
-ghost use Rattle.f66_tree.specs.Built.{is_built_unit};
+ghost use Rattle.std.specs.Prelude.{◌≡◌, ◌+◌, ◌++◌, ◌≤◌, ◌<◌, [], length, true, false, IfOk, OnOk};
 ghost use Rattle.f66_tree.specs.Units.{is_note};
 ghost use Rattle.f66_tree.specs.Views.{act_of, lines_of};
 ghost use Rattle.rat_tree.specs.Views.{commands};
 ghost use Rattle.rat_lower.specs.Code.{all_labels, declared_if, ends_so, is_transfer, stop_unless, unit_code};
-ghost use Rattle.rat_lower.specs.OneUnit.{notes_of_unit};
-ghost use Rattle.rat_lower.specs.Profile.{AreInProfile};
-ghost use Rattle.rat_lower.specs.Emitted.{Adds, labels_past, spare_name};
+ghost use Rattle.name_alloc.specs.Numbers.{starting};
+ghost use Rattle.name_alloc.specs.MadeNames.{next_name};
+ghost use Rattle.rat_lower.specs.Emitted.{Adds, labels_past};
 
 use crate::{Around, Maker, emit_all, have_switch, put};
 use f66_tree::{Declared, Stmt, StmtKind, TypeWord};
 use ground::{List, Memory, Place};
+use name_alloc::Names;
 use rat_tree::RatUnit;
 use std::alloc::{AllocError, Global};
 
-/// The statements of FORTRAN that do what a main unit does whose text ends at `finish`. `taken` are the labels of its source,
-/// which the labels that are made differ from.
+/// The statements of FORTRAN that do what a main unit does whose text ends at `finish`. `names` are the names of its source,
+/// and `taken` its labels, which those that are made differ from.
 pub fn lower_body(
     alloc: Global,
+    names: Names,
     taken: &[u32],
     unit: &RatUnit,
     finish: Place,
 ) -> Result<List<Stmt>, Memory>
-    requires { length taken.now + all_labels (commands unit.now.body.items) ≤ 77000 }
-    ensures code { IfOk result (λ code. lines_of code.items ≡ unit_code (labels_past taken.now) spare_name unit.now.place finish (commands unit.now.body.items)) }
+    requires room { length taken.now + all_labels (commands unit.now.body.items) ≤ 77000 }
+    requires none_made { names.numbers.made ≡ [] }
+    requires few_names { length names.kept < 99999 }
+    requires no_labels { names.labels ≡ starting 23000 }
+    ensures code { IfOk result (λ code. lines_of code.items ≡ unit_code (labels_past taken.now) (next_name names) unit.now.place finish (commands unit.now.body.items)) }
     ensures ends { IfOk result (λ code. ends_so false (lines_of code.items) ≡ true) }
-    ensures built { IfOk result (λ code. AreInProfile (notes_of_unit (commands unit.now.body.items)) (commands unit.now.body.items) → is_built_unit (lines_of code.items) ≡ true) }
 {
-    let mut maker = Maker::new(alloc, taken)?;
+    let mut maker = Maker::new(alloc, names, taken)?;
     let mut code = Vec::new(alloc);
     put_spare(&maker, &mut code, unit.place, have_switch(&unit.body))?;
     emit_all(&mut maker, &mut code, &unit.body, &Around::Outside)?;

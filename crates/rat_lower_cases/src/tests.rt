@@ -48,10 +48,10 @@ fn fault_shown(alloc: Global, fault: Fault) -> Result<String, AllocError> {
 }
 
 /// The run of a unit, or its fault.
-#[tactic(auto, using(unit_walk::proofs::BuiltLemmas::built_is_walked))]
+#[tactic(auto, using(unit_walk::proofs::SoundUnits::sound_is_walked))]
 fn run_of(alloc: Global, unit: &RatUnit, limit: u64) -> Result<Result<Walked, Fault>, Fail> {
     match lower(alloc, unit, at(99)) {
-        Ok(made) => match walk(alloc, &made.statements, limit) {
+        Ok(made) => match walk(alloc, &made.unit().statements, limit) {
             Ok(walked) => Ok(Ok(walked)),
             Err(_) => Err("memory")?,
         },

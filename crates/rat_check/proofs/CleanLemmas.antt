@@ -1,0 +1,86 @@
+-- What each part keeps in a unit without a fault.
+use Rattle.std.proofs.Common.{◌≡◌, ℕ, Bool, true, false, true≢false, List, [], ◌∷◌, Option, Some, None, refl, sym}
+use Rattle.std.specs.Prelude.{not, ◌&&◌, ◌||◌, if◌then◌else◌, ⊤}
+use Rattle.std.proofs.lemmas.Bool.{or_parts}
+use Rattle.std.proofs.lemmas.Option.{none-some}
+use Rattle.ground.specs.declared.place.Place.{Place}
+use Rattle.ground.specs.declared.fault.FaultKind.{FaultKind}
+use Rattle.ground.specs.declared.fault.FaultKind.TheVariants.{Syntax, BadLabel, BadBreak, DuplicateCase}
+use Rattle.rule_table.proofs.RuleLemmas.{first_rule-least}
+use Rattle.rat_check.specs.Parts.{Part}
+use Rattle.rat_check.specs.Said.{said_by, context_of}
+use Rattle.rat_check.specs.Rules.{is_built_form, Before, nothing_before, behind, Whole, is_late, is_own_label, finds_labels, is_second_default, breaks_own, break_names, breaks, broken_rule}
+use Rattle.rat_check.specs.FirstFault.{or_else, first_unbuilt, fault_if, first_broken, whole_of, unbuilt_at, fault_of_parts}
+
+-- ---- truth values and faults ----
+
+pub and_true : (a b : Bool) → (a && b) ≡ true → (a ≡ true) × (b ≡ true)
+and_true true b e = (refl, e)
+and_true false b e = absurd (true≢false (sym e))
+
+not_false : (a : Bool) → not a ≡ false → a ≡ true
+not_false true e = refl
+not_false false e = absurd (true≢false e)
+
+or_none : {A : Type 0} (a b : Option A) → or_else a b ≡ None → (a ≡ None) × (b ≡ None)
+or_none None b e = (refl, e)
+or_none (Some x) b e = absurd (none-some x (sym e))
+
+no_rule : (p : Place) (o : Option FaultKind) → fault_if p o ≡ None → o ≡ None
+no_rule p None e = refl
+no_rule p (Some kind) e = absurd (none-some _ (sym e))
+
+no_place : (o : Option Place) → unbuilt_at o ≡ None → o ≡ None
+no_place None e = refl
+no_place (Some p) e = absurd (none-some _ (sym e))
+
+built_none : (b : Bool) (p : Place) (o : Option Place) → (if b then o else Some p) ≡ None → (b ≡ true) × (o ≡ None)
+built_none true p o e = (refl, e)
+built_none false p o e = absurd (none-some p (sym e))
+
+-- ---- a part without a fault ----
+
+-- what a part without a fault keeps, behind those before it
+pub record Keeps (u : Whole) (b : Before) (v : Part) : Type 0 where
+  pub early : is_late b.begun v.form ≡ false
+  pub own : is_own_label b.labels v.label ≡ true
+  pub found : finds_labels u.formats v.reached v.form ≡ true
+  pub inside : v.inside ≡ true
+  pub single : is_second_default v.form ≡ false
+  pub named : (k : FaultKind) → break_names u.context u.said b.said (said_by v.form) k ≡ false
+
+keeps : (u : Whole) (b : Before) (v : Part) → broken_rule u b v ≡ None → Keeps u b v
+keeps u b v e =
+    let clean : (k : FaultKind) → breaks u b v k ≡ false = first_rule-least (breaks u b v) None (sym e) in
+    let rule : (k : FaultKind) → (breaks_own u.formats b v k ≡ false) × (break_names u.context u.said b.said (said_by v.form) k ≡ false) = λ k. or_parts (breaks_own u.formats b v k) _ (clean k) in
+    let labels = and_true (is_own_label b.labels v.label) (finds_labels u.formats v.reached v.form) (not_false _ (rule BadLabel).0) in
+    record { early = (rule Syntax).0; own = labels.0; found = labels.1; inside = not_false v.inside (rule BadBreak).0; single = (rule DuplicateCase).0; named = λ k. (rule k).1 }
+
+-- the first part keeps the rules, and those behind it do
+pub first_keeps : (u : Whole) (b : Before) (v : Part) (vs : List Part) → first_broken u b (v ∷ vs) ≡ None → Keeps u b v × (first_broken u (behind b v) vs ≡ None)
+first_keeps u b v vs e =
+    let n = or_none (fault_if v.place (broken_rule u b v)) (first_broken u (behind b v) vs) e in
+    (keeps u b v (no_rule v.place (broken_rule u b v) n.0), n.1)
+
+-- ---- a unit without a fault ----
+
+-- each part is built, and keeps the rules behind those before it
+abbrev pub AllKeep : Whole → Before → List Part → Type 0
+AllKeep u b [] = ⊤
+AllKeep u b (v ∷ vs) = (is_built_form u.context v.form ≡ true) × Keeps u b v × AllKeep u (behind b v) vs
+
+all_keep : (u : Whole) (b : Before) (vs : List Part) → first_unbuilt u.context vs ≡ None → first_broken u b vs ≡ None → AllKeep u b vs
+all_keep u b [] built clean = tt
+all_keep u b (v ∷ vs) built clean =
+    let n = first_keeps u b v vs clean in
+    let k = built_none (is_built_form u.context v.form) v.place (first_unbuilt u.context vs) built in
+    (k.0, n.0, all_keep u (behind b v) vs k.1 n.1)
+
+pub record Passed (vs : List Part) : Type 0 where
+  pub keep : AllKeep (whole_of vs) nothing_before vs
+  pub unbroken : first_broken (whole_of vs) nothing_before vs ≡ None
+
+pub passed : (vs : List Part) → fault_of_parts vs ≡ None → Passed vs
+passed vs e =
+    let n = or_none (unbuilt_at (first_unbuilt (context_of vs) vs)) (first_broken (whole_of vs) nothing_before vs) e in
+    record { keep = all_keep (whole_of vs) nothing_before vs (no_place (first_unbuilt (context_of vs) vs) n.0) n.1; unbroken = n.1 }

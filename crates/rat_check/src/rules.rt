@@ -1,0 +1,104 @@
+// What a part of a unit breaks.
+ghost use Rattle.std.specs.Prelude.{◌≡◌, ◌+◌, ◌<◌, ◌^◌, length, IfOk};
+ghost use Rattle.rule_table.specs.FaultRules.{first_rule};
+ghost use Rattle.f66_names.specs.ActViews.{acts_of};
+ghost use Rattle.f66_names.specs.DeclarationViews.{context_in, acts_in};
+ghost use Rattle.rat_check.specs.Rules.{is_late, is_own_label, finds_labels, breaks_own, break_names, broken_rule as rule_broken};
+ghost use Rattle.rat_check.specs.Said.{said_by};
+ghost use Rattle.rat_check.specs.FormViews.{form_of};
+ghost use Rattle.rat_check.specs.PartViews.{part_of, before_of, whole_in};
+ghost use Rattle.rat_check.specs.Survey.{is_among};
+
+use crate::{Before, Form, LabelSet, Part};
+use f66_flow::is_specification;
+use f66_names::{Names, Saying, saying_rule};
+use f66_tree::StmtKind;
+use ground::FaultKind;
+use rule_table::lesser;
+use std::alloc::{AllocError, Global};
+
+/// Of the rules that a part, which says this of names, breaks, that with the smallest number.
+pub fn broken_rule(
+    alloc: Global,
+    names: &Names,
+    formats: &LabelSet,
+    before: &Before,
+    part: &Part,
+    sayings: &[Saying],
+) -> Result<Option<FaultKind>, AllocError>
+    requires said { acts_of sayings.now ≡ said_by (form_of part.now.form) }
+    requires within { before.now.said + length sayings.now < 2 ^ 64 }
+    ensures { IfOk result (λ o. o ≡ rule_broken (whole_in names.now formats.now) (before_of before.now) (part_of part.now)) }
+{
+    let own = own_rule(formats, before, part);
+    let by_names = names_rule(alloc, names, before.said, sayings)?;
+    Ok(lesser(own, by_names))
+}
+
+/// The rules of Ratfor itself.
+fn own_rule(formats: &LabelSet, before: &Before, part: &Part) -> Option<FaultKind>
+    ensures { result ≡ first_rule (breaks_own (is_among formats.now) (before_of before.now) (part_of part.now)) }
+{
+    if is_late(before.begun, part.form) {
+        return Some(FaultKind::Syntax);
+    }
+    if !is_own_label(&before.labels, part.label)
+        || !finds_labels(formats, part.reached, part.form)
+    {
+        return Some(FaultKind::BadLabel);
+    }
+    if !part.inside {
+        return Some(FaultKind::BadBreak);
+    }
+    if part.form.is_second_default() {
+        return Some(FaultKind::DuplicateCase);
+    }
+    None
+}
+
+/// The rules of names, types, counts, constants and stores, where the first saying is the n-th of the unit.
+fn names_rule(
+    alloc: Global,
+    names: &Names,
+    n: usize,
+    sayings: &[Saying],
+) -> Result<Option<FaultKind>, AllocError>
+    requires { n + length sayings.now < 2 ^ 64 }
+    ensures { IfOk result
+        (λ o. o ≡ first_rule (break_names (context_in names.now.declarations) (acts_in names.now.declarations) n (acts_of sayings.now))) }
+{
+    let mut broken = None;
+    for (i, saying) in sayings.iter().enumerate() {
+        let rule = saying_rule(alloc, names, n + i, saying)?;
+        broken = lesser(broken, rule);
+    }
+    Ok(broken)
+}
+
+/// Whether it is a specification behind an executable statement.
+fn is_late(begun: bool, form: Form) -> bool
+    ensures { result ≡ is_late begun (form_of form.entry) }
+{
+    match form {
+        Form::Says(kind) => is_specification(kind) && begun,
+        _ => false,
+    }
+}
+
+fn is_own_label(before: &LabelSet, label: Option<u32>) -> bool
+    ensures { result ≡ is_own_label (is_among before.now) label }
+{
+    match label {
+        None => true,
+        Some(label) => 1 <= label && label <= 99_999 && !before.contains(label),
+    }
+}
+
+fn finds_labels(formats: &LabelSet, reached: bool, form: Form) -> bool
+    ensures { result ≡ finds_labels (is_among formats.now) reached (form_of form.entry) }
+{
+    match form {
+        Form::Says(StmtKind::Write(_, label, _)) => formats.contains(*label),
+        _ => reached,
+    }
+}

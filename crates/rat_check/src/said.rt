@@ -1,0 +1,76 @@
+// What the parts of a unit say of names.
+ghost use Rattle.std.specs.Prelude.{◌≡◌, ◌++◌, ◌∷◌, [], IfOk, OnOk};
+ghost use Rattle.f66_tree.specs.Views.{formula_of, formulas_of, act_of};
+ghost use Rattle.rat_tree.specs.Views.{act_if_any, formula_if_any};
+ghost use Rattle.f66_names.specs.ActViews.{act_said, acts_of};
+ghost use Rattle.rat_check.specs.Said.{said_by, values, condition_if_any, act_if_any as said_if_any};
+ghost use Rattle.rat_check.specs.FormViews.{form_of};
+
+use crate::Form;
+use f66_names::Saying;
+use f66_tree::{Expr, StmtKind};
+use std::alloc::{AllocError, Global};
+
+/// What a part says of names, in reading order.
+pub fn sayings_of<'a>(alloc: Global, form: Form<'a>) -> Result<Vec<Saying<'a>>, AllocError>
+    ensures { IfOk result (λ v. acts_of v.items ≡ said_by (form_of form.entry)) }
+{
+    let mut sayings = Vec::new(alloc);
+    add_form(form, &mut sayings)?;
+    Ok(sayings)
+}
+
+/// Adds what a part says of names.
+pub fn add_form<'a>(form: Form<'a>, sayings: &mut Vec<Saying<'a>>) -> Result<(), AllocError>
+    ensures { OnOk result (acts_of sayings.new.items ≡ acts_of sayings.old.items ++ said_by (form_of form.entry)) }
+{
+    match form {
+        Form::Rests | Form::Repeating | Form::Leaving(_) | Form::Returning => Ok(()),
+        Form::Says(kind) => add(Saying::Act(kind), sayings),
+        Form::Asks(e) => add(Saying::Condition(e), sayings),
+        Form::Takes(e) => add(Saying::Value(e), sayings),
+        Form::Compares(list, _) => add_values(list, sayings),
+        Form::Prepares(first, e, step) => {
+            add_act(first, sayings)?;
+            add_condition(e, sayings)?;
+            add_act(step, sayings)
+        }
+        Form::Counting(name, first, last, step) => {
+            add(Saying::Counting(name, first, last, step), sayings)
+        }
+    }
+}
+
+fn add<'a>(saying: Saying<'a>, sayings: &mut Vec<Saying<'a>>) -> Result<(), AllocError>
+    ensures { OnOk result (acts_of sayings.new.items ≡ acts_of sayings.old.items ++ act_said saying.entry ∷ []) }
+{
+    sayings.push(saying)?;
+    Ok(())
+}
+
+fn add_values<'a>(list: &'a [Expr], sayings: &mut Vec<Saying<'a>>) -> Result<(), AllocError>
+    ensures { OnOk result (acts_of sayings.new.items ≡ acts_of sayings.old.items ++ values (formulas_of list.now)) }
+{
+    for e in list {
+        sayings.push(Saying::Value(e))?;
+    }
+    Ok(())
+}
+
+fn add_act<'a>(kind: &'a Option<StmtKind>, sayings: &mut Vec<Saying<'a>>) -> Result<(), AllocError>
+    ensures { OnOk result (acts_of sayings.new.items ≡ acts_of sayings.old.items ++ said_if_any (act_if_any kind.now)) }
+{
+    match kind {
+        None => Ok(()),
+        Some(kind) => add(Saying::Act(kind), sayings),
+    }
+}
+
+fn add_condition<'a>(e: &'a Option<Expr>, sayings: &mut Vec<Saying<'a>>) -> Result<(), AllocError>
+    ensures { OnOk result (acts_of sayings.new.items ≡ acts_of sayings.old.items ++ condition_if_any (formula_if_any e.now)) }
+{
+    match e {
+        None => Ok(()),
+        Some(e) => add(Saying::Condition(e), sayings),
+    }
+}

@@ -1,0 +1,205 @@
+-- Where names have the same forms and types in two units, a statement breaks the same rules of names there, and is built alike.
+use Rattle.std.proofs.Common.{◌≡◌, ℕ, Bool, false, List, [], ◌∷◌, ◌++◌, refl, ap, ◌∙◌}
+use Rattle.std.specs.Prelude.{not, ◌&&◌, ◌||◌}
+use Rattle.std.specs.List.{list_any}
+use Rattle.ground.specs.declared.value.Kind.{Kind}
+use Rattle.ground.specs.declared.value.Kind.TheVariants.{Integer, Logical}
+use Rattle.ground.specs.declared.fault.FaultKind.{FaultKind}
+use Rattle.ground.specs.declared.fault.FaultKind.TheVariants.{Syntax, NameTooLong, OutOfProfileType, TypeClash, WrongCount, DuplicateName, BadConstant, BadFormat, NotAssignable, Limit}
+use Rattle.rule_table.specs.Words.{is_some_and}
+use Rattle.f66_tree.specs.Forms.{Text, Formula, Number, Fact, Letter, Variable, Applied, Grouped, Positive, Negative, Negated, Joined, Formulas, Nought, Also, Par, Constant, Named, Declared, Entry, One, Many, Entries, NoEntry, AndEntry, Act, Assigns, Selects, Signs, Chooses, Loops, Writes}
+use Rattle.f66_tree.specs.Units.{Context, kind_by, kind_of}
+use Rattle.f66_tree.specs.Built.{is_printer}
+use Rattle.f66_names.specs.Declaring.{declared_in}
+use Rattle.f66_names.specs.Sorts.{form_of, type_of, is_array_form, is_array, is_integer, is_counter}
+use Rattle.f66_names.specs.Uses.{Usage, uses_of, uses_of_all, uses_of_target, uses_of_par, uses_of_entry, uses_of_entries, uses_in}
+use Rattle.f66_names.specs.Kinds.{is_number, is_index, is_times, is_plus_or_minus, is_multiple, is_shifted, is_subscript, are_subscripts, same_kind, is_kind, operand, outcome, when, kind_applied, kind_in, are_integers, takes_kind, is_counting, is_listed, is_entry, are_entries, clashes}
+use Rattle.f66_names.specs.StoreRules.{is_assignable, stores_wrong}
+use Rattle.f66_names.specs.NameRules.{is_other, gives_other, has_other_type, has_wrong_sizes, miscounts_by, miscounts, has_wrong_count, class_by, class_used, is_duplicate}
+use Rattle.f66_names.specs.BuiltActs.{is_one_place, is_one_entry, is_last, is_one_item, is_function_by, is_function, is_built_form, is_built}
+use Rattle.f66_names.specs.Rules.{breaks_name}
+use Rattle.rat_lower.proofs.ActNames.{AllUsed, AllDeclared, used_split}
+
+module _ (c d : Context) (K : Text → Type 0) (forms : (x : Text) → K x → form_of d x ≡ form_of c x) (types : (x : Text) → K x → type_of d x ≡ type_of c x) where
+  -- ---- names ----
+
+  kinds : (x : Text) → K x → kind_of d x ≡ kind_of c x
+  kinds x k = ap kind_by (types x k)
+
+  arrays : (x : Text) → K x → is_array d x ≡ is_array c x
+  arrays x k = ap is_array_form (forms x k)
+
+  counters : (x : Text) → K x → is_counter d x ≡ is_counter c x
+  counters x k = ap (λ b. not b && is_integer (kind_of d x)) (arrays x k) ∙ ap (λ t. not (is_array c x) && is_integer t) (kinds x k)
+
+  miscounted : (u : Usage) → K u.name → miscounts d u ≡ miscounts c u
+  miscounted u k = ap (λ f. miscounts_by f u.manner) (forms u.name k)
+
+  pub classed : (u : Usage) → K u.name → class_used d u ≡ class_used c u
+  classed u k = ap (λ f. class_by f u.manner) (forms u.name k)
+
+  functions : (u : Usage) → K u.name → is_function d u ≡ is_function c u
+  functions u k = ap (λ f. is_function_by f u.manner) (forms u.name k)
+
+  any_use : (f g : Usage → Bool) → ((u : Usage) → K u.name → f u ≡ g u) → (us : List Usage) → AllUsed K us → list_any f us ≡ list_any g us
+  any_use f g same [] h = refl
+  any_use f g same (u ∷ us) h = ap (λ b. b || list_any f us) (same u h.0) ∙ ap (λ b. g u || b) (any_use f g same us h.1)
+
+  any_declared : (f g : Declared → Bool) → ((x : Declared) → K x.name → f x ≡ g x) → (ds : List Declared) → AllDeclared K ds → list_any f ds ≡ list_any g ds
+  any_declared f g same [] h = refl
+  any_declared f g same (x ∷ ds) h = ap (λ b. b || list_any f ds) (same x h.0) ∙ ap (λ b. g x || b) (any_declared f g same ds h.1)
+
+  -- ---- expressions ----
+
+  index : (e : Formula) → AllUsed K (uses_of e) → is_index d e ≡ is_index c e
+  index (Variable x) h = counters x h.0
+  index _ h = refl
+
+  multiple : (e : Formula) → AllUsed K (uses_of e) → is_multiple d e ≡ is_multiple c e
+  multiple (Variable x) h = counters x h.0
+  multiple (Joined op a b) h = ap (λ v. is_times op && (is_number a && v)) (index b (used_split K (uses_of a) (uses_of b) h).1)
+  multiple _ h = refl
+
+  shifted : (e : Formula) → AllUsed K (uses_of e) → is_shifted d e ≡ is_shifted c e
+  shifted (Joined op a b) h = ap (λ v. is_plus_or_minus op && (v && is_number b)) (multiple a (used_split K (uses_of a) (uses_of b) h).0)
+  shifted _ h = refl
+
+  subscript : (e : Formula) → AllUsed K (uses_of e) → is_subscript d e ≡ is_subscript c e
+  subscript e h = ap (λ v. is_number e || (v || is_shifted d e)) (multiple e h) ∙ ap (λ v. is_number e || (is_multiple c e || v)) (shifted e h)
+
+  subscripts : (es : Formulas) → AllUsed K (uses_of_all es) → are_subscripts d es ≡ are_subscripts c es
+  subscripts Nought h = refl
+  subscripts (Also e es) h =
+      let k = used_split K (uses_of e) (uses_of_all es) h in
+      ap (λ v. v && are_subscripts d es) (subscript e k.0) ∙ ap (λ v. is_subscript c e && v) (subscripts es k.1)
+
+  mutual
+    kinded : (e : Formula) → AllUsed K (uses_of e) → kind_in d e ≡ kind_in c e
+    kinded (Number z) h = refl
+    kinded (Fact b) h = refl
+    kinded (Letter l) h = refl
+    kinded (Variable x) h = ap (λ b. when (not b) (kind_of d x)) (arrays x h.0) ∙ ap (λ t. when (not (is_array c x)) t) (kinds x h.0)
+    kinded (Applied x es) h =
+        ap (λ f. kind_applied f (kind_of d x) (are_subscripts d es) (are_integers d es)) (forms x h.0)
+        ∙ ap (λ t. kind_applied (form_of c x) t (are_subscripts d es) (are_integers d es)) (kinds x h.0)
+        ∙ ap (λ b. kind_applied (form_of c x) (kind_of c x) b (are_integers d es)) (subscripts es h.1)
+        ∙ ap (λ b. kind_applied (form_of c x) (kind_of c x) (are_subscripts c es) b) (integers es h.1)
+    kinded (Grouped a) h = kinded a h
+    kinded (Positive a) h = ap (λ o. when (is_kind Integer o) Integer) (kinded a h)
+    kinded (Negative a) h = ap (λ o. when (is_kind Integer o) Integer) (kinded a h)
+    kinded (Negated a) h = ap (λ o. when (is_kind Logical o) Logical) (kinded a h)
+    kinded (Joined op a b) h =
+        let k = used_split K (uses_of a) (uses_of b) h in
+        ap (λ o. when (is_kind (operand op) o && is_kind (operand op) (kind_in d b)) (outcome op)) (kinded a k.0)
+        ∙ ap (λ o. when (is_kind (operand op) (kind_in c a) && is_kind (operand op) o) (outcome op)) (kinded b k.1)
+
+    integers : (es : Formulas) → AllUsed K (uses_of_all es) → are_integers d es ≡ are_integers c es
+    integers Nought h = refl
+    integers (Also e es) h =
+        let k = used_split K (uses_of e) (uses_of_all es) h in
+        ap (λ o. is_kind Integer o && are_integers d es) (kinded e k.0) ∙ ap (λ b. is_kind Integer (kind_in c e) && b) (integers es k.1)
+
+  -- ---- statements ----
+
+  taken : (x : Formula) → AllUsed K (uses_of_target x) → (t : Kind) → takes_kind d x t ≡ takes_kind c x t
+  taken (Variable x) h t = ap (λ b. b || same_kind (kind_of d x) t) (arrays x h.0) ∙ ap (λ q. is_array c x || same_kind q t) (kinds x h.0)
+  taken (Applied x es) h t =
+      ap (λ b. not b || (are_subscripts d es && same_kind (kind_of d x) t)) (arrays x h.0)
+      ∙ ap (λ b. not (is_array c x) || (b && same_kind (kind_of d x) t)) (subscripts es h.1)
+      ∙ ap (λ q. not (is_array c x) || (are_subscripts c es && same_kind q t)) (kinds x h.0)
+  taken _ h t = refl
+
+  counting : (p : Par) → AllUsed K (uses_of_par p) → is_counting d p ≡ is_counting c p
+  counting (Constant z) h = refl
+  counting (Named x) h = counters x h.0
+
+  listed : (e : Formula) → AllUsed K (uses_of e) → is_listed d e ≡ is_listed c e
+  listed (Applied x es) h = ap (λ b. b && are_subscripts d es) (arrays x h.0) ∙ ap (λ b. is_array c x && b) (subscripts es h.1)
+  listed _ h = refl
+
+  entry : (e : Entry) → AllUsed K (uses_of_entry e) → is_entry d e ≡ is_entry c e
+  entry (One e) h = listed e h
+  entry (Many es x p q r) h = refl
+
+  entries : (es : Entries) → AllUsed K (uses_of_entries es) → are_entries d es ≡ are_entries c es
+  entries NoEntry h = refl
+  entries (AndEntry e es) h =
+      let k = used_split K (uses_of_entry e) (uses_of_entries es) h in
+      ap (λ b. b && are_entries d es) (entry e k.0) ∙ ap (λ b. is_entry c e && b) (entries es k.1)
+
+  clashed : (a : Act) → AllUsed K (uses_in a) → clashes d a ≡ clashes c a
+  clashed (Assigns x e) h =
+      let k = used_split K (uses_of_target x) (uses_of e) h in
+      ap (λ o. not (is_some_and (takes_kind d x) o)) (kinded e k.1) ∙ ap (λ (f : Kind → Bool). not (is_some_and f (kind_in c e))) (λ i t. taken x k.0 t i)
+  clashed (Selects ls x) h = ap not (counters x h.0)
+  clashed (Signs e l m n) h = ap (λ o. not (is_kind Integer o)) (kinded e h)
+  clashed (Chooses e a) h =
+      let k = used_split K (uses_of e) (uses_in a) h in
+      ap (λ o. not (is_kind Logical o) || clashes d a) (kinded e k.0) ∙ ap (λ b. not (is_kind Logical (kind_in c e)) || b) (clashed a k.1)
+  clashed (Loops l x p q r) h =
+      let k = used_split K (uses_of_par p) (uses_of_par q ++ uses_of_par r) h.1 in
+      let m = used_split K (uses_of_par q) (uses_of_par r) k.1 in
+      ap (λ t. not (is_integer t && (is_counting d p && (is_counting d q && is_counting d r)))) (kinds x h.0)
+      ∙ ap (λ b. not (is_integer (kind_of c x) && (b && (is_counting d q && is_counting d r)))) (counting p k.0)
+      ∙ ap (λ b. not (is_integer (kind_of c x) && (is_counting c p && (b && is_counting d r)))) (counting q m.0)
+      ∙ ap (λ b. not (is_integer (kind_of c x) && (is_counting c p && (is_counting c q && b)))) (counting r m.1)
+  clashed (Writes u l es) h =
+      let k = used_split K (uses_of_par u) (uses_of_entries es) h in
+      ap (λ b. not (b && are_entries d es)) (counting u k.0) ∙ ap (λ b. not (is_counting c u && b)) (entries es k.1)
+  clashed _ h = refl
+
+  assigned : (x : Formula) → AllUsed K (uses_of_target x) → is_assignable d x ≡ is_assignable c x
+  assigned (Variable x) h = ap not (arrays x h.0)
+  assigned (Applied x es) h = arrays x h.0
+  assigned _ h = refl
+
+  stored : (a : Act) → AllUsed K (uses_in a) → stores_wrong d a ≡ stores_wrong c a
+  stored (Assigns x e) h = ap not (assigned x (used_split K (uses_of_target x) (uses_of e) h).0)
+  stored (Loops l x p q r) h = arrays x h.0
+  stored (Chooses e a) h = stored a (used_split K (uses_of e) (uses_in a) h).1
+  stored _ h = refl
+
+  typed : (a : Act) → AllUsed K (uses_in a) → AllDeclared K (declared_in a) → has_other_type d a ≡ has_other_type c a
+  typed a h k =
+      ap (λ b. gives_other a || (b || list_any (λ (u : Usage). is_other (type_of d u.name)) (uses_in a))) (any_declared (λ x. is_other (type_of d x.name)) (λ x. is_other (type_of c x.name)) (λ x e. ap is_other (types x.name e)) (declared_in a) k)
+      ∙ ap (λ b. gives_other a || (list_any (λ (x : Declared). is_other (type_of c x.name)) (declared_in a) || b)) (any_use (λ u. is_other (type_of d u.name)) (λ u. is_other (type_of c u.name)) (λ u e. ap is_other (types u.name e)) (uses_in a) h)
+
+  counted : (a : Act) → AllUsed K (uses_in a) → has_wrong_count d a ≡ has_wrong_count c a
+  counted a h = ap (λ b. has_wrong_sizes a || b) (any_use (miscounts d) (miscounts c) miscounted (uses_in a) h)
+
+  -- what breaks no rule breaks none in the other unit, where it declares nothing again and uses each name in its class
+  pub clean_alike : (acts said : List Act) (i j : ℕ) (a : Act) → AllUsed K (uses_in a) → AllDeclared K (declared_in a) → ((k : FaultKind) → breaks_name c said i a k ≡ false) → is_duplicate d acts j a ≡ false →
+      (k : FaultKind) → breaks_name d acts j a k ≡ false
+  clean_alike acts said i j a h g clean once Syntax = clean Syntax
+  clean_alike acts said i j a h g clean once NameTooLong = clean NameTooLong
+  clean_alike acts said i j a h g clean once OutOfProfileType = typed a h g ∙ clean OutOfProfileType
+  clean_alike acts said i j a h g clean once TypeClash = clashed a h ∙ clean TypeClash
+  clean_alike acts said i j a h g clean once WrongCount = counted a h ∙ clean WrongCount
+  clean_alike acts said i j a h g clean once DuplicateName = once
+  clean_alike acts said i j a h g clean once BadConstant = clean BadConstant
+  clean_alike acts said i j a h g clean once BadFormat = clean BadFormat
+  clean_alike acts said i j a h g clean once NotAssignable = stored a h ∙ clean NotAssignable
+  clean_alike acts said i j a h g clean once Limit = clean Limit
+  clean_alike acts said i j a h g clean once _ = refl
+
+  -- ---- what is built ----
+
+  placed : (e : Formula) → AllUsed K (uses_of e) → is_one_place d e ≡ is_one_place c e
+  placed (Variable x) h = ap not (arrays x h.0)
+  placed _ h = refl
+
+  one_entry : (e : Entry) → AllUsed K (uses_of_entry e) → is_one_entry d e ≡ is_one_entry c e
+  one_entry (One e) h = placed e h
+  one_entry (Many es x p q r) h = refl
+
+  one_item : (es : Entries) → AllUsed K (uses_of_entries es) → is_one_item d es ≡ is_one_item c es
+  one_item NoEntry h = refl
+  one_item (AndEntry e es) h = ap (λ b. is_last es && b) (one_entry e (used_split K (uses_of_entry e) (uses_of_entries es) h).0)
+
+  formed : (a : Act) → AllUsed K (uses_in a) → is_built_form d a ≡ is_built_form c a
+  formed (Writes u l es) h = ap (λ b. is_printer u && b) (one_item es (used_split K (uses_of_par u) (uses_of_entries es) h).1)
+  formed (Chooses e a) h = formed a (used_split K (uses_of e) (uses_in a) h).1
+  formed _ h = refl
+
+  pub built_alike : (a : Act) → AllUsed K (uses_in a) → is_built d a ≡ is_built c a
+  built_alike a h = ap (λ b. b && not (list_any (is_function d) (uses_in a))) (formed a h) ∙ ap (λ b. is_built_form c a && not b) (any_use (is_function d) (is_function c) functions (uses_in a) h)

@@ -1,0 +1,77 @@
+// The names of a unit's source.
+ghost use Rattle.std.specs.Prelude.{◌≡◌, [], map, length, nat_lt, IfOk, OnOk};
+ghost use Rattle.std.specs.List.{flat_map};
+ghost use Rattle.f66_tree.specs.Views.{declared_of};
+ghost use Rattle.f66_names.specs.ActViews.{act_said, acts_of};
+ghost use Rattle.f66_names.specs.UseViews.{use_of};
+ghost use Rattle.name_alloc.specs.Numbers.{starting};
+ghost use Rattle.name_alloc.specs.MadeNames.{unused, keeping_all};
+ghost use Rattle.rat_tree.specs.Views.{commands};
+ghost use Rattle.rat_lower.specs.Emitted.{named_in, names_of};
+
+use f66_names::{Saying, Use, declared_in_saying, uses_of_saying};
+use f66_tree::Declared;
+use name_alloc::Names;
+use rat_check::sayings;
+use rat_tree::RatUnit;
+use std::alloc::{AllocError, Global};
+
+// How many names can be made.
+const NAME_LIMIT: u32 = 99_999;
+
+/// The names of a unit are kept: those that it declares, and those that it uses.
+pub fn names_in(alloc: Global, unit: &RatUnit) -> Result<Names, AllocError>
+    ensures kept { IfOk result (λ names. names ≡ keeping_all (names_of (commands unit.now.body.items)) unused) }
+    ensures count { IfOk result (λ names. length names.kept ≡ length (names_of (commands unit.now.body.items))) }
+    ensures made { IfOk result (λ names. names.numbers.made ≡ []) }
+    ensures labels { IfOk result (λ names. names.labels ≡ starting 23000) }
+{
+    let sayings = sayings(alloc, unit)?;
+    let mut names = Names::new(alloc);
+    keep_all(alloc, &mut names, &sayings)?;
+    Ok(names)
+}
+
+/// Whether one more name can be made.
+pub fn has_name(names: &Names) -> bool
+    ensures { result ≡ nat_lt (length names.now.kept) 99999 }
+{
+    names.taken() < NAME_LIMIT
+}
+
+#[tactic(auto, using(crate::proofs::SpareNames::name_steps))]
+fn keep_all(alloc: Global, names: &mut Names, sayings: &[Saying]) -> Result<(), AllocError>
+    ensures { OnOk result (names.new ≡ keeping_all (flat_map named_in (acts_of sayings.now)) names.old) }
+{
+    for saying in sayings {
+        keep_said(alloc, names, saying)?;
+    }
+    Ok(())
+}
+
+#[tactic(auto, using(crate::proofs::SpareNames::name_steps))]
+fn keep_said(alloc: Global, names: &mut Names, saying: &Saying) -> Result<(), AllocError>
+    ensures { OnOk result (names.new ≡ keeping_all (named_in (act_said saying.now)) names.old) }
+{
+    keep_declared(names, declared_in_saying(saying))?;
+    let uses = uses_of_saying(alloc, saying)?;
+    keep_used(names, &uses)
+}
+
+fn keep_declared(names: &mut Names, list: &[Declared]) -> Result<(), AllocError>
+    ensures { OnOk result (names.new ≡ keeping_all (map (λ d. d.name) (map declared_of list.now)) names.old) }
+{
+    for declared in list {
+        names.keep_name(&declared.name)?;
+    }
+    Ok(())
+}
+
+fn keep_used(names: &mut Names, list: &[Use]) -> Result<(), AllocError>
+    ensures { OnOk result (names.new ≡ keeping_all (map (λ u. u.name) (map use_of list.now)) names.old) }
+{
+    for used in list {
+        names.keep_name(used.name)?;
+    }
+    Ok(())
+}
