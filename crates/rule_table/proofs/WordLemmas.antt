@@ -1,3 +1,4 @@
+-- What the code's words find, and what the definition's words find.
 use Rattle.std.proofs.lemmas.Grind.{common_steps}
 use Rattle.std.proofs.Common.{◌≡◌, ◌+◌, ℕ, zero, suc, Bool, true, false, cond, Option, Some, None, List, [], ◌∷◌, ◌++◌, length, take, drop, refl, ◌∙◌, arith, get_or, ◌<◌, ap, find, filter, map, ◌||◌, ◌&&◌, option_and_then, option_copied, sym}
 use Rattle.std.specs.Option.{option_or}

@@ -12,8 +12,6 @@ mod ClosingLemmas
 mod WriteLemmas
 mod RunLemmas
 mod WholeLemmas
-pub mod BuiltLemmas
-pub mod BuiltRuns
 pub mod SoundUnits
 mod NameLemmas
 mod ReachLemmas
