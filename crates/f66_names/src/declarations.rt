@@ -8,7 +8,7 @@ ghost use Rattle.f66_names.specs.ActViews.{acts_of};
 ghost use Rattle.f66_names.specs.Declaring.{types, sizes, type_given, count_in};
 
 use crate::Saying;
-use crate::tables::{count_table, sized_table, typed_table, word_table};
+use crate::tables::{Tables, tables_of};
 use f66_tree::{Header, TypeWord};
 use std::alloc::{AllocError, Global};
 use std::collections::HashMap;
@@ -38,10 +38,12 @@ pub fn declarations_of<'a>(
     ensures header { IfOk result (λ d. d.header.now ≡ header.now) }
     ensures sayings { IfOk result (λ d. d.sayings.now ≡ sayings.now) }
 {
-    let words = word_table(alloc, sayings)?;
-    let counts = count_table(alloc, sayings)?;
-    let typed = typed_table(alloc, sayings)?;
-    let sized = sized_table(alloc, sayings)?;
+    let Tables {
+        words,
+        counts,
+        typed,
+        sized,
+    } = tables_of(alloc, sayings)?;
     Ok(Declarations {
         header,
         sayings,

@@ -16,64 +16,42 @@ use rule_table::note;
 use std::alloc::{AllocError, Global};
 use std::collections::HashMap;
 
-/// The declared type of each name.
-pub fn word_table<'a>(
-    alloc: Global,
-    sayings: &[Saying<'a>],
-) -> Result<HashMap<&'a [u8], TypeWord>, AllocError>
-    ensures { IfOk result
-        (λ m. (q : List ℕ) → get_by (λ k. bytes_eq q k.now) m ≡ find_map (type_given q) (acts_of sayings.now)) }
-{
-    let mut table = HashMap::new(alloc);
-    for saying in sayings {
-        note_word(&mut table, saying)?;
-    }
-    Ok(table)
+/// What a unit declares of each name: its type, the number of its dimensions, and the first statements that give them.
+#[derive(Drop)]
+pub struct Tables<'a> {
+    pub words: HashMap<&'a [u8], TypeWord>,
+    pub counts: HashMap<&'a [u8], usize>,
+    pub typed: HashMap<&'a [u8], usize>,
+    pub sized: HashMap<&'a [u8], usize>,
 }
 
-/// The number of dimensions of each name that has some.
-pub fn count_table<'a>(
-    alloc: Global,
-    sayings: &[Saying<'a>],
-) -> Result<HashMap<&'a [u8], usize>, AllocError>
-    ensures { IfOk result
-        (λ m. (q : List ℕ) → get_by (λ k. bytes_eq q k.now) m ≡ find_map (count_in q) (acts_of sayings.now)) }
+/// The tables of what a unit says, in one pass.
+pub fn tables_of<'a>(alloc: Global, sayings: &[Saying<'a>]) -> Result<Tables<'a>, AllocError>
+    ensures words { IfOk result
+        (λ t. (q : List ℕ) → get_by (λ k. bytes_eq q k.now) t.words ≡ find_map (type_given q) (acts_of sayings.now)) }
+    ensures counts { IfOk result
+        (λ t. (q : List ℕ) → get_by (λ k. bytes_eq q k.now) t.counts ≡ find_map (count_in q) (acts_of sayings.now)) }
+    ensures typed { IfOk result
+        (λ t. (q : List ℕ) → get_by (λ k. bytes_eq q k.now) t.typed ≡ first_place (types q) (acts_of sayings.now)) }
+    ensures sized { IfOk result
+        (λ t. (q : List ℕ) → get_by (λ k. bytes_eq q k.now) t.sized ≡ first_place (sizes q) (acts_of sayings.now)) }
 {
-    let mut table = HashMap::new(alloc);
-    for saying in sayings {
-        note_counts_in(&mut table, saying)?;
-    }
-    Ok(table)
-}
-
-/// The first statement that gives a name its type, for each name.
-pub fn typed_table<'a>(
-    alloc: Global,
-    sayings: &[Saying<'a>],
-) -> Result<HashMap<&'a [u8], usize>, AllocError>
-    ensures { IfOk result
-        (λ m. (q : List ℕ) → get_by (λ k. bytes_eq q k.now) m ≡ first_place (types q) (acts_of sayings.now)) }
-{
-    let mut table = HashMap::new(alloc);
+    let mut words = HashMap::new(alloc);
+    let mut counts = HashMap::new(alloc);
+    let mut typed = HashMap::new(alloc);
+    let mut sized = HashMap::new(alloc);
     for (i, saying) in sayings.iter().enumerate() {
-        note_all(&mut table, typed_in_saying(saying), i)?;
+        note_word(&mut words, saying)?;
+        note_counts_in(&mut counts, saying)?;
+        note_all(&mut typed, typed_in_saying(saying), i)?;
+        note_all_sized(&mut sized, declared_in_saying(saying), i)?;
     }
-    Ok(table)
-}
-
-/// The first type statement or DIMENSION that gives a name its dimensions, for each name.
-pub fn sized_table<'a>(
-    alloc: Global,
-    sayings: &[Saying<'a>],
-) -> Result<HashMap<&'a [u8], usize>, AllocError>
-    ensures { IfOk result
-        (λ m. (q : List ℕ) → get_by (λ k. bytes_eq q k.now) m ≡ first_place (sizes q) (acts_of sayings.now)) }
-{
-    let mut table = HashMap::new(alloc);
-    for (i, saying) in sayings.iter().enumerate() {
-        note_all_sized(&mut table, declared_in_saying(saying), i)?;
-    }
-    Ok(table)
+    Ok(Tables {
+        words,
+        counts,
+        typed,
+        sized,
+    })
 }
 
 /// The names whose type a statement gives (X3.9-1966, section 7.2.1.6).
