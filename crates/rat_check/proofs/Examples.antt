@@ -4,10 +4,10 @@ use Rattle.std.specs.Prelude.{ℕ, pos, List, [], ◌∷◌, Option, Some, None,
 use Rattle.ground.specs.declared.fault.Fault.{Fault}
 use Rattle.ground.specs.declared.fault.FaultKind.{FaultKind}
 use Rattle.ground.specs.declared.fault.FaultKind.TheVariants.{Syntax, NameTooLong, OutOfProfileType, TypeClash, WrongCount, DuplicateName, BadLabel, BadBreak, DuplicateCase, BadConstant, NotAssignable, Limit, Unbuilt}
-use Rattle.f66_tree.specs.declared.declaration.TypeWord.TheVariants.{Integer, Logical, Other}
-use Rattle.f66_tree.specs.declared.expression.Operator.TheVariants.{Add, Mul, Lt, And}
-use Rattle.f66_tree.specs.Forms.{Text, Formula, Variable, Applied, Joined, Nought, Also, Constant, Declared, Act, Assigns, Goes, Selects, Types, Dimensions, Invokes}
-use Rattle.f66_tree.proofs.ExampleParts.{here, i, k, num, var, with_one, set, write, i3}
+use Rattle.f66_tree.specs.declared.declaration.TypeWord.TheVariants.{Integer, Logical}
+use Rattle.f66_tree.specs.declared.expression.Operator.TheVariants.{Lt, And}
+use Rattle.f66_tree.specs.Forms.{Text, Applied, Joined, Nought, Also, Constant, Declared, Act, Assigns, Goes, Selects, Types, Dimensions, Invokes}
+use Rattle.f66_tree.proofs.ExampleParts.{here, i, k, num, var, with_one, set, i3}
 use Rattle.rat_tree.specs.Commands.{Command, Empty, Together, When, Whilst, Through, Repeats, Until, Counts, Switches, Leaves, GivesBack, Plainly, Marked, Commands, NoCommand, AndCommand, NoClause, AndClause}
 use Rattle.rat_check.specs.Parts.{unit_parts}
 use Rattle.rat_check.specs.FirstFault.{fault_at, fault_of_parts}

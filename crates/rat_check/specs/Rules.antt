@@ -1,6 +1,6 @@
 -- What each part of a unit breaks (X3.9-1966, sections 3 to 9; Kernighan's Ratfor). What is not built yet is told before all
 -- rules, so that they speak of built parts alone.
-use Rattle.std.specs.Prelude.{ℕ, suc, ◌+◌, nat_le, Bool, true, false, not, ◌&&◌, ◌||◌, List, [], ◌∷◌, length, Option, Some, None}
+use Rattle.std.specs.Prelude.{ℕ, ◌+◌, nat_le, Bool, true, false, not, ◌&&◌, ◌||◌, List, [], ◌∷◌, length, Option, Some, None}
 use Rattle.std.specs.List.{list_all}
 use Rattle.ground.specs.declared.fault.FaultKind.{FaultKind}
 use Rattle.ground.specs.declared.fault.FaultKind.TheVariants.{Syntax, BadLabel, BadBreak, DuplicateCase}
@@ -10,7 +10,7 @@ use Rattle.f66_tree.specs.Units.{Context}
 use Rattle.f66_names.specs.BuiltActs.{is_built}
 use Rattle.f66_names.specs.Rules.{breaks_name}
 use Rattle.f66_flow.specs.Acts.{is_specification, is_format}
-use Rattle.rat_check.specs.Parts.{Form, Rests, Repeating, Says, Compares, Prepares, Leaving, Returning, Labels, no_label, with_label, Part}
+use Rattle.rat_check.specs.Parts.{Form, Rests, Says, Compares, Prepares, Returning, Labels, no_label, with_label, Part}
 use Rattle.rat_check.specs.Said.{said_by}
 
 -- ---- what is built ----

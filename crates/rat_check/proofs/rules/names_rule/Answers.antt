@@ -1,8 +1,8 @@
 -- One saying more.
-use Rattle.std.proofs.Common.{◌≡◌, ◌+◌, ◌∷◌, suc, drop, sym, ap, ◌∙◌, arith, drop_of_length-le}
+use Rattle.std.proofs.Common.{◌≡◌, ◌+◌, drop, sym, ap, ◌∙◌, arith, drop_of_length-le}
 use Rattle.rule_table.specs.FaultRules.{first_rule, lesser}
 use Rattle.rule_table.proofs.LesserLemmas.{lesser-none}
-use Rattle.f66_names.specs.ActViews.{act_said, acts_of}
+use Rattle.f66_names.specs.ActViews.{acts_of}
 use Rattle.f66_names.specs.DeclarationViews.{context_in, acts_in}
 use Rattle.rat_check.specs.Rules.{break_names}
 use Rattle.rat_check.proofs.RuleLemmas.{rules_on}

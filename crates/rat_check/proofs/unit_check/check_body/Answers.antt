@@ -1,16 +1,15 @@
 -- What the tables know of the unit is what the rules ask of its parts.
 use Rattle.std.proofs.Common.{◌≡◌, ◌∙◌, sym, ap, subst}
-use Rattle.f66_tree.specs.Forms.{MainUnit}
 use Rattle.f66_tree.specs.Views.{header_of}
 use Rattle.f66_names.specs.ActViews.{acts_of}
 use Rattle.f66_names.specs.DeclarationViews.{context_in, acts_in}
 use Rattle.rat_tree.specs.Views.{commands}
 use Rattle.rat_check.specs.Parts.{no_label, unit_parts}
-use Rattle.rat_check.specs.Said.{said_in, context_of}
+use Rattle.rat_check.specs.Said.{said_in}
 use Rattle.rat_check.specs.Rules.{nothing_before}
-use Rattle.rat_check.specs.FirstFault.{Tells, first_unbuilt, with_formats, first_broken, whole_of, fault_of_parts}
+use Rattle.rat_check.specs.FirstFault.{Tells, first_unbuilt, with_formats, first_broken}
 use Rattle.rat_check.specs.PartViews.{parts_seen, whole_in}
-use Rattle.rat_check.specs.Survey.{is_among, own_labels}
+use Rattle.rat_check.specs.Survey.{is_among}
 use Rattle.rat_check.proofs.RuleLemmas.{context_told, whole_told, unbuilt_told, rules_told}
 use Rattle.rat_check.proofs.unit_check.check_body.Goals as goal
 

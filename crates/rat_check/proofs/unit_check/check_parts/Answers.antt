@@ -1,5 +1,5 @@
 -- One part more, which breaks no rule, or is the first one that does.
-use Rattle.std.proofs.Common.{◌≡◌, ◌+◌, ◌∷◌, [], length, drop, sym, ap, ◌∙◌, arith}
+use Rattle.std.proofs.Common.{◌+◌, length, drop, sym, ap, ◌∙◌, arith}
 use Rattle.std.proofs.lemmas.List.{length-map}
 use Rattle.f66_names.specs.ActViews.{act_said}
 use Rattle.rat_check.specs.Said.{said_in}
