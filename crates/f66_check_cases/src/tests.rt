@@ -445,7 +445,7 @@ fn classes(rt: HostRuntime) -> Result<(), Fail> {
 
 #[test]
 fn labels(rt: HostRuntime) -> Result<(), Fail> {
-    let rows: [(&str, &str); 21] = [
+    let rows: [(&str, &str); 22] = [
         ("0 : stop", "BadLabel at 1"),
         ("100000 : stop", "BadLabel at 1"),
         ("10 : continue;10 : stop", "BadLabel at 2"),
@@ -467,13 +467,15 @@ fn labels(rt: HostRuntime) -> Result<(), Fail> {
         ("9 K 1 9 1 do;9 : 1 5 format;stop", "BadLabel at 1"),
         ("10 : K integer;10 K 1 9 1 do;stop", "BadLabel at 2"),
         ("10 go;10 : continue;10 : stop", "BadLabel at 3"),
+        // A declaration may have a label, and a FORMAT none.
+        ("10 : K integer;1 5 format;stop", "sound"),
     ];
     expect_all(&rt, rt.alloc(), &rows)
 }
 
 #[test]
 fn ranges(rt: HostRuntime) -> Result<(), Fail> {
-    let rows: [(&str, &str); 23] = [
+    let rows: [(&str, &str); 24] = [
         ("10 : continue;10 K 1 9 1 do;stop", "DoNesting at 2"),
         ("10 : 10 K 1 9 1 do;stop", "DoNesting at 1"),
         ("10 K 1 9 1 do;10 : 20 go;20 : stop", "DoNesting at 1"),
@@ -543,6 +545,8 @@ fn ranges(rt: HostRuntime) -> Result<(), Fail> {
             "true ? 20 go;20 : 10 K 1 9 1 do;10 : continue;stop",
             "sound",
         ),
+        // The variable of a DO may be stored into.
+        ("10 K 1 9 1 do;K 1 set;10 : continue;stop", "sound"),
     ];
     expect_all(&rt, rt.alloc(), &rows)
 }
