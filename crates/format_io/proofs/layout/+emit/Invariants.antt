@@ -1,0 +1,9 @@
+use Rattle.std.proofs.Common.{◌≡◌, ◌≤◌, ◌+◌, ◌++◌, ◌∷◌, [], drop, map}
+use Rattle.format_io.specs.Places.{size, code, code_of, depth, Leave}
+use Rattle.format_io.specs.Parts.{one, list_code, list_depth}
+use Rattle.format_io.proofs.layout.+emit.Given as goal
+
+abbrev pub invariant-loop-part : goal.invariant-loop-part
+invariant-loop-part l =
+    (map code_of l.ops.items ++ (list_code (l.level + 1) (drop l.part-index l.part-items) ++ Leave l.level l.size ∷ []) ≡ map code_of l.fn.ops.items ++ code l.level (one l.field))
+    × (l.level + 1 + list_depth (drop l.part-index l.part-items) ≤ 2)

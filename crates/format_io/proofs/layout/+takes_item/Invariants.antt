@@ -1,0 +1,7 @@
+use Rattle.std.proofs.Common.{◌≡◌, drop}
+use Rattle.f66_tree.specs.Fields.{has_item, steps}
+use Rattle.format_io.specs.Parts.{one, list_has}
+use Rattle.format_io.proofs.layout.+takes_item.Given as goal
+
+abbrev pub invariant-loop-part : goal.invariant-loop-part
+invariant-loop-part l = list_has (drop l.part-index l.part-items) ≡ has_item (steps (one l.field))

@@ -1,0 +1,13 @@
+use Rattle.std.proofs.Common.{◌≡◌, ◌≤◌, ◌++◌, drop, map, length}
+use Rattle.f66_tree.specs.Fields.{has_item, steps}
+use Rattle.format_io.specs.Places.{code_of}
+use Rattle.format_io.specs.Parts.{one, list_code, list_depth, list_place, list_cycles}
+use Rattle.std.specs.Prelude.{false}
+use Rattle.format_io.proofs.layout.lay.Given as goal
+
+abbrev pub invariant-loop-field : goal.invariant-loop-field
+invariant-loop-field l =
+    (map code_of l.ops.items ++ list_code 0 (drop l.field-index l.fields.items) ≡ list_code 0 l.fields.items)
+    × (list_depth (drop l.field-index l.fields.items) ≤ 2)
+    × (list_place l.start (length l.ops.items) (drop l.field-index l.fields.items) ≡ list_place 0 0 l.fields.items)
+    × (list_cycles l.cycles (drop l.field-index l.fields.items) ≡ list_cycles false l.fields.items)

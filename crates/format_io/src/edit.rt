@@ -1,0 +1,315 @@
+// A READ or WRITE in the middle of its list: the record in hand, and the place in the format.
+ghost use Rattle.std.specs.Prelude.{◌≡◌, ℕ, List, [], ◌∷◌, ◌++◌, ◌≤◌, OnOk, length};
+ghost use Rattle.f66_tree.specs.Fields.{Fields};
+ghost use Rattle.f66_tree.specs.declared.editing.Way.TheVariants.{Reading, Writing};
+ghost use Rattle.f66_tree.specs.Turns.{started, took, next_turn, last_turn, is_over, suits, width_of, put_whole, put_truth, put_letter, take_whole, take_truth, take_letter};
+ghost use Rattle.format_io.specs.Places.{Stand, hand_of, format, IsPlan};
+ghost use Rattle.format_io.specs.Answers.{line_in, Answers, opened, StepsTo, EndsTo, ClosesTo, Puts};
+
+use crate::between::{pass_blanks, pass_text};
+use crate::code::{Laid, Piece};
+use crate::format::Plan;
+use crate::input::Input;
+use crate::output::Output;
+use crate::walk::{Walk, advance};
+use f66_tree::{EditKind, Mark, Turn, Way};
+use ground::{Kind, Memory, Trap};
+use std::alloc::Global;
+use std::marker::Model;
+
+/// Whether an edit takes an item of this type.
+fn suits(kind: Kind, wanted: EditKind) -> bool
+    ensures { result ≡ suits kind wanted }
+{
+    match kind {
+        Kind::Integer => matches!(wanted, EditKind::Whole | EditKind::Letter),
+        Kind::Logical => matches!(wanted, EditKind::Truth),
+    }
+}
+
+/// The record in hand, and the place in the plan.
+#[derive(Drop)]
+pub struct Edit {
+    way: Way,
+    walk: Walk,
+    output: Output,
+    input: Input,
+    mark: Mark,
+}
+
+impl Model for Edit {
+    ghost use Rattle.format_io.specs.Places.{Stand};
+    ghost use Rattle.format_io.specs.Answers.{line_in};
+
+    ghost Value = { Stand };
+
+    ghost view = { λ e. record { way = e.way; pc = e.walk.pc; past = e.walk.past; counts = e.walk.counts; line = line_in e.way e.output e.input; mark = e.mark } };
+}
+
+impl Edit {
+    pub fn new(alloc: Global) -> Result<Self, Memory> {
+        let input = Input::new(alloc)?;
+        Ok(Edit {
+            way: Way::Writing,
+            walk: Walk {
+                pc: 0,
+                past: 0,
+                counts: [0; 2],
+            },
+            output: Output::new(),
+            input,
+            mark: Mark::Between,
+        })
+    }
+
+    /// A statement begins.
+    pub fn start(&mut self, way: Way)
+        ensures way { self.new.way ≡ way }
+        ensures hand { (fs : Fields) → hand_of fs self.new ≡ started way fs }
+    {
+        self.way = way;
+        self.walk = Walk {
+            pc: 0,
+            past: 0,
+            counts: [0; 2],
+        };
+        self.output.clear();
+        self.input.clear();
+        self.mark = Mark::Between;
+    }
+
+    /// After a complete record an empty one begins.
+    fn open(&mut self)
+        ensures { (fs : Fields) → hand_of fs self.new ≡ opened (hand_of fs self.old) }
+    {
+        if let Way::Writing = self.way {
+            if let Mark::Complete = self.mark {
+                self.output.clear();
+            }
+        }
+        self.mark = Mark::Between;
+    }
+
+    /// One step of the plan.
+    fn step(&mut self, plan: &Laid, kind: Kind) -> Result<Option<Turn>, Trap>
+        requires { IsPlan plan.now }
+        ensures { StepsTo result (hand_of (format plan.now) self.old) (hand_of (format plan.now) self.new) kind }
+    {
+        match advance(&mut self.walk, plan) {
+            None => {
+                if !plan.cycles {
+                    return Err(Trap::FormatMismatch);
+                }
+                self.walk.pc = plan.start;
+                self.walk.past = 0;
+                self.mark = Mark::Complete;
+                Ok(Some(Turn::RecordDone))
+            }
+            Some(Piece::Takes(wanted, width)) => {
+                if !suits(kind, *wanted) {
+                    return Err(Trap::FormatMismatch);
+                }
+                self.mark = Mark::Due(*wanted, *width);
+                Ok(Some(Turn::Ready(*wanted)))
+            }
+            Some(Piece::Blanks(count)) => {
+                pass_blanks(self.way, &mut self.output, &mut self.input, *count)?;
+                Ok(None)
+            }
+            Some(Piece::Chars(text)) => {
+                pass_text(self.way, &mut self.output, &self.input, text.as_bytes())?;
+                Ok(None)
+            }
+            Some(Piece::Slash) => {
+                self.mark = Mark::Complete;
+                Ok(Some(Turn::RecordDone))
+            }
+        }
+    }
+
+    /// The next turn for an item.
+    fn next_laid(&mut self, plan: &Laid, kind: Kind) -> Result<Turn, Trap>
+        requires { IsPlan plan.now }
+        ensures { Answers (format plan.now) result self.new (next_turn (hand_of (format plan.now) self.old) kind) }
+    {
+        self.open();
+        'item: loop {
+            if let Some(turn) = self.step(plan, kind)? {
+                return Ok(turn);
+            }
+        }
+    }
+
+    /// The last record is complete, and no edit is left.
+    fn close(&mut self, plan: &Laid) -> Option<Turn>
+        requires { IsPlan plan.now }
+        ensures { ClosesTo result (hand_of (format plan.now) self.old) (hand_of (format plan.now) self.new) }
+    {
+        self.walk.pc = plan.ops.len();
+        self.mark = Mark::Over;
+        match self.way {
+            Way::Writing => Some(Turn::RecordDone),
+            Way::Reading => None,
+        }
+    }
+
+    /// One step of the plan where no item is left.
+    fn last_step(&mut self, plan: &Laid) -> Result<Option<Option<Turn>>, Trap>
+        requires { IsPlan plan.now }
+        ensures { EndsTo result (hand_of (format plan.now) self.old) (hand_of (format plan.now) self.new) }
+    {
+        match advance(&mut self.walk, plan) {
+            None => Ok(Some(self.close(plan))),
+            Some(Piece::Takes(_, _)) => Ok(Some(self.close(plan))),
+            Some(Piece::Blanks(count)) => {
+                pass_blanks(self.way, &mut self.output, &mut self.input, *count)?;
+                Ok(None)
+            }
+            Some(Piece::Chars(text)) => {
+                pass_text(self.way, &mut self.output, &self.input, text.as_bytes())?;
+                Ok(None)
+            }
+            Some(Piece::Slash) => {
+                self.mark = Mark::Complete;
+                Ok(Some(Some(Turn::RecordDone)))
+            }
+        }
+    }
+
+    fn is_over(&self) -> bool
+        ensures { result ≡ is_over self.now.mark }
+    {
+        matches!(self.mark, Mark::Over)
+    }
+
+    /// The next turn where no item is left; None is the end of the statement.
+    fn finish_laid(&mut self, plan: &Laid) -> Result<Option<Turn>, Trap>
+        requires { IsPlan plan.now }
+        ensures { Answers (format plan.now) result self.new (last_turn (hand_of (format plan.now) self.old)) }
+    {
+        if self.is_over() {
+            return Ok(None);
+        }
+        self.open();
+        'last: loop {
+            if let Some(turn) = self.last_step(plan)? {
+                return Ok(turn);
+            }
+        }
+    }
+
+    /// The next turn for an item.
+    pub fn next_item(&mut self, plan: &Plan, kind: Kind) -> Result<Turn, Trap>
+        ensures way { OnOk result (self.new.way ≡ self.old.way) }
+        ensures turn { Answers plan.now result self.new (next_turn (hand_of plan.now self.old) kind) }
+    {
+        self.next_laid(&plan.laid, kind)
+    }
+
+    /// The next turn where no item is left; None is the end of the statement.
+    pub fn finish(&mut self, plan: &Plan) -> Result<Option<Turn>, Trap>
+        ensures way { OnOk result (self.new.way ≡ self.old.way) }
+        ensures turn { Answers plan.now result self.new (last_turn (hand_of plan.now self.old)) }
+    {
+        self.finish_laid(&plan.laid)
+    }
+
+    /// The record in hand.
+    pub fn in_hand(&self) -> &[u8]
+        ensures { result.now ≡ self.now.line }
+    {
+        match self.way {
+            Way::Writing => self.output.as_slice(),
+            Way::Reading => self.input.as_slice(),
+        }
+    }
+
+    /// The next record of a READ.
+    pub fn take_record(&mut self, bytes: &[u8])
+        requires room { length bytes.now ≤ 65535 }
+        requires way { self.old.way ≡ Reading }
+        ensures same_way { self.new.way ≡ self.old.way }
+        ensures hand { (fs : Fields) → hand_of fs self.new ≡ took (hand_of fs self.old) bytes.now }
+    {
+        self.input.replace(bytes);
+        self.mark = Mark::Between;
+    }
+
+    /// The width of the field of the edit that waits.
+    fn width(&self) -> u16
+        ensures { result ≡ width_of self.now.mark }
+    {
+        match self.mark {
+            Mark::Due(_, width) => width,
+            _ => 0,
+        }
+    }
+
+    pub fn put_int(&mut self, v: i64) -> Result<(), Trap>
+        requires { self.old.way ≡ Writing }
+        ensures same_way { self.new.way ≡ self.old.way }
+        ensures hand { (fs : Fields) → Puts fs result self.new (put_whole (hand_of fs self.old) v) }
+    {
+        let width = self.width();
+        self.output.whole(width, v)?;
+        self.mark = Mark::Between;
+        Ok(())
+    }
+
+    pub fn put_log(&mut self, v: bool) -> Result<(), Trap>
+        requires { self.old.way ≡ Writing }
+        ensures same_way { self.new.way ≡ self.old.way }
+        ensures hand { (fs : Fields) → Puts fs result self.new (put_truth (hand_of fs self.old) v) }
+    {
+        let width = self.width();
+        self.output.truth(width, v)?;
+        self.mark = Mark::Between;
+        Ok(())
+    }
+
+    pub fn put_char(&mut self, v: i64) -> Result<(), Trap>
+        requires { self.old.way ≡ Writing }
+        ensures same_way { self.new.way ≡ self.old.way }
+        ensures hand { (fs : Fields) → Puts fs result self.new (put_letter (hand_of fs self.old) v) }
+    {
+        self.output.letter(v)?;
+        self.mark = Mark::Between;
+        Ok(())
+    }
+
+    pub fn take_int(&mut self) -> Result<i64, Trap>
+        requires { self.old.way ≡ Reading }
+        ensures same_way { self.new.way ≡ self.old.way }
+        ensures hand { (fs : Fields) → Answers fs result self.new (take_whole (hand_of fs self.old)) }
+    {
+        let width = self.width();
+        let value = self.input.whole(width)?;
+        self.input.skip(width);
+        self.mark = Mark::Between;
+        Ok(value)
+    }
+
+    pub fn take_log(&mut self) -> Result<bool, Trap>
+        requires { self.old.way ≡ Reading }
+        ensures same_way { self.new.way ≡ self.old.way }
+        ensures hand { (fs : Fields) → Answers fs result self.new (take_truth (hand_of fs self.old)) }
+    {
+        let width = self.width();
+        let value = self.input.truth(width)?;
+        self.input.skip(width);
+        self.mark = Mark::Between;
+        Ok(value)
+    }
+
+    pub fn take_char(&mut self) -> Result<i64, Trap>
+        requires { self.old.way ≡ Reading }
+        ensures same_way { self.new.way ≡ self.old.way }
+        ensures hand { (fs : Fields) → Answers fs result self.new (take_letter (hand_of fs self.old)) }
+    {
+        let width = self.width();
+        let value = self.input.letter()?;
+        self.input.skip(width);
+        self.mark = Mark::Between;
+        Ok(value)
+    }
+}

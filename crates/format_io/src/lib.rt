@@ -1,0 +1,15 @@
+//! Formatted records: the edits of a format, one item at a time, with no memory but that of `Edit::new`.
+#![tactic(auto)]
+
+mod between;
+mod code;
+mod edit;
+mod format;
+mod input;
+mod layout;
+mod output;
+mod walk;
+
+pub use edit::Edit;
+pub use format::Plan;
+pub use layout::plan;
