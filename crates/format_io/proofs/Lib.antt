@@ -3,6 +3,7 @@ pub mod Plans
 pub mod Hands
 pub mod FieldFacts
 pub mod TurnsOfItems
+pub mod Parts
 pub mod Trees
 pub mod Ways
 pub mod Lists

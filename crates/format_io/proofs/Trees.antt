@@ -11,7 +11,8 @@ use Rattle.format_io.specs.declared.code.Op.{Op}
 use Rattle.format_io.specs.declared.code.Laid.{Laid}
 use Rattle.format_io.proofs.Walks.{length_code}
 use Rattle.std.proofs.lemmas.List.{length-map}
-use Rattle.format_io.specs.Parts.{one, list_size, list_code, list_depth, list_has, list_place, list_cycles, is_group}
+use Rattle.format_io.specs.OneField.{one, is_group}
+use Rattle.format_io.proofs.Parts.{list_size, list_code, list_depth, list_has, list_place, list_cycles}
 
 pub code_front : (lv : ℕ) (f : tree.Field) (rest : Fields) → code lv (field_then f rest) ≡ code lv (one f) ++ code lv rest
 code_front lv (tree.Whole n w) rest = refl
@@ -64,6 +65,15 @@ group_size f n v items is same = ap (λ u. 2 + list_size u) same ∙ sym (group_
 
 pub group_depth : (f : tree.Field) (n : ℕ) (v : _) (items : List tree.Field) (lv : ℕ) → f ≡ tree.Group n v → items ≡ v.items → lv + depth (one f) ≤ 2 → lv + 1 + list_depth items ≤ 2
 group_depth f n v items lv is same le =
+    let a : depth (one f) ≡ max (suc (depth (fields_of v.items))) 0 = ap (λ u. depth (one u)) is ∙ ap depth (group_is n v) in
+    let b : depth (fields_of v.items) ≡ list_depth v.items = list_depth_is v.items in
+    let d : list_depth items ≡ list_depth v.items = ap list_depth same in
+    omega (arith, a, b, d, le)
+
+pub group_within : (f : tree.Field) (n : ℕ) (v : _) (items : List tree.Field) (levels : ℕ) → f ≡ tree.Group n v → items ≡ v.items → (levels ≡ 0 → ⊥)
+    → list_depth items ≤ levels - 1 → depth (one f) ≤ levels
+group_within f n v items zero is same some le = absurd (some refl)
+group_within f n v items (suc levels) is same some le =
     let a : depth (one f) ≡ max (suc (depth (fields_of v.items))) 0 = ap (λ u. depth (one u)) is ∙ ap depth (group_is n v) in
     let b : depth (fields_of v.items) ≡ list_depth v.items = list_depth_is v.items in
     let d : list_depth items ≡ list_depth v.items = ap list_depth same in
@@ -205,12 +215,3 @@ pub plan_ends : (p : Laid) (fs rest : List tree.Field) → rest ≡ [] → map c
 plan_ends p fs rest e c s y d =
     whole_plan p fs (sym (append-nil (map code_of p.ops.items)) ∙ ap (λ v. map code_of p.ops.items ++ list_code 0 v) (sym e) ∙ c)
     (ap (λ v. list_place p.start (length p.ops.items) v) (sym e) ∙ s) (ap (list_cycles p.cycles) (sym e) ∙ y) d
-
--- a list of fields whose last is a group
-pub shallow_two : (items before : List tree.Field) (f : tree.Field) (n : ℕ) (v : _) → items ≡ before ++ tree.Group n v ∷ [] → before ≡ f ∷ [] → depth (one f) ≤ 2 → list_depth v.items ≤ 1 → depth (fields_of items) ≤ 2
-shallow_two items before f n v e b d le =
-    let a : depth (fields_of items) ≡ list_depth items = list_depth_is items in
-    let g : list_depth items ≡ max (depth (one f)) (max (depth (one (tree.Group n v))) 0) = ap list_depth (e ∙ ap (λ u. u ++ tree.Group n v ∷ []) b) in
-    let h : depth (one (tree.Group n v)) ≡ max (suc (depth (fields_of v.items))) 0 = ap depth (group_is n v) in
-    let i : depth (fields_of v.items) ≡ list_depth v.items = list_depth_is v.items in
-    omega (arith, a, g, h, i, d, le)

@@ -1,4 +1,4 @@
 pub mod Places
 pub mod Answers
-pub mod Parts
+pub mod OneField
 pub mod Coding

@@ -3,7 +3,7 @@ ghost use Rattle.std.specs.Prelude.{◌≡◌, ◌≤◌, ◌+◌, [], ◌∷◌
 ghost use Rattle.f66_tree.specs.Fields.{steps, has_item};
 ghost use Rattle.f66_tree.specs.Views.{fields_of};
 ghost use Rattle.format_io.specs.Places.{size, code, depth, code_of, step_of, Once, IsPlanOf};
-ghost use Rattle.format_io.specs.Parts.{one, is_group};
+ghost use Rattle.format_io.specs.OneField.{one, is_group};
 
 use crate::code::{Laid, Op, Piece};
 use crate::format::Plan;

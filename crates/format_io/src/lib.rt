@@ -13,3 +13,8 @@ mod walk;
 pub use edit::Edit;
 pub use format::Plan;
 pub use layout::plan;
+
+#[cfg(test)]
+mod examples;
+#[cfg(test)]
+mod tests;

@@ -1,6 +1,7 @@
 use Rattle.std.proofs.Common.{◌≡◌, ◌+◌, drop}
 use Rattle.format_io.specs.Places.{size}
-use Rattle.format_io.specs.Parts.{one, list_size}
+use Rattle.format_io.specs.OneField.{one}
+use Rattle.format_io.proofs.Parts.{list_size}
 use Rattle.format_io.proofs.layout.+code_size.Given as goal
 
 abbrev pub invariant-loop-part : goal.invariant-loop-part

@@ -1,6 +1,7 @@
 use Rattle.std.proofs.Common.{◌≡◌, ◌≤◌, ◌+◌, ◌++◌, ◌∷◌, [], drop, map}
 use Rattle.format_io.specs.Places.{size, code, code_of, depth, Leave}
-use Rattle.format_io.specs.Parts.{one, list_code, list_depth}
+use Rattle.format_io.specs.OneField.{one}
+use Rattle.format_io.proofs.Parts.{list_code, list_depth}
 use Rattle.format_io.proofs.layout.+emit.Given as goal
 
 abbrev pub invariant-loop-part : goal.invariant-loop-part

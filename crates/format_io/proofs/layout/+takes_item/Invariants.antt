@@ -1,6 +1,7 @@
 use Rattle.std.proofs.Common.{◌≡◌, drop}
 use Rattle.f66_tree.specs.Fields.{has_item, steps}
-use Rattle.format_io.specs.Parts.{one, list_has}
+use Rattle.format_io.specs.OneField.{one}
+use Rattle.format_io.proofs.Parts.{list_has}
 use Rattle.format_io.proofs.layout.+takes_item.Given as goal
 
 abbrev pub invariant-loop-part : goal.invariant-loop-part

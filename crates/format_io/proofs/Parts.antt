@@ -1,15 +1,10 @@
--- A list of fields, part by part.
-use Rattle.std.specs.Prelude.{ℕ, zero, suc, ◌+◌, List, [], ◌∷◌, ◌++◌, max, Bool, true, false, ◌||◌, if◌then◌else◌}
-use Rattle.f66_tree.specs.declared.editing.EditKind.TheVariants.{Whole, Truth, Letter}
+-- A list of fields, part by part: what the loops over it go by.
+use Rattle.std.specs.Prelude.{ℕ, ◌+◌, List, [], ◌∷◌, ◌++◌, max, Bool, false, ◌||◌, if◌then◌else◌}
 use Rattle.f66_tree.specs.declared.format.Field as tree
-use Rattle.f66_tree.specs.Views.{field_then}
-use Rattle.f66_tree.specs.Fields.{Step, Takes, Blanks, Chars, Slash, Fields, NoField, Single, Group, steps, has_item}
+use Rattle.f66_tree.specs.Fields.{steps, has_item}
 use Rattle.format_io.specs.Places.{Code, code, size, depth}
+use Rattle.format_io.specs.OneField.{one, is_group}
 
-abbrev pub one : tree.Field → Fields
-one f = field_then f NoField
-
--- part by part
 abbrev pub list_size : List tree.Field → ℕ
 list_size [] = 0
 list_size (f ∷ fs) = size (one f) + list_size fs
@@ -27,10 +22,6 @@ list_has [] = false
 list_has (f ∷ fs) = has_item (steps (one f)) || list_has fs
 
 -- where control goes back to, and whether an edit from there on takes an item
-abbrev pub is_group : tree.Field → Bool
-is_group (tree.Group' n shape inside) = true
-is_group _ = false
-
 abbrev pub list_place : ℕ → ℕ → List tree.Field → ℕ
 list_place found pc [] = found
 list_place found pc (f ∷ fs) = list_place (if is_group f then pc else found) (pc + size (one f)) fs
