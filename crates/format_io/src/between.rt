@@ -1,5 +1,4 @@
 // What comes between the items of a statement: blanks and texts.
-ghost use Rattle.std.specs.Prelude.{◌≡◌, ℕ, List, [], ◌∷◌, ◌++◌, length};
 ghost use Rattle.f66_tree.specs.Turns.{blanked, lettered};
 ghost use Rattle.format_io.specs.Answers.{Writes, line_in};
 

@@ -1,5 +1,5 @@
 // A READ or WRITE in the middle of its list: the record in hand, and the place in the format.
-ghost use Rattle.std.specs.Prelude.{◌≡◌, ℕ, List, [], ◌∷◌, ◌++◌, ◌≤◌, OnOk, length};
+ghost use Rattle.std.specs.Prelude.{◌≡◌, ◌≤◌, OnOk, length};
 ghost use Rattle.f66_tree.specs.Fields.{Fields};
 ghost use Rattle.f66_tree.specs.declared.editing.Way.TheVariants.{Reading, Writing};
 ghost use Rattle.f66_tree.specs.Turns.{started, took, next_turn, last_turn, is_over, suits, width_of, put_whole, put_truth, put_letter, take_whole, take_truth, take_letter};
@@ -47,6 +47,7 @@ impl Model for Edit {
 }
 
 impl Edit {
+    /// All the memory that statements need. What it is for, `start` says.
     pub fn new(alloc: Global) -> Result<Self, Memory> {
         let input = Input::new(alloc)?;
         Ok(Edit {
@@ -62,7 +63,7 @@ impl Edit {
         })
     }
 
-    /// A statement begins.
+    /// A statement begins: a WRITE with an empty record, a READ before its first one is taken.
     pub fn start(&mut self, way: Way)
         ensures way { self.new.way ≡ way }
         ensures hand { (fs : Fields) → hand_of fs self.new ≡ started way fs }
@@ -198,7 +199,7 @@ impl Edit {
         }
     }
 
-    /// The next turn for an item.
+    /// The next turn for an item of this type: ready for it, or a record is done; FormatMismatch, or LongRecord.
     pub fn next_item(&mut self, plan: &Plan, kind: Kind) -> Result<Turn, Trap>
         ensures way { OnOk result (self.new.way ≡ self.old.way) }
         ensures turn { Answers plan.now result self.new (next_turn (hand_of plan.now self.old) kind) }
@@ -214,7 +215,7 @@ impl Edit {
         self.finish_laid(&plan.laid)
     }
 
-    /// The record in hand.
+    /// The record in hand: of a WRITE what is written so far, of a READ what is not read yet.
     pub fn in_hand(&self) -> &[u8]
         ensures { result.now ≡ self.now.line }
     {
@@ -224,7 +225,7 @@ impl Edit {
         }
     }
 
-    /// The next record of a READ.
+    /// The next record of a READ, in place of the one in hand.
     pub fn take_record(&mut self, bytes: &[u8])
         requires room { length bytes.now ≤ 65535 }
         requires way { self.old.way ≡ Reading }
@@ -245,6 +246,7 @@ impl Edit {
         }
     }
 
+    /// An integer goes out by the edit `I` that waits, or LongRecord.
     pub fn put_int(&mut self, v: i64) -> Result<(), Trap>
         requires { self.old.way ≡ Writing }
         ensures same_way { self.new.way ≡ self.old.way }
@@ -256,6 +258,7 @@ impl Edit {
         Ok(())
     }
 
+    /// A truth value goes out by the edit `L` that waits, or LongRecord.
     pub fn put_log(&mut self, v: bool) -> Result<(), Trap>
         requires { self.old.way ≡ Writing }
         ensures same_way { self.new.way ≡ self.old.way }
@@ -267,6 +270,7 @@ impl Edit {
         Ok(())
     }
 
+    /// The character of a code goes out; BadCharacter, or else LongRecord.
     pub fn put_char(&mut self, v: i64) -> Result<(), Trap>
         requires { self.old.way ≡ Writing }
         ensures same_way { self.new.way ≡ self.old.way }
@@ -277,6 +281,7 @@ impl Edit {
         Ok(())
     }
 
+    /// The integer in the field of the edit `I` that waits, or BadField.
     pub fn take_int(&mut self) -> Result<i64, Trap>
         requires { self.old.way ≡ Reading }
         ensures same_way { self.new.way ≡ self.old.way }
@@ -289,6 +294,7 @@ impl Edit {
         Ok(value)
     }
 
+    /// The truth value in the field of the edit `L` that waits, or BadField.
     pub fn take_log(&mut self) -> Result<bool, Trap>
         requires { self.old.way ≡ Reading }
         ensures same_way { self.new.way ≡ self.old.way }
@@ -301,6 +307,7 @@ impl Edit {
         Ok(value)
     }
 
+    /// The code of the next character, or BadCharacter.
     pub fn take_char(&mut self) -> Result<i64, Trap>
         requires { self.old.way ≡ Reading }
         ensures same_way { self.new.way ≡ self.old.way }

@@ -1,5 +1,5 @@
-// The record in hand of a READ.
-ghost use Rattle.std.specs.Prelude.{◌≡◌, ℕ, ◌+◌, ◌≤◌, ◌<◌, List, [], ◌∷◌, ◌++◌, length, take, drop, get_or, IfOk};
+// The record in hand of a READ: what of it is not read yet, and the contents of its fields.
+ghost use Rattle.std.specs.Prelude.{◌≡◌, ℕ, ◌≤◌, List, [], length, take, drop, get_or, IfOk};
 ghost use Rattle.f66_tree.specs.Fielded.{field, unblanked, capped, digit, digits_of, ranged, sign_of, digits_from, whole_of, truth_of, letter_of};
 
 use ground::Trap;
@@ -53,6 +53,7 @@ impl Model for Input {
 }
 
 impl Input {
+    /// No record, and room for the longest one.
     pub fn new(alloc: Global) -> Result<Self, AllocError>
         ensures { IfOk result (λ i. i ≡ []) }
     {
@@ -74,18 +75,21 @@ impl Input {
         self.end = bytes.len();
     }
 
+    /// Nothing is left to read.
     pub fn clear(&mut self)
         ensures { self.new ≡ [] }
     {
         self.first = self.end;
     }
 
+    /// What is not read yet.
     pub fn as_slice(&self) -> &[u8]
         ensures { result.now ≡ self.now }
     {
         &self.bytes[self.first..self.end]
     }
 
+    /// So many characters are behind, or all that there are.
     pub fn skip(&mut self, count: u16)
         ensures { self.new ≡ drop count self.old }
     {

@@ -1,4 +1,4 @@
-// The record in hand of a WRITE.
+// The record in hand of a WRITE: at most 132 characters, and what edits put at its end.
 ghost use Rattle.std.specs.Prelude.{◌≡◌, ℕ, ◌+◌, ◌≤◌, List, [], ◌∷◌, ◌++◌, length, take, replicate, nat_le};
 ghost use Rattle.f66_tree.specs.Fielded.{whole_text, truth_text};
 ghost use Rattle.f66_tree.specs.Turns.{extended, with_letter};
@@ -24,6 +24,7 @@ impl Model for Output {
 }
 
 impl Output {
+    /// An empty record.
     pub fn new() -> Self
         ensures { result ≡ [] }
     {
@@ -33,12 +34,14 @@ impl Output {
         }
     }
 
+    /// The characters so far.
     pub fn as_slice(&self) -> &[u8]
         ensures { result.now ≡ self.now }
     {
         &self.bytes[..self.len]
     }
 
+    /// The record is empty again.
     pub fn clear(&mut self)
         ensures { self.new ≡ [] }
     {
