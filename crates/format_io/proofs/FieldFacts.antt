@@ -1,12 +1,11 @@
 -- A field, column by column.
-use Rattle.std.specs.Prelude.{◌≡◌, ℕ, zero, suc, ◌+◌, ◌-◌, ◌*◌, ◌<◌, ◌≤◌, Bool, true, false, ◌&&◌, List, [], ◌∷◌, ◌++◌, Option, Some, None, Result, Ok, Err, ℤ, pos, length, get_or, take, drop, replicate, min, nat_eq, nat_le, nat_lt, ◌⊎◌, refl, if◌then◌else◌}
-use Rattle.std.proofs.Common.{sym, ◌∙◌, ap, subst, inl, inr, arith, append_assoc, append-nil, length-append, length-take, drop-cons}
-use Rattle.std.proofs.lemmas.Grind.{common_steps}
+use Rattle.std.specs.Prelude.{◌≡◌, ℕ, zero, suc, ◌+◌, ◌-◌, ◌*◌, ◌<◌, ◌≤◌, true, false, List, [], ◌∷◌, ◌++◌, Option, Some, None, Ok, Err, ℤ, length, get_or, take, drop, replicate, min, nat_eq, nat_lt, refl, if◌then◌else◌}
+use Rattle.std.proofs.Common.{sym, ◌∙◌, ap, subst, arith, length-append, length-take, drop-cons}
 use Rattle.std.proofs.Math.ListN.{drop_of_length-le}
 use Rattle.std.proofs.lemmas.List.{length-replicate, get_or-take, get_or-replicate, get_or_append_left, get_or-append_right}
-use Rattle.std.proofs.lemmas.Bool.{ltb-true, lt-ltb, ltb-false, le-ltb, leb-false, lt-leb, eqb-true}
+use Rattle.std.proofs.lemmas.Bool.{ltb-true, ltb-false, lt-leb, eqb-true}
 use Rattle.ground.specs.declared.trap.Trap.TheVariants.{BadField}
-use Rattle.f66_tree.specs.Fielded.{field, digit, digits_from, digits_of, capped, unblanked, whole_of, truth_of, truth_at, signed, ranged, with_sign, sign_of, minus}
+use Rattle.f66_tree.specs.Fielded.{field, digit, digits_from, digits_of, capped, unblanked, whole_of, truth_of, truth_at, signed, ranged, with_sign, sign_of}
 
 pub field_length : (w : ℕ) (line : List ℕ) → length (field w line) ≡ w
 field_length w line =

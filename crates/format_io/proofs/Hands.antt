@@ -1,17 +1,17 @@
 -- What is ahead, at the beginning and where control goes back to.
-use Rattle.std.specs.Prelude.{◌≡◌, ℕ, zero, suc, ◌+◌, ◌-◌, ◌<◌, ◌≤◌, Bool, true, false, List, [], ◌∷◌, ◌++◌, refl, Result, Ok, Err, Option, Some, None, if◌then◌else◌}
-use Rattle.std.proofs.Common.{sym, ◌∙◌, ap, subst, arith, append_assoc, append-nil}
+use Rattle.std.specs.Prelude.{◌≡◌, ℕ, zero, suc, ◌+◌, true, List, [], ◌∷◌, ◌++◌, refl, Ok, Err, Option, Some, None, if◌then◌else◌}
+use Rattle.std.proofs.Common.{sym, ◌∙◌, ap, subst, arith}
 use Rattle.ground.specs.declared.trap.Trap.TheVariants.{FormatMismatch}
 use Rattle.ground.specs.declared.value.Kind.{Kind}
 use Rattle.f66_tree.specs.declared.editing.Way.{Way}
 use Rattle.f66_tree.specs.declared.editing.Way.TheVariants.{Reading, Writing}
 use Rattle.f66_tree.specs.declared.editing.Turn.{Turn}
-use Rattle.f66_tree.specs.declared.editing.Turn.TheVariants.{Ready, RecordDone}
+use Rattle.f66_tree.specs.declared.editing.Turn.TheVariants.{RecordDone}
 use Rattle.f66_tree.specs.declared.editing.Mark.TheVariants.{Between, Complete, Over}
-use Rattle.f66_tree.specs.Turns.{Hand, started, stands, find, closed}
+use Rattle.f66_tree.specs.Turns.{started, stands, find, closed}
 use Rattle.format_io.specs.Answers.{line_in}
 use Rattle.f66_tree.specs.Fields.{has_item, Step, Fields, NoField, Single, Group, copies, steps, again, last_group}
-use Rattle.format_io.specs.Places.{size, Move, Does, Turns, moves, moves_at, visible, last_place, hand_of, Stand, NextIs}
+use Rattle.format_io.specs.Places.{size, Move, Does, Turns, moves, moves_at, visible, last_place, hand_of, NextIs}
 use Rattle.format_io.proofs.Walks.{start_moves, group_behind, end_moves}
 
 visible-append : (a b : List Move) → visible (a ++ b) ≡ visible a ++ visible b

@@ -1,6 +1,6 @@
 -- A statement does what its list of edits and record ends says.
-use Rattle.std.specs.Prelude.{◌≡◌, ℕ, zero, suc, ◌+◌, ◌≤◌, Bool, true, false, List, [], ◌∷◌, ◌++◌, length, Result, Ok, Err, ℤ, refl, if◌then◌else◌}
-use Rattle.std.proofs.Common.{sym, ◌∙◌, ap, subst, arith}
+use Rattle.std.specs.Prelude.{◌≡◌, ℕ, zero, suc, ◌+◌, ◌≤◌, Bool, true, false, List, [], ◌∷◌, length, Result, Ok, Err, ℤ, refl, if◌then◌else◌}
+use Rattle.std.proofs.Common.{◌∙◌, ap, subst, arith}
 use Rattle.ground.specs.declared.trap.Trap.{Trap}
 use Rattle.ground.specs.declared.trap.Trap.TheVariants.{FormatMismatch}
 use Rattle.f66_tree.specs.declared.editing.Way.{Way}
@@ -10,7 +10,7 @@ use Rattle.f66_tree.specs.Fields.{Step, Takes, Blanks, Chars, Slash, Fields, has
 use Rattle.f66_tree.specs.Turns.{Hand, ◌>>=◌, blanked, lettered, suits, stands, put_whole, put_truth, put_letter, extended, with_letter}
 use Rattle.f66_tree.specs.Fielded.{whole_text, truth_text}
 use Rattle.ground.specs.declared.value.Kind.TheVariants.{Integer, Logical}
-use Rattle.f66_tree.specs.Editing.{Files, exchanged, seek, seek_end, cycled, Listed, Ends, Lacks, Then, cut, gone_back, unfolded, Item, acted, runs, final, played}
+use Rattle.f66_tree.specs.Editing.{Files, exchanged, seek, seek_end, cycled, Listed, Lacks, Then, cut, gone_back, unfolded, Item, acted, runs, played}
 use Rattle.format_io.proofs.TurnsOfItems.{same_past}
 
 -- what is left to do of a statement, at a list of edits

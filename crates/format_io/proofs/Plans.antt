@@ -1,6 +1,6 @@
 -- What stands at a place of a plan.
-use Rattle.std.specs.Prelude.{◌≡◌, ℕ, zero, suc, ◌+◌, ◌-◌, ◌<◌, ◌≤◌, Bool, true, false, List, [], ◌∷◌, ◌++◌, Option, Some, None, length, get_or, set, map, max, slice_get, nat_lt, ◌⊎◌, refl, if◌then◌else◌}
-use Rattle.std.proofs.Common.{sym, ◌∙◌, ap, subst, inl, inr, arith, append_assoc, append-nil}
+use Rattle.std.specs.Prelude.{◌≡◌, ℕ, zero, suc, ◌+◌, ◌-◌, ◌<◌, ◌≤◌, List, [], ◌∷◌, ◌++◌, Option, Some, None, length, get_or, set, max, slice_get, refl}
+use Rattle.std.proofs.Common.{sym, ◌∙◌, ap, subst, inl, inr, arith}
 use Rattle.std.proofs.lemmas.List.{length-map}
 use Rattle.std.proofs.lemmas.Option.{slice_get-map}
 use Rattle.std.specs.Option.{option_map}
@@ -8,8 +8,8 @@ use Rattle.format_io.specs.declared.code.Op.{Op}
 use Rattle.format_io.specs.declared.code.Op.TheVariants as ops
 use Rattle.format_io.specs.declared.code.Laid.{Laid}
 use Rattle.format_io.specs.declared.code.Piece.{Piece}
-use Rattle.f66_tree.specs.Fields.{Step, Fields, NoField, Single, Group, copies, steps, again}
-use Rattle.format_io.specs.Places.{Code, Once, Enter, Leave, size, code, Move, Does, Turns, moves, moves_at, code_at, visible, depth, format, IsPlan, code_of, step_of, NextIs}
+use Rattle.f66_tree.specs.Fields.{Step, Fields, NoField, Single, Group, copies}
+use Rattle.format_io.specs.Places.{Code, Once, Enter, Leave, size, Move, Does, Turns, moves_at, code_at, visible, depth, format, IsPlan, code_of, step_of, NextIs}
 use Rattle.std.specs.Borrow.{Bor}
 use Rattle.format_io.proofs.Walks.{Goes, goes, code_is, length_code, where_is, code_behind, code_inside, code_end}
 

@@ -5,8 +5,8 @@ use Rattle.f66_tree.specs.declared.format.Field as tree
 use Rattle.f66_tree.specs.Views.{field_then, row_fields, fields_of}
 use Rattle.f66_tree.proofs.Rows.{group_fields}
 use Rattle.f66_tree.specs.declared.editing.EditKind.TheVariants.{Whole, Truth, Letter}
-use Rattle.f66_tree.specs.Fields.{Step, Takes, Blanks, Chars, Slash, Fields, NoField, Single, Group, copies, steps, has_item, is_item, last_group, again}
-use Rattle.format_io.specs.Places.{Code, Once, Enter, Leave, code, size, depth, last_place, parsed, first_of_rest, code_of, format, IsPlan, IsPlanOf}
+use Rattle.f66_tree.specs.Fields.{Step, Takes, Fields, NoField, Single, Group, copies, steps, has_item, is_item, last_group, again}
+use Rattle.format_io.specs.Places.{Code, Enter, Leave, code, size, depth, last_place, parsed, first_of_rest, code_of, format, IsPlanOf}
 use Rattle.format_io.specs.declared.code.Op.{Op}
 use Rattle.format_io.specs.declared.code.Laid.{Laid}
 use Rattle.format_io.proofs.Walks.{length_code}

@@ -1,17 +1,16 @@
 -- All turns up to an item are one turn after the other.
-use Rattle.std.specs.Prelude.{◌≡◌, ℕ, Bool, true, false, ◌||◌, List, [], ◌∷◌, ◌++◌, length, Result, Ok, Err, Option, Some, None, nat_le, refl, if◌then◌else◌}
+use Rattle.std.specs.Prelude.{◌≡◌, ℕ, Bool, true, false, List, [], ◌∷◌, Result, Ok, Err, None, refl, if◌then◌else◌}
 use Rattle.std.proofs.Common.{sym, ◌∙◌, ap, subst}
 use Rattle.ground.specs.declared.trap.Trap.{Trap}
-use Rattle.ground.specs.declared.trap.Trap.TheVariants.{EndOfInput, FormatMismatch, LongRecord}
+use Rattle.ground.specs.declared.trap.Trap.TheVariants.{FormatMismatch}
 use Rattle.ground.specs.declared.value.Kind.{Kind}
 use Rattle.f66_tree.specs.declared.editing.Way.{Way}
 use Rattle.f66_tree.specs.declared.editing.Way.TheVariants.{Reading, Writing}
-use Rattle.f66_tree.specs.declared.editing.Turn.{Turn}
 use Rattle.f66_tree.specs.declared.editing.Turn.TheVariants.{Ready, RecordDone}
-use Rattle.f66_tree.specs.declared.editing.Mark.TheVariants.{Between, Due, Complete, Over}
-use Rattle.f66_tree.specs.Fields.{Step, Takes, Blanks, Chars, Slash, has_item, is_item}
-use Rattle.f66_tree.specs.Turns.{Hand, ◌>>=◌, blanked, lettered, suits, stands, find, next_turn, line_of, took, close, last_turn, is_over}
-use Rattle.f66_tree.specs.Editing.{Files, exchanged, fetched, Onward, seek, cycled, to_item, changed, changed_by, arrived, followed, seek_end, to_end, followed_end}
+use Rattle.f66_tree.specs.declared.editing.Mark.TheVariants.{Due, Complete}
+use Rattle.f66_tree.specs.Fields.{Step, Takes, Blanks, Chars, Slash, has_item}
+use Rattle.f66_tree.specs.Turns.{Hand, ◌>>=◌, blanked, lettered, suits, stands, find, next_turn, line_of, close, last_turn, is_over}
+use Rattle.f66_tree.specs.Editing.{Files, exchanged, fetched, Onward, seek, cycled, to_item, changed, arrived, followed, seek_end, to_end, followed_end}
 
 abbrev Falsely : Bool → Type 0
 Falsely false = Unit {0}

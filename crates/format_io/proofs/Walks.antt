@@ -1,10 +1,10 @@
 -- Each instruction does what its place says.
-use Rattle.std.specs.Prelude.{◌≡◌, ℕ, zero, suc, ◌+◌, ◌-◌, ◌<◌, ◌≤◌, Bool, true, false, List, [], ◌∷◌, ◌++◌, Option, Some, None, length, get_or, set, slice_get, nat_lt, ◌⊎◌, refl, if◌then◌else◌}
-use Rattle.std.proofs.Common.{sym, ◌∙◌, ap, subst, inl, inr, arith, append_assoc, append-nil, length-append}
-use Rattle.std.proofs.lemmas.Bool.{ltb-true, lt-ltb, ltb-false, le-ltb}
+use Rattle.std.specs.Prelude.{◌≡◌, ℕ, zero, suc, ◌+◌, ◌-◌, ◌<◌, ◌≤◌, true, List, [], ◌∷◌, ◌++◌, Option, Some, None, length, get_or, set, slice_get, nat_lt, ◌⊎◌, refl, if◌then◌else◌}
+use Rattle.std.proofs.Common.{sym, ◌∙◌, ap, subst, inl, inr, arith, append_assoc, length-append}
+use Rattle.std.proofs.lemmas.Bool.{lt-ltb, le-ltb}
 use Rattle.std.proofs.lemmas.List.{get_or-set_same, get_or-set_other}
-use Rattle.f66_tree.specs.Fields.{Step, Fields, NoField, Single, Group, copies, steps, again}
-use Rattle.format_io.specs.Places.{Code, Once, Enter, Leave, size, code, Move, Does, Turns, moves, moves_at, code_at, visible}
+use Rattle.f66_tree.specs.Fields.{Fields, NoField, Single, Group, copies}
+use Rattle.format_io.specs.Places.{Code, Once, Enter, Leave, size, code, Move, Does, Turns, moves, moves_at, code_at}
 
 abbrev pub Walk : Type 0
 Walk = ℕ → ℕ → List ℕ → List Move

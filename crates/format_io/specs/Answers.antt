@@ -1,12 +1,11 @@
 -- What calls answer, and what they leave.
-use Rattle.std.specs.Prelude.{◌≡◌, ℕ, ◌<◌, ◌≤◌, List, length, Result, Ok, Err, Option, Some, None}
+use Rattle.std.specs.Prelude.{◌≡◌, ℕ, ◌<◌, List, length, Result, Ok, Err, Option, Some, None}
 use Rattle.ground.specs.declared.trap.Trap.{Trap}
 use Rattle.f66_tree.specs.declared.editing.Turn.{Turn}
 use Rattle.ground.specs.declared.value.Kind.{Kind}
 use Rattle.f66_tree.specs.declared.editing.Way.{Way}
-use Rattle.f66_tree.specs.declared.editing.Mark.{Mark}
 use Rattle.f66_tree.specs.declared.editing.Way.TheVariants.{Reading, Writing}
-use Rattle.f66_tree.specs.declared.editing.Mark.TheVariants.{Between, Due, Complete, Over}
+use Rattle.f66_tree.specs.declared.editing.Mark.TheVariants.{Between}
 use Rattle.f66_tree.specs.Fields.{Fields}
 use Rattle.f66_tree.specs.Turns.{Hand, find, close, closed, line_of}
 use Rattle.format_io.specs.Places.{Stand, hand_of}

@@ -1,5 +1,5 @@
 -- The flat code of a format, the places in it, and the edits that are ahead of each place.
-use Rattle.std.specs.Prelude.{◌≡◌, ◌≤◌, ℕ, zero, suc, ◌+◌, ◌-◌, Bool, true, false, List, [], ◌∷◌, ◌++◌, Option, Some, None, get_or, nat_lt, nat_eq, max, drop, map, if◌then◌else◌}
+use Rattle.std.specs.Prelude.{◌≡◌, ◌≤◌, ℕ, zero, suc, ◌+◌, ◌-◌, List, [], ◌∷◌, ◌++◌, Option, Some, None, get_or, nat_lt, max, drop, map, if◌then◌else◌}
 use Rattle.f66_tree.specs.declared.editing.Way.{Way}
 use Rattle.f66_tree.specs.declared.editing.Mark.{Mark}
 use Rattle.std.specs.Borrow.{Bor}

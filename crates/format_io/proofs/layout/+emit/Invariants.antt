@@ -1,5 +1,5 @@
 use Rattle.std.proofs.Common.{◌≡◌, ◌≤◌, ◌+◌, ◌++◌, ◌∷◌, [], drop, map}
-use Rattle.format_io.specs.Places.{size, code, code_of, depth, Leave}
+use Rattle.format_io.specs.Places.{code, code_of, Leave}
 use Rattle.format_io.specs.OneField.{one}
 use Rattle.format_io.proofs.Parts.{list_code, list_depth}
 use Rattle.format_io.proofs.layout.+emit.Given as goal

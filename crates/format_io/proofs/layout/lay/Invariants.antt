@@ -1,7 +1,5 @@
 use Rattle.std.proofs.Common.{◌≡◌, ◌≤◌, ◌++◌, drop, map, length}
-use Rattle.f66_tree.specs.Fields.{has_item, steps}
 use Rattle.format_io.specs.Places.{code_of}
-use Rattle.format_io.specs.OneField.{one}
 use Rattle.format_io.proofs.Parts.{list_code, list_depth, list_place, list_cycles}
 use Rattle.std.specs.Prelude.{false}
 use Rattle.format_io.proofs.layout.lay.Given as goal

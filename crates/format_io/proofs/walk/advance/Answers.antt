@@ -1,4 +1,4 @@
-use Rattle.std.proofs.Common.{◌≡◌, ℕ, ◌+◌, ◌-◌, ◌<◌, ◌≤◌, length, List, [], ◌∷◌, arith, Some, None, refl, slice_get, rules}
+use Rattle.std.proofs.Common.{◌≡◌, ◌+◌, ◌<◌, length, arith, Some, slice_get, rules}
 use Rattle.format_io.specs.declared.code.Op.TheVariants as ops
 use Rattle.format_io.proofs.Plans.{reads, reads_none, next_does, next_ends, turned, shorter, once_more, once_over, enters, enters_within, enter_level, leaves_within, leaves_last, leaves_more, leave_level, plan_end}
 use Rattle.format_io.proofs.walk.advance.Goals as goal

@@ -1,9 +1,8 @@
-use Rattle.std.proofs.Common.{◌≡◌, List, sym, ◌∙◌, ap, length, [], Option}
+use Rattle.std.proofs.Common.{◌≡◌, sym, ◌∙◌, ap, []}
 use Rattle.format_io.proofs.Hands.{closes_writing, closes_reading, visible_end}
 use Rattle.format_io.proofs.Plans.{plan_size}
 use Rattle.format_io.specs.Places.{format, hand_of, visible, moves_at}
 use Rattle.f66_tree.specs.Turns.{closed}
-use Rattle.f66_tree.specs.Fields.{Step}
 use Rattle.format_io.proofs.edit.Edit.close.Goals as goal
 use Rattle.format_io.proofs.edit.Edit.close.Goals.{in-Writing, in-Reading}
 

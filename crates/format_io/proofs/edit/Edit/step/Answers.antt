@@ -1,4 +1,4 @@
-use Rattle.std.proofs.Common.{◌≡◌, sym, ◌∙◌, ap, Some, None}
+use Rattle.std.proofs.Common.{sym, ◌∙◌, ap, None}
 use Rattle.format_io.proofs.Hands.{none_next, back_again, visible_again}
 use Rattle.format_io.specs.Places.{format, hand_of}
 use Rattle.format_io.specs.Answers.{seeks}

@@ -1,7 +1,6 @@
-use Rattle.std.proofs.Common.{◌≡◌, ◌≤◌, arith, ap, ◌∙◌}
+use Rattle.std.proofs.Common.{arith, ap, ◌∙◌}
 use Rattle.format_io.proofs.FieldFacts.{digit_great, digit_more}
 use Rattle.format_io.proofs.input.Input.magnitude.Goals as goal
-use Rattle.std.specs.Prelude.{ℕ, ◌<◌, ◌+◌, ◌*◌, Some}
 use Rattle.f66_tree.specs.Fielded.{digit}
 
 pub returns-then-more-gt2147483647 : goal.returns-then-more-gt2147483647

@@ -1,4 +1,4 @@
-use Rattle.std.proofs.Common.{◌≡◌, ◌≤◌, ◌<◌, arith, sym, ◌∙◌}
+use Rattle.std.proofs.Common.{arith, ◌∙◌}
 use Rattle.f66_tree.specs.Fielded.{field}
 use Rattle.format_io.proofs.FieldFacts.{truth_bad, found_at}
 use Rattle.format_io.proofs.input.Input.truth.Goals as goal

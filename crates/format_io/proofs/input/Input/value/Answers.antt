@@ -1,4 +1,4 @@
-use Rattle.std.proofs.Common.{◌≡◌, ◌≤◌, ◌<◌, arith, rules, w64, sym, ◌∙◌}
+use Rattle.std.proofs.Common.{arith, rules, w64, ◌∙◌}
 use Rattle.std.proofs.lemmas.Int.{to_z-of_z}
 use Rattle.f66_tree.specs.Fielded.{sign_of}
 use Rattle.format_io.proofs.FieldFacts.{value_is}

@@ -1,5 +1,5 @@
-use Rattle.std.proofs.Common.{◌≡◌, ◌≤◌, ◌<◌, arith, sym, ◌∙◌, ap, List, ◌∷◌, ◌+◌, drop, get_or, false}
-use Rattle.f66_tree.specs.Fielded.{sign_of, field, unblanked, ranged, digits_of}
+use Rattle.std.proofs.Common.{arith, sym, ◌∙◌, ap, false}
+use Rattle.f66_tree.specs.Fielded.{sign_of, field, ranged, digits_of}
 use Rattle.format_io.proofs.FieldFacts.{sign_plus, sign_minus, sign_none, found_at, field_drop}
 use Rattle.format_io.proofs.input.Input.whole.Goals as goal
 
