@@ -1,5 +1,5 @@
 -- A statement does what its list of edits and record ends says.
-use Rattle.std.specs.Prelude.{◌≡◌, ℕ, zero, suc, ◌+◌, ◌≤◌, Bool, true, false, List, [], ◌∷◌, length, Result, Ok, Err, ℤ, refl, if◌then◌else◌}
+use Rattle.std.specs.Prelude.{◌≡◌, ℕ, zero, suc, ◌+◌, ◌≤◌, Bool, true, false, List, [], ◌∷◌, length, Result, Ok, Err, ℤ, refl, if◌then◌else◌, drop}
 use Rattle.std.proofs.Common.{◌∙◌, ap, subst, arith}
 use Rattle.ground.specs.declared.trap.Trap.{Trap}
 use Rattle.ground.specs.declared.trap.Trap.TheVariants.{FormatMismatch}
@@ -7,8 +7,8 @@ use Rattle.f66_tree.specs.declared.editing.Way.{Way}
 use Rattle.f66_tree.specs.declared.editing.Way.TheVariants.{Reading, Writing}
 use Rattle.f66_tree.specs.declared.editing.Mark.TheVariants.{Between, Due}
 use Rattle.f66_tree.specs.Fields.{Step, Takes, Blanks, Chars, Slash, Fields, has_item, steps, again}
-use Rattle.f66_tree.specs.Turns.{Hand, ◌>>=◌, blanked, lettered, suits, stands, put_whole, put_truth, put_letter, extended, with_letter}
-use Rattle.f66_tree.specs.Fielded.{whole_text, truth_text}
+use Rattle.f66_tree.specs.Turns.{Hand, ◌>>=◌, blanked, lettered, suits, stands, put_whole, put_truth, put_letter, extended, with_letter, take_whole, take_truth, take_letter, past, width_of}
+use Rattle.f66_tree.specs.Fielded.{whole_text, truth_text, field, whole_of, truth_of, letter_of}
 use Rattle.ground.specs.declared.value.Kind.TheVariants.{Integer, Logical}
 use Rattle.f66_tree.specs.Editing.{Files, exchanged, seek, seek_end, cycled, Listed, Lacks, Then, cut, gone_back, unfolded, Item, acted, runs, played}
 use Rattle.format_io.proofs.TurnsOfItems.{same_past}
@@ -109,12 +109,38 @@ runs_list way fs is line f =
     runs_is way (steps (again fs)) (steps fs) is line f
     ∙ inner way (steps (again fs)) (length is) (λ m g. backs way (steps (again fs)) m) (steps fs) is line f (omega arith)
 
--- an item that is written or read acts so
-put_whole_acts : (h : Hand) (n : ℤ) → put_whole h n ≡ acted h (record { kind = Integer; act = λ w line. extended line (whole_text w n) })
+-- ---- each put and take is what its item does to the record ----
+
+pub put_whole_acts : (h : Hand) (n : ℤ) → put_whole h n ≡ acted h (record { kind = Integer; act = λ w line. extended line (whole_text w n) })
 put_whole_acts h n = refl
 
-put_truth_acts : (h : Hand) (b : Bool) → put_truth h b ≡ acted h (record { kind = Logical; act = λ w line. extended line (truth_text w b) })
+pub put_truth_acts : (h : Hand) (b : Bool) → put_truth h b ≡ acted h (record { kind = Logical; act = λ w line. extended line (truth_text w b) })
 put_truth_acts h b = refl
 
-put_letter_acts : (h : Hand) (n : ℤ) → put_letter h n ≡ acted h (record { kind = Integer; act = λ w line. with_letter n line })
+pub put_letter_acts : (h : Hand) (n : ℤ) → put_letter h n ≡ acted h (record { kind = Integer; act = λ w line. with_letter n line })
 put_letter_acts h n = refl
+
+-- behind a field whose content was read
+abbrev pub behind : {A : Type 0} → Result A Trap → ℕ → List ℕ → Result (List ℕ) Trap
+behind r w line = r >>= λ x. Ok (drop w line)
+
+abbrev read_by : {A : Type 0} → Hand → Result A Trap → Result (A × Hand) Trap
+read_by h r = r >>= λ x. Ok (x, past h)
+
+-- the hand alone
+abbrev pub hand_after : {A : Type 0} → Result (A × Hand) Trap → Result Hand Trap
+hand_after r = r >>= λ x. Ok x.1
+
+taken : {A : Type 0} (h : Hand) (r : Result A Trap)
+    → hand_after (read_by h r) ≡ (behind r (width_of h.mark) h.line >>= λ l. Ok (record h { line = l; mark = Between }))
+taken h (Ok x) = refl
+taken h (Err e) = refl
+
+pub take_whole_acts : (h : Hand) → hand_after (take_whole h) ≡ acted h (record { kind = Integer; act = λ w line. behind (whole_of (field w line)) w line })
+take_whole_acts h = taken h (whole_of (field (width_of h.mark) h.line))
+
+pub take_truth_acts : (h : Hand) → hand_after (take_truth h) ≡ acted h (record { kind = Logical; act = λ w line. behind (truth_of (field w line)) w line })
+take_truth_acts h = taken h (truth_of (field (width_of h.mark) h.line))
+
+pub take_letter_acts : (h : Hand) → hand_after (take_letter h) ≡ acted h (record { kind = Integer; act = λ w line. behind (letter_of (field 1 line)) w line })
+take_letter_acts h = taken h (letter_of (field 1 h.line))
