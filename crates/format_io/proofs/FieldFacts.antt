@@ -53,13 +53,6 @@ eqb_not a b other = elim (nat_eq a b) as (λ v. nat_eq a b ≡ v → v ≡ false
 unblanked-other : (c : ℕ) (cs : List ℕ) → (c ≡ 32 → ⊥) → unblanked (c ∷ cs) ≡ c ∷ cs
 unblanked-other c cs other = ap (λ b. if b then unblanked cs else c ∷ cs) (eqb_not c 32 other)
 
-pub mark_found : (w : ℕ) (line : List ℕ) (i : ℕ) (r : List ℕ) → i < w → (get_or line i 32 ≡ 32 → ⊥) → unblanked (drop i (field w line)) ≡ r → drop i (field w line) ≡ r
-mark_found w line i r lt other e =
-    field_drop w line i lt ∙ sym (unblanked-other (get_or line i 32) (drop (i + 1) (field w line)) other) ∙ sym (ap unblanked (field_drop w line i lt)) ∙ e
-
-pub mark_none : (w : ℕ) (line : List ℕ) (r : List ℕ) → unblanked (drop w (field w line)) ≡ r → drop w (field w line) ≡ r
-mark_none w line r e = field_done w line ∙ sym (ap unblanked (field_done w line)) ∙ e
-
 -- ---- digits ----
 
 abbrev after : ℕ → List ℕ → Option ℕ → Option ℕ
@@ -81,9 +74,6 @@ pub digit_more : (w : ℕ) (line : List ℕ) (i n d : ℕ) (r : Option ℕ) → 
     → capped (digits_from (n * 10 + d) (drop (i + 1) (field w line))) ≡ r
 digit_more w line i n d r lt is e = sym (ap capped (digit_next w line i n lt ∙ ap (after n (drop (i + 1) (field w line))) (sym is))) ∙ e
 
-pub digit_bad : (w : ℕ) (line : List ℕ) (i n : ℕ) (r : Option ℕ) → i < w → None ≡ digit (get_or line i 32) → capped (digits_from n (drop i (field w line))) ≡ r → None ≡ r
-digit_bad w line i n r lt is e = sym (ap capped (digit_next w line i n lt ∙ ap (after n (drop (i + 1) (field w line))) (sym is))) ∙ e
-
 pub digit_great : (w : ℕ) (line : List ℕ) (i n d : ℕ) (r : Option ℕ) → i < w → Some d ≡ digit (get_or line i 32) → 2147483647 < n * 10 + d
     → capped (digits_from n (drop i (field w line))) ≡ r → None ≡ r
 digit_great w line i n d r lt is great e = sym (too_great (n * 10 + d) (drop (i + 1) (field w line)) great) ∙ digit_more w line i n d r lt is e
@@ -95,9 +85,6 @@ digits_there w line i lt = ap digits_of (field_drop w line i lt) ∙ sym (ap (di
 
 pub found_at : (w : ℕ) (line : List ℕ) (i : ℕ) → i < w → drop i (field w line) ≡ unblanked (field w line) → unblanked (field w line) ≡ get_or line i 32 ∷ drop (i + 1) (field w line)
 found_at w line i lt e = sym e ∙ field_drop w line i lt
-
-pub found_none : (w : ℕ) (line : List ℕ) → drop w (field w line) ≡ unblanked (field w line) → unblanked (field w line) ≡ []
-found_none w line e = sym e ∙ field_done w line
 
 pub sign_plus : (f rest : List ℕ) (c : ℕ) → unblanked f ≡ c ∷ rest → c ≡ 43 → ranged (sign_of false) (digits_of rest) ≡ whole_of f
 sign_plus f rest c e is = sym (ap signed e ∙ ap (λ v. signed (v ∷ rest)) is)
@@ -117,11 +104,3 @@ pub truth_bad : (f rest : List ℕ) (c : ℕ) → unblanked f ≡ c ∷ rest →
 truth_bad f rest c e a b = sym (ap truth_at e
     ∙ ap (λ v. if v then Ok true else (if nat_eq c 70 then Ok false else Err BadField)) (eqb_not c 84 a)
     ∙ ap (λ v. if v then Ok false else Err BadField) (eqb_not c 70 b))
-
-pub replaced : (r xs : List ℕ) (n : ℕ) → length r ≤ n → take (length r) (take n (r ++ xs)) ≡ r
-replaced [] xs n le = refl
-replaced (x ∷ r) xs zero le = let no_way : ⊥ = omega arith in absurd no_way
-replaced (x ∷ r) xs (suc n) le = ap (λ v. x ∷ v) (replaced r xs n (omega arith))
-
-pub replaced_by : (g r xs : List ℕ) (n : ℕ) → g ≡ r → length r ≤ n → take (length r) (take n (g ++ xs)) ≡ r
-replaced_by g r xs n e le = subst (λ v. take (length r) (take n (v ++ xs)) ≡ r) (sym e) (replaced r xs n le)

@@ -9,9 +9,9 @@ use Rattle.format_io.specs.declared.code.Op.TheVariants as ops
 use Rattle.format_io.specs.declared.code.Laid.{Laid}
 use Rattle.format_io.specs.declared.code.Piece.{Piece}
 use Rattle.f66_tree.specs.Fields.{Step, Fields, NoField, Single, Group, copies}
-use Rattle.format_io.specs.Places.{Code, Once, Enter, Leave, size, Move, Does, Turns, moves_at, code_at, visible, depth, format, IsPlan, code_of, step_of, NextIs}
+use Rattle.format_io.specs.Places.{Code, Once, Enter, Leave, size, Move, Does, Turns, moves_at, visible, depth, format, IsPlan, code_of, step_of, NextIs}
 use Rattle.std.specs.Borrow.{Bor}
-use Rattle.format_io.proofs.Walks.{Goes, goes, code_is, length_code, where_is, code_behind, code_inside, code_end}
+use Rattle.format_io.proofs.Walks.{Goes, goes, code_is, length_code, where_is, code_behind, code_inside, code_end, code_at}
 
 pub plan_code : (p : Laid) (pc : ℕ) → IsPlan p → option_map code_of (slice_get p.ops.items pc) ≡ code_at 0 (format p) pc
 plan_code p pc is = sym (slice_get-map code_of p.ops.items pc) ∙ ap (λ v. slice_get v pc) is.same ∙ code_is 0 (format p) pc

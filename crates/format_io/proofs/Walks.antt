@@ -4,7 +4,17 @@ use Rattle.std.proofs.Common.{sym, ◌∙◌, ap, subst, inl, inr, arith, append
 use Rattle.std.proofs.lemmas.Bool.{lt-ltb, le-ltb}
 use Rattle.std.proofs.lemmas.List.{get_or-set_same, get_or-set_other}
 use Rattle.f66_tree.specs.Fields.{Fields, NoField, Single, Group, copies}
-use Rattle.format_io.specs.Places.{Code, Once, Enter, Leave, size, code, Move, Does, Turns, moves, moves_at, code_at}
+use Rattle.format_io.specs.Places.{Code, Once, Enter, Leave, size, code, Move, Does, Turns, moves, moves_at}
+
+-- the instruction at a place
+abbrev pub code_at : ℕ → Fields → ℕ → Option Code
+code_at lv NoField pc = None
+code_at lv (Single n s fs) zero = Some (Once n s)
+code_at lv (Single n s fs) (suc pc) = code_at lv fs pc
+code_at lv (Group n inside fs) zero = Some (Enter lv n (size inside))
+code_at lv (Group n inside fs) (suc pc) =
+    if nat_lt (size inside) pc then code_at lv fs (pc - suc (size inside))
+    else (if nat_lt pc (size inside) then code_at (suc lv) inside pc else Some (Leave lv (size inside)))
 
 abbrev pub Walk : Type 0
 Walk = ℕ → ℕ → List ℕ → List Move

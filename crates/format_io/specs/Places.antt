@@ -48,16 +48,6 @@ moves_at lv (Group n inside fs) (suc pc) past counts =
     if nat_lt (size inside) pc then moves_at lv fs (pc - suc (size inside)) past counts
     else moves_at (suc lv) inside pc past counts ++ (copies (get_or counts lv 0) (Turns ∷ moves inside) ++ Turns ∷ moves fs)
 
--- the instruction at a place
-abbrev pub code_at : ℕ → Fields → ℕ → Option Code
-code_at lv NoField pc = None
-code_at lv (Single n s fs) zero = Some (Once n s)
-code_at lv (Single n s fs) (suc pc) = code_at lv fs pc
-code_at lv (Group n inside fs) zero = Some (Enter lv n (size inside))
-code_at lv (Group n inside fs) (suc pc) =
-    if nat_lt (size inside) pc then code_at lv fs (pc - suc (size inside))
-    else (if nat_lt pc (size inside) then code_at (suc lv) inside pc else Some (Leave lv (size inside)))
-
 -- the fields that a code stands for, and what follows the groups that it ends, the innermost first
 abbrev pub first_of_rest : List Fields → Fields
 first_of_rest [] = NoField

@@ -26,14 +26,12 @@ fn with_sign(negative: bool, n: u32) -> i64
 }
 
 /// The record at the front of a buffer.
-fn copy_into(buffer: &mut Vec<u8>, bytes: &[u8])
-    requires { length bytes.now ≤ length buffer.old.items }
-    ensures room { length buffer.new.items ≡ length buffer.old.items }
-    ensures front { take (length bytes.now) buffer.new.items ≡ bytes.now }
+fn copy_into(buffer: &mut [u8], bytes: &[u8])
+    requires { length bytes.now ≤ length buffer.old }
+    ensures room { length buffer.new ≡ length buffer.old }
+    ensures front { take (length bytes.now) buffer.new ≡ bytes.now }
 {
-    for i in 0..bytes.len() {
-        buffer[i] = bytes[i];
-    }
+    buffer[..bytes.len()].copy_from_slice(bytes);
 }
 
 /// What is not read yet of a record of at most 65,535 bytes.
