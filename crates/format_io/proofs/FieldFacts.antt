@@ -1,6 +1,6 @@
 -- A field, column by column.
-use Rattle.std.specs.Prelude.{◌≡◌, ℕ, zero, suc, ◌+◌, ◌-◌, ◌*◌, ◌<◌, ◌≤◌, true, false, List, [], ◌∷◌, ◌++◌, Option, Some, None, Ok, Err, ℤ, length, get_or, take, drop, replicate, min, nat_eq, nat_lt, refl, if◌then◌else◌}
-use Rattle.std.proofs.Common.{sym, ◌∙◌, ap, subst, arith, length-append, length-take, drop-cons}
+use Rattle.std.specs.Prelude.{◌≡◌, ℕ, zero, suc, ◌+◌, ◌-◌, ◌*◌, ◌<◌, ◌≤◌, true, false, List, [], ◌∷◌, Option, Some, None, Ok, Err, ℤ, length, get_or, take, drop, replicate, min, nat_eq, nat_lt, refl, if◌then◌else◌}
+use Rattle.std.proofs.Common.{sym, ◌∙◌, ap, arith, length-append, length-take, drop-cons}
 use Rattle.std.proofs.Math.ListN.{drop_of_length-le}
 use Rattle.std.proofs.lemmas.List.{length-replicate, get_or-take, get_or-replicate, get_or_append_left, get_or-append_right}
 use Rattle.std.proofs.lemmas.Bool.{ltb-true, ltb-false, lt-leb, eqb-true}
