@@ -44,4 +44,5 @@ pub mod Soundness
 pub mod Checks
 pub mod CleanUnits
 pub mod MainUnits
+mod Serving
 mod Examples

@@ -4,8 +4,10 @@ use Rattle.std.specs.Prelude.{if◌then◌else◌}
 use Rattle.std.proofs.lemmas.Option.{none-some}
 use Rattle.ground.specs.declared.place.Place.{Place}
 use Rattle.ground.specs.declared.fault.FaultKind.TheVariants.{Unbuilt}
-use Rattle.f66_tree.specs.Forms.{MainUnit, Line}
+use Rattle.f66_tree.specs.declared.unit.Unit.{Unit as AUnit}
+use Rattle.f66_tree.specs.Forms.{MainUnit, Line, Routine}
 use Rattle.f66_tree.specs.Units.{is_main}
+use Rattle.f66_tree.specs.Views.{routine_of}
 use Rattle.f66_tree.specs.World.{Record}
 use Rattle.f66_tree.specs.Agreement.{Agrees}
 use Rattle.f66_tree.specs.OneUnit.{executed}
@@ -19,6 +21,7 @@ use Rattle.rat_lower.specs.OneUnit.{means}
 use Rattle.rat_lower.specs.Code.{all_labels, ends_so}
 use Rattle.rat_lower.specs.Emitted.{labels_past, names_of}
 use Rattle.rat_lower.specs.Lowered.{lowered, KeepsFlow}
+use Rattle.rat_lower.specs.Served.{Serves}
 use Rattle.rat_lower.proofs.Checks.{accepted_agrees, accepted_flow}
 use Rattle.rat_lower.proofs.CleanUnits.{unit_is_sound}
 
@@ -44,3 +47,11 @@ module _ (u : RatRoutine) (taken given : List ℕ) (first last : Place) (code : 
   code_sound place room finished =
       subst (λ lines. IsSound (record { header = MainUnit; lines = lines; place = place })) (sym made)
       (unit_is_sound u.body accepted few (labels_past given) first last place (accepted_flow u.body accepted few given all first last room (sym (ap (ends_so false) made) ∙ finished)))
+
+  pub code_serves : (unit : AUnit) (place : Place) → routine_of unit ≡ record { header = MainUnit; lines = code; place = place } → length given + all_labels u.body ≤ 77000 → ends_so false code ≡ true → Serves u.body unit
+  code_serves unit place is room finished = record {
+    header = ap (λ (r : Routine). r.header) is;
+    agrees = subst (λ (r : Routine). (input : List Record) → Agrees (means u.body input) (executed r.lines input)) (sym is) code_agrees;
+    flow = subst (λ (r : Routine). KeepsFlow r.lines) (sym is) (code_flow room finished);
+    sound = subst IsSound (sym is) (code_sound place room finished);
+  }

@@ -4,3 +4,4 @@ pub mod Checked
 pub mod Around
 pub mod Emitted
 pub mod Lowered
+pub mod Served

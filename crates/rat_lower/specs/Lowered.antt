@@ -1,5 +1,5 @@
 -- The unit of FORTRAN that a main unit of Ratfor becomes, and what is refused.
-use Rattle.std.specs.Prelude.{◌≡◌, ℕ, ◌+◌, nat_le, nat_lt, ◌&&◌, false, List, [], length, Option, Some, None, if◌then◌else◌}
+use Rattle.std.specs.Prelude.{◌≡◌, ℕ, ◌+◌, nat_le, nat_lt, ◌&&◌, false, List, [], ◌∷◌, length, Option, Some, None, if◌then◌else◌}
 use Rattle.ground.specs.declared.place.Place.{Place}
 use Rattle.ground.specs.declared.fault.Fault.{Fault}
 use Rattle.ground.specs.declared.fault.FaultKind.{FaultKind}
@@ -34,6 +34,11 @@ room_fault u = if nat_le (label_count u.body) 77000 && nat_lt (length (names_of 
 -- what the checks refuse, and then what has too many labels or names
 abbrev pub lower_fault : RatRoutine → Option Fault
 lower_fault u = or_else (unit_fault u) (room_fault u)
+
+-- unit by unit
+abbrev pub first_lower_fault : List RatRoutine → Option Fault
+first_lower_fault [] = None
+first_lower_fault (u ∷ us) = or_else (lower_fault u) (first_lower_fault us)
 
 -- neither the header nor a statement breaks a rule on order, labels or DO ranges (X3.9-1966, sections 3.4, 7.1.2, 7.2 and 9.1)
 pub record KeepsFlow (lines : List Line) : Type 0 where

@@ -1,4 +1,4 @@
-//! From Ratfor to FORTRAN: a main unit of Ratfor becomes a unit of FORTRAN that does the same.
+//! From Ratfor to FORTRAN: each main unit of a program becomes a unit of FORTRAN that does the same.
 #![tactic(auto)]
 
 mod around;
@@ -8,6 +8,7 @@ mod lines;
 mod main_unit;
 mod maker;
 mod names;
+mod program;
 mod unit;
 
 use around::{Around, Turn, label_again, label_behind};
@@ -17,7 +18,8 @@ use lines::{
     append, put, put_act, put_break, put_cases, put_copy, put_do, put_here, put_jump, put_mark,
     put_next, put_return, put_step, put_test, put_unless, put_value,
 };
-pub use main_unit::lower;
+use main_unit::lower_unit;
 use maker::Maker;
 use names::{has_name, names_in};
+pub use program::lower;
 use unit::lower_body;

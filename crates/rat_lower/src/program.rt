@@ -1,0 +1,29 @@
+// From a program of Ratfor to units of FORTRAN.
+ghost use Rattle.std.specs.Prelude.{IfOk};
+ghost use Rattle.rat_tree.specs.Views.{program_of};
+ghost use Rattle.rat_check.specs.FirstFault.{Tells};
+ghost use Rattle.rat_lower.specs.Lowered.{first_lower_fault};
+ghost use Rattle.rat_lower.specs.Served.{AllServe};
+
+use crate::lower_unit;
+use f66_check::CheckedUnit;
+use ground::{List, Refusal};
+use rat_tree::RatProgram;
+use std::alloc::Global;
+
+/// The units of FORTRAN that do what those of a program do, each in its place. The first fault of the units in their order:
+/// those of the checks, and 30 Limit with the number 6 where a unit needs more than 77000 labels, those of its source included,
+/// or names stand in 99999 places of it. Each is sound (X3.9-1966, sections 3 to 9).
+pub fn lower(alloc: Global, program: &RatProgram) -> Result<List<CheckedUnit>, Refusal>
+    ensures fault { Tells result (first_lower_fault (program_of program.now).routines) }
+    ensures serves { IfOk result (λ made. AllServe (program_of program.now).routines made.items) }
+{
+    let mut made = Vec::new(alloc);
+    for unit in &program.units {
+        let unit = lower_unit(alloc, unit, program.finish)?;
+        let Ok(()) = made.push(unit) else {
+            return Err(Refusal::Memory);
+        };
+    }
+    Ok(made)
+}
