@@ -15,6 +15,7 @@ use Rattle.f66_tree.specs.OneUnit.{one_unit}
 use Rattle.f66_tree.specs.Views.{act_of, line_of, lines_of}
 use Rattle.unit_walk.specs.Walked.{is_plain, is_walked, are_walked}
 use Rattle.unit_walk.specs.declared.statement.RunEnd.TheVariants as ends
+use Rattle.unit_walk.specs.declared.statement.Halt.TheVariants.{Right}
 use Rattle.unit_walk.specs.declared.do_loop.Pass.{Pass}
 use Rattle.unit_walk.specs.declared.do_loop.Lead.{Lead}
 use Rattle.unit_walk.specs.declared.do_loop.Lead.TheVariants.{At, Over}
@@ -24,7 +25,7 @@ use Rattle.unit_walk.specs.declared.stuck.Stuck.TheVariants.{Trapped, Wrong}
 use Rattle.unit_walk.specs.Contents.{Values, values_in, tried}
 use Rattle.unit_walk.specs.Steps.{condition}
 use Rattle.unit_walk.specs.Declarations.{context_of}
-use Rattle.unit_walk.specs.Leaving.{end_of, end_of_stuck}
+use Rattle.unit_walk.specs.Leaving.{halted, end_of_stuck}
 use Rattle.unit_walk.specs.Walking.{HoldsValues, main_at, around_main}
 use Rattle.unit_walk.specs.Loops.{loop_of, begun_with, Begins}
 use Rattle.unit_walk.specs.Running.{LoopsAre, Part, led_to, Leads}
@@ -177,7 +178,7 @@ module _ (code : List Line) (limit : ℕ) (run : Run) (w : World) (pr : Progress
         };
       }
     where
-      loop_stuck : (q : Stuck) (w1 : World) → bind (settle p (tried (begun_with (Err q))) w1) (λ k w2. main_from code (suc w.left) (stand (drop (index + 1) code) (begun (length (drop (index + 1) code)) k pr)) w2) ≡ Halts (end_of (end_of_stuck q p)) w1
+      loop_stuck : (q : Stuck) (w1 : World) → bind (settle p (tried (begun_with (Err q))) w1) (λ k w2. main_from code (suc w.left) (stand (drop (index + 1) code) (begun (length (drop (index + 1) code)) k pr)) w2) ≡ Halts (halted (end_of_stuck q p)) w1
       loop_stuck (Trapped t) w1 = refl
       loop_stuck Wrong w1 = refl
 
@@ -205,7 +206,7 @@ walked_at notes (x ∷ all) zero s walked within is = ap (λ (y : Stmt). is_walk
 walked_at notes (x ∷ all) (suc i) s walked within is = walked_at notes all i s (and_parts (is_walked notes (act_of x.kind)) (are_walked notes (lines_of all)) walked).1 (omega (arith, within)) is
 
 -- no further statement may begin
-pub stops_at_limit : (code : List Line) (limit : ℕ) (run : Run) (w : World) (pr : Progress) → Stands code limit run w pr → (line : Line) (rest : List Line) → is_note line.act ≡ false → run.begun ≡ limit → LeadsTo code limit (runs code w (line ∷ rest) pr) (Over ends.GoesOn) run
+pub stops_at_limit : (code : List Line) (limit : ℕ) (run : Run) (w : World) (pr : Progress) → Stands code limit run w pr → (line : Line) (rest : List Line) → is_note line.act ≡ false → run.begun ≡ limit → LeadsTo code limit (runs code w (line ∷ rest) pr) (Over (Right ends.GoesOn)) run
 stops_at_limit code limit run w pr stands line rest executed full = record {
   after = record { state = w.state; left = 0; count = w.count };
   progress = pr;

@@ -1,19 +1,21 @@
 -- A whole run: how it starts, goes on, and ends.
-use Rattle.std.proofs.Common.{◌≡◌, ℕ, Bool, true, false, List, [], ◌∷◌, drop, refl, sym, ◌∙◌, ap, arith, if◌then◌else◌}
+use Rattle.std.proofs.Common.{◌≡◌, ◌≢◌, ℕ, Bool, true, false, List, [], ◌∷◌, drop, refl, sym, ◌∙◌, ap, arith, if◌then◌else◌}
 use Rattle.std.specs.Prelude.{⊤}
 use Rattle.f66_tree.specs.Forms.{Line}
-use Rattle.f66_tree.specs.World.{Record, World, Out, Shown, shown}
+use Rattle.f66_tree.specs.World.{Record, World, Out, Shown, shown, Ended, Wrong}
 use Rattle.f66_tree.specs.Units.{is_note, notes_of}
 use Rattle.f66_tree.specs.Execution.{Progress, runnable, fetch, nowhere, start, no_loops}
 use Rattle.f66_tree.specs.OneUnit.{one_unit, executed}
-use Rattle.unit_walk.specs.declared.statement.RunEnd.{RunEnd}
+use Rattle.f66_sound.specs.SoundUnits.{RunsRightly}
+use Rattle.unit_walk.specs.declared.statement.Halt.{Halt}
+use Rattle.unit_walk.specs.declared.statement.Halt.TheVariants.{Right}
 use Rattle.unit_walk.specs.declared.statement.RunEnd.TheVariants as ends
 use Rattle.unit_walk.specs.declared.do_loop.Lead.{Lead}
 use Rattle.unit_walk.specs.declared.do_loop.Lead.TheVariants.{At, Over}
 use Rattle.unit_walk.specs.declared.run.Run.{Run}
 use Rattle.unit_walk.specs.Contents.{content_of}
 use Rattle.unit_walk.specs.Walking.{main_at}
-use Rattle.unit_walk.specs.Leaving.{end_of}
+use Rattle.unit_walk.specs.Leaving.{halted}
 use Rattle.unit_walk.specs.Standing.{runs, Stands, LeadsTo, whole_run}
 use Rattle.unit_walk.specs.Shows.{IsFirst}
 use Rattle.unit_walk.proofs.RunLemmas.{main_from, around_from}
@@ -49,7 +51,7 @@ module _ (code : List Line) (limit : ℕ) where
       }
 
   -- past the last line
-  pub ends_there : (o : Out ⊤) (at : ℕ) (run : Run) (rest : List Line) → drop at code ≡ rest → runnable rest ≡ [] → LeadsTo code limit o (At at) run → LeadsTo code limit o (Over ends.Done) run
+  pub ends_there : (o : Out ⊤) (at : ℕ) (run : Run) (rest : List Line) → drop at code ≡ rest → runnable rest ≡ [] → LeadsTo code limit o (At at) run → LeadsTo code limit o (Over (Right ends.Done)) run
   unfolding fetched
   ends_there o at run rest here is so_far = record {
     after = so_far.after;
@@ -71,8 +73,12 @@ module _ (code : List Line) (limit : ℕ) where
     };
   }
 
-  pub shows : (input : List Record) (e : RunEnd) (run : Run) → LeadsTo code limit (whole_run code input limit) (Over e) run → (let s : Shown = record { records = run.records.items; end = end_of e; work = run.begun } in s) ≡ executed code input limit
-  shows input e run to =
-      let told : Shown = record { records = run.records.items; end = end_of e; work = run.begun } in
-      let there : shown (whole_run code input limit) ≡ record { records = to.after.state.tape.written; end = end_of e; work = to.after.count } = ap shown to.is in
-      sym (there ∙ ap (λ (rs : List Record). let s : Shown = record { records = rs; end = end_of e; work = to.after.count } in s) to.stands.holds.written ∙ ap (λ (n : ℕ). let s : Shown = record { records = run.records.items; end = end_of e; work = n } in s) to.stands.count)
+  pub shows : (input : List Record) (h : Halt) (run : Run) → LeadsTo code limit (whole_run code input limit) (Over h) run → (let s : Shown = record { records = run.records.items; end = halted h; work = run.begun } in s) ≡ executed code input limit
+  shows input h run to =
+      let told : Shown = record { records = run.records.items; end = halted h; work = run.begun } in
+      let there : shown (whole_run code input limit) ≡ record { records = to.after.state.tape.written; end = halted h; work = to.after.count } = ap shown to.is in
+      sym (there ∙ ap (λ (rs : List Record). let s : Shown = record { records = rs; end = halted h; work = to.after.count } in s) to.stands.holds.written ∙ ap (λ (n : ℕ). let s : Shown = record { records = run.records.items; end = halted h; work = n } in s) to.stands.count)
+
+  -- a unit that never goes wrong is ended rightly
+  pub ends_rightly : RunsRightly code → (h : Halt) (run : Run) → LeadsTo code limit (whole_run code [] limit) (Over h) run → halted h ≢ Ended Wrong
+  ends_rightly rightly h run to wrong = rightly [] limit (sym (ap (λ (s : Shown). s.end) (shows [] h run to)) ∙ wrong)

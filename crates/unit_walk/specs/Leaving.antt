@@ -12,6 +12,9 @@ use Rattle.unit_walk.specs.declared.stuck.Stuck.{Stuck}
 use Rattle.unit_walk.specs.declared.stuck.Stuck.TheVariants as stuck
 use Rattle.unit_walk.specs.declared.statement.RunEnd.{RunEnd}
 use Rattle.unit_walk.specs.declared.statement.RunEnd.TheVariants as ends
+use Rattle.unit_walk.specs.declared.statement.Halt.{Halt}
+use Rattle.unit_walk.specs.declared.statement.Halt.TheVariants as halts
+use Rattle.unit_walk.specs.declared.statement.Halt.TheVariants.{Right}
 use Rattle.unit_walk.specs.declared.statement.Exit.{Exit}
 use Rattle.unit_walk.specs.declared.statement.Exit.TheVariants.{Next, To, Ends}
 
@@ -20,12 +23,16 @@ end_of ends.Done = Ended Done
 end_of (ends.Stopped n) = Ended (Stopped n)
 end_of (ends.Trapped t p) = Ended (Trapped t p)
 end_of ends.GoesOn = GoesOn
-end_of ends.Wrong = Ended Wrong
 
--- the end of a run whose statement at this place is stuck
-abbrev pub end_of_stuck : Stuck → Place → RunEnd
-end_of_stuck (stuck.Trapped t) p = ends.Trapped t p
-end_of_stuck stuck.Wrong p = ends.Wrong
+-- the end of a run that this ends
+abbrev pub halted : Halt → End
+halted (Right e) = end_of e
+halted halts.Wrong = Ended Wrong
+
+-- what ends a run whose statement at this place is stuck
+abbrev pub end_of_stuck : Stuck → Place → Halt
+end_of_stuck (stuck.Trapped t) p = Right (ends.Trapped t p)
+end_of_stuck stuck.Wrong p = halts.Wrong
 
 abbrev pub jumped : Result ℕ Stuck → Place → Exit
 jumped (Ok l) p = To l
@@ -35,7 +42,7 @@ jumped (Err s) p = Ends (end_of_stuck s p)
 abbrev pub leaves : Exit → World → Out meant.Exit
 leaves Next w = Gives meant.Next w
 leaves (To l) w = Gives (meant.To l) w
-leaves (Ends e) w = Halts (end_of e) w
+leaves (Ends h) w = Halts (halted h) w
 
 -- a plain statement of a unit is left so, with these values and records
 pub record Does (code : List Line) (p : Place) (a : Act) (values : Values) (records : List Record) (exit : Exit) (new : Values) (more : List Record) : Type 0 where

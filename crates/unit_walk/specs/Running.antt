@@ -11,7 +11,7 @@ use Rattle.unit_walk.specs.declared.do_loop.Lead.TheVariants.{At, Over}
 use Rattle.unit_walk.specs.Contents.{Values}
 use Rattle.unit_walk.specs.Walking.{Holds, around_main, Comes}
 use Rattle.unit_walk.specs.Loops.{loop_of}
-use Rattle.unit_walk.specs.Leaving.{end_of}
+use Rattle.unit_walk.specs.Leaving.{halted}
 
 -- the progress of each DO, which its index names, is known by how many statements stand behind it
 abbrev pub LoopsAre : List Line → List Pass → Progress → Type 0
@@ -26,7 +26,7 @@ Part = Setting → Onward → Progress → World → Out ⊤
 
 abbrev pub led_to : List Line → Lead → Part
 led_to code (At j) s go pr w = go (stand (drop j code) pr) w
-led_to code (Over e) s go pr w = Halts (end_of e) w
+led_to code (Over h) s go pr w = Halts (halted h) w
 
 -- from these values and records a part comes to another with those
 pub record Leads (code : List Line) (passes : List Pass) (o onward : Part) (values : Values) (records : List Record) (new : Values) (more : List Record) : Type 0 where

@@ -23,7 +23,7 @@ use Rattle.unit_walk.specs.Formats.{AreWidths}
 use Rattle.unit_walk.specs.Walked.{is_walked_unit}
 use Rattle.unit_walk.specs.Walking.{Holds, main_at, around_main}
 use Rattle.unit_walk.specs.Loops.{PassesFit}
-use Rattle.unit_walk.specs.Leaving.{end_of}
+use Rattle.unit_walk.specs.Leaving.{halted}
 use Rattle.unit_walk.specs.Running.{LoopsAre, closer_at, Part}
 
 -- these are the DO loops that end at a label, the innermost first
@@ -81,7 +81,7 @@ pub record Stands (code : List Line) (limit : ℕ) (run : Run) (w : World) (pr :
 
 abbrev pub led : List Line → Lead → Progress → World → Out ⊤
 led code (At j) pr w = runs code w (drop j code) pr
-led code (Over e) pr w = Halts (end_of e) w
+led code (Over h) pr w = Halts (halted h) w
 
 -- the rest of a run leads there
 pub record LeadsTo (code : List Line) (limit : ℕ) (o : Out ⊤) (lead : Lead) (run : Run) : Type 0 where

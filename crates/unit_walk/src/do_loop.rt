@@ -14,7 +14,7 @@ use crate::evaluate::value_of_par;
 use crate::operate::number_of;
 use crate::places::Places;
 use crate::plan::Plan;
-use crate::statement::{RunEnd, end_by};
+use crate::statement::{Halt, end_by};
 use crate::stuck::Stuck;
 use f66_tree::{Name, Par};
 use ground::{Kind, Place, Trap, Value};
@@ -38,7 +38,7 @@ pub(crate) struct Closing<'a> {
 #[derive(Clone, Copy, Debug)]
 pub(crate) enum Lead {
     At(usize),
-    Over(RunEnd),
+    Over(Halt),
 }
 
 /// A DO begins: its parameters are taken and tested, and its variable gets the first one.

@@ -20,7 +20,7 @@ use crate::evaluate::evaluate;
 use crate::operate::fact_of;
 use crate::places::Places;
 use crate::plan::{Plan, is_note};
-use crate::statement::{Exit, RunEnd, end_by, perform};
+use crate::statement::{Exit, Halt, RunEnd, end_by, perform};
 use crate::stuck::Stuck;
 use f66_tree::{Expr, Stmt, StmtKind};
 use ground::Text;
@@ -72,7 +72,7 @@ pub(crate) fn step<'a>(
     ensures rises { IfOk result (λ lead. Rises lead run.old.begun run.new.begun) }
 {
     if run.begun == plan.limit {
-        return Ok(Lead::Over(RunEnd::GoesOn));
+        return Ok(Lead::Over(Halt::Right(RunEnd::GoesOn)));
     }
     run.begun += 1;
     line(alloc, plan, run, index, &plan.code[index])
@@ -150,7 +150,7 @@ fn branch<'a>(
         return Ok(Lead::At(index + 1));
     }
     if run.begun == plan.limit {
-        return Ok(Lead::Over(RunEnd::GoesOn));
+        return Ok(Lead::Over(Halt::Right(RunEnd::GoesOn)));
     }
     run.begun += 1;
     plain(alloc, plan, run, index, statement, inner)

@@ -38,7 +38,12 @@ pub enum RunEnd {
     Trapped(Trap, Place),
     /// A further statement would begin after as many as the limit allows.
     GoesOn,
-    /// What no sound unit does.
+}
+
+/// What ends a run: rightly, or by what no sound unit does.
+#[derive(Clone, Copy, Debug)]
+pub(crate) enum Halt {
+    Right(RunEnd),
     Wrong,
 }
 
@@ -47,16 +52,16 @@ pub enum RunEnd {
 pub(crate) enum Exit {
     Next,
     To(u32),
-    Ends(RunEnd),
+    Ends(Halt),
 }
 
 /// The end of a run whose statement at this place is stuck.
-pub(crate) fn end_by(stuck: Stuck, place: Place) -> RunEnd
+pub(crate) fn end_by(stuck: Stuck, place: Place) -> Halt
     ensures { result ≡ end_of_stuck stuck place }
 {
     match stuck {
-        Stuck::Trapped(trap) => RunEnd::Trapped(trap, place),
-        Stuck::Wrong => RunEnd::Wrong,
+        Stuck::Trapped(trap) => Halt::Right(RunEnd::Trapped(trap, place)),
+        Stuck::Wrong => Halt::Wrong,
     }
 }
 
@@ -83,16 +88,22 @@ pub(crate) fn perform<'a>(
         StmtKind::Sign(e, below, zero, above) => {
             Ok(select_by_sign(plan, places, e, *below, *zero, *above, place))
         }
-        StmtKind::Invoke(_, _) => Ok(Exit::Ends(RunEnd::Wrong)),
+        StmtKind::Invoke(_, _) => Ok(Exit::Ends(Halt::Wrong)),
         StmtKind::Continue => Ok(Exit::Next),
-        StmtKind::Stop(None) => Ok(Exit::Ends(RunEnd::Done)),
-        StmtKind::Stop(Some(number)) => Ok(Exit::Ends(RunEnd::Stopped(*number))),
-        StmtKind::Return => Ok(Exit::Ends(RunEnd::Done)),
+        StmtKind::Stop(None) => Ok(ends(RunEnd::Done)),
+        StmtKind::Stop(Some(number)) => Ok(ends(RunEnd::Stopped(*number))),
+        StmtKind::Return => Ok(ends(RunEnd::Done)),
         StmtKind::Write(_, label, entries) => {
             write(alloc, plan, places, records, *label, item(entries), place)
         }
         _ => unreachable!(),
     }
+}
+
+fn ends(end: RunEnd) -> Exit
+    ensures { result ≡ Exit.Ends (Halt.Right end) }
+{
+    Exit::Ends(Halt::Right(end))
 }
 
 /// An assignment.

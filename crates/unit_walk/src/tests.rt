@@ -290,7 +290,6 @@ fn shown(alloc: Global, walked: &Walked) -> Result<String, AllocError> {
             write!(shown, "trap {number} at {line}")?;
         }
         RunEnd::GoesOn => shown.push_str("goes on")?,
-        RunEnd::Wrong => shown.push_str("wrong")?,
     }
     let begun = walked.begun;
     write!(shown, " {begun}")?;
@@ -306,9 +305,7 @@ fn outcome(alloc: Global, text: &[u8], limit: u64) -> Result<String, Fail> {
     };
     match check_unit(alloc, unit) {
         Ok(checked) => {
-            let walked = walk(alloc, &checked.unit().statements, limit)
-                .ok()
-                .ok_or("memory")?;
+            let walked = walk(alloc, &checked, limit).ok().ok_or("memory")?;
             Ok(shown(alloc, &walked)?)
         }
         Err(Refusal::Fault(fault)) => {

@@ -3,7 +3,7 @@ use Rattle.std.proofs.lemmas.List.{drop_more, drop_all}
 use Rattle.unit_walk.specs.declared.stuck.Stuck.{Stuck}
 use Rattle.unit_walk.specs.declared.do_loop.Closing.{Closing}
 use Rattle.unit_walk.specs.Contents.{values_in}
-use Rattle.unit_walk.specs.declared.statement.RunEnd.{RunEnd}
+use Rattle.unit_walk.specs.declared.statement.Halt.{Halt}
 use Rattle.unit_walk.specs.declared.do_loop.Lead.TheVariants.{Over}
 use Rattle.unit_walk.specs.Loops.{Turns}
 use Rattle.unit_walk.specs.Closing.{Closes}
@@ -30,7 +30,7 @@ returns-in-Err-clause-closes c =
     let answer : c.in_ok-turn.field-0 ≡ Err c.in-Err.stuck = search rules in
     let turns : Turns e.variable.now c.pass_at-pass.result (values_in c.loop-closing.places.cells) (Err c.in-Err.stuck) (values_in c.turn.new.places.cells) =
     subst (λ (r : Result Bool Stuck). Turns e.variable.now c.pass_at-pass.result (values_in c.loop-closing.places.cells) r (values_in c.turn.new.places.cells)) answer c.in_ok-turn.ensures.turns in
-    subst (λ (x : RunEnd). Closes c.args.passes.now c.args.closings.now c.args.next c.args.place (values_in c.args.places.now.cells) (Over x) (values_in c.turn.new.places.cells)) (sym c.end_by.ensures)
+    subst (λ (x : Halt). Closes c.args.passes.now c.args.closings.now c.args.next c.args.place (values_in c.args.places.now.cells) (Over x) (values_in c.turn.new.places.cells)) (sym c.end_by.ensures)
     (close_stuck c.args.passes.now c.args.closings.now c.args.next c.args.place (values_in c.args.places.now.cells) i (values_in c.loop-closing.places.cells) e c.pass_at-pass.result c.in-Err.stuck (values_in c.turn.new.places.cells) (split c.args.closings.now i e c.loop-closing-test.true c.closing-item.is) (search rules) c.pass_at-pass.ensures turns c.loop-closing.invariant.closed)
 
 pub loop-closing-preserved : goal.loop-closing-preserved

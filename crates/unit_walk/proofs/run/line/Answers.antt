@@ -7,7 +7,7 @@ use Rattle.f66_tree.specs.Statements.{Next}
 use Rattle.f66_tree.specs.Execution.{Progress}
 use Rattle.f66_tree.specs.Views.{formula_of, par_of, act_of, line_of, lines_of}
 use Rattle.unit_walk.specs.Walked.{is_plain}
-use Rattle.unit_walk.specs.declared.statement.RunEnd.{RunEnd}
+use Rattle.unit_walk.specs.declared.statement.Halt.{Halt}
 use Rattle.unit_walk.specs.declared.do_loop.Pass.{Pass}
 use Rattle.unit_walk.specs.declared.run.Run.{Run}
 use Rattle.unit_walk.specs.declared.do_loop.Lead.TheVariants.{At, Over}
@@ -65,7 +65,7 @@ returns-in-Err-clause-leads c w pr stands =
     let a : Act = act_of c.in-When.inner.value in
     let said : act_of c.args.statement.now.kind ≡ Chooses e a = ap act_of c.in-When.is in
     let value : Err c.in-Err.stuck ≡ condition (context_of code) (values_in c.args.run.now.places.cells) e = search rules in
-    subst (λ (x : RunEnd). LeadsTo code limit (performs code w (line_of c.args.statement.now) rest pr) (Over x) c.args.run.now) (sym c.end_by.ensures)
+    subst (λ (x : Halt). LeadsTo code limit (performs code w (line_of c.args.statement.now) rest pr) (Over x) c.args.run.now) (sym c.end_by.ensures)
     (leads_here code limit c.args.run.now w pr stands (performs code w (line_of c.args.statement.now) rest pr) (Over (end_of_stuck c.in-Err.stuck c.args.statement.now.place))
     (as_said code w (line_of c.args.statement.now) (Chooses e a) rest pr said
     ∙ conditioned code w (values_in c.args.run.now.places.cells) stands.holds.store c.args.statement.now.label c.args.statement.now.place e a rest pr (Err c.in-Err.stuck) value ∙ stuck_ends code pr c.args.statement.now.place w c.in-Err.stuck _))
@@ -93,7 +93,7 @@ returns-in-Err-2-clause-leads c w pr stands =
     let begins : Begins code c.in-Loop.variable (par_of c.in-Loop.first) (par_of c.in-Loop.last) (par_of c.in-Loop.step) (values_in c.args.run.now.places.cells) (Err c.in-Err-2.stuck) (values_in c.begin.new.places.cells) =
     subst (λ (r : Result Pass Stuck). Begins code c.in-Loop.variable (par_of c.in-Loop.first) (par_of c.in-Loop.last) (par_of c.in-Loop.step) (values_in c.args.run.now.places.cells) r (values_in c.begin.new.places.cells)) c.in-Err-2.is c.in_ok-pass-in-Loop.ensures.begins in
     let run1 : Run = record { places = c.begin.new.places; passes = c.args.run.now.passes; records = c.args.run.now.records; begun = c.args.run.now.begun } in
-    subst (λ (x : RunEnd). LeadsTo code limit (performs code w (line_of c.args.statement.now) rest pr) (Over x) run1) (sym c.end_by-in-Err-2.ensures)
+    subst (λ (x : Halt). LeadsTo code limit (performs code w (line_of c.args.statement.now) rest pr) (Over x) run1) (sym c.end_by-in-Err-2.ensures)
     (leads_as code limit (performs code w (line_of c.args.statement.now) rest pr) (performs code w (record { label = c.args.statement.now.label; place = c.args.statement.now.place; act = Loops l c.in-Loop.variable (par_of c.in-Loop.first) (par_of c.in-Loop.last) (par_of c.in-Loop.step) }) rest pr) (Over (end_of_stuck c.in-Err-2.stuck c.args.statement.now.place)) run1
     (as_said code w (line_of c.args.statement.now) (Loops l c.in-Loop.variable (par_of c.in-Loop.first) (par_of c.in-Loop.last) (par_of c.in-Loop.step)) rest pr said)
     (loop_out code limit c.args.run.now w pr stands c.args.statement.now.label c.args.statement.now.place l c.in-Loop.variable (par_of c.in-Loop.first) (par_of c.in-Loop.last) (par_of c.in-Loop.step) c.args.index c.in-Err-2.stuck run1 begins refl refl refl))

@@ -4,6 +4,7 @@ use Rattle.f66_tree.specs.Forms.{Line}
 use Rattle.f66_tree.specs.Units.{notes_of}
 use Rattle.f66_tree.specs.Views.{line_of, lines_of}
 use Rattle.unit_walk.specs.declared.statement.RunEnd.TheVariants.{GoesOn}
+use Rattle.unit_walk.specs.declared.statement.Halt.TheVariants.{Right}
 use Rattle.unit_walk.specs.declared.do_loop.Lead.TheVariants.{Over}
 use Rattle.unit_walk.specs.declared.run.Run.{Run}
 use Rattle.unit_walk.specs.Standing.{runs, performs}
@@ -19,7 +20,7 @@ returns-then-run-plan-clause-leads c w pr stands =
     let here = some_line all c.args.index c.requires.within in
     let s : Stmt = here.0 in
     let full : c.args.run.now.begun ≡ limit = search rules in
-    leads_as code limit (runs code w (drop c.args.index code) pr) (runs code w (line_of s ∷ drop (c.args.index + 1) code) pr) (Over GoesOn) c.args.run.now
+    leads_as code limit (runs code w (drop c.args.index code) pr) (runs code w (line_of s ∷ drop (c.args.index + 1) code) pr) (Over (Right GoesOn)) c.args.run.now
     (ap (λ (l : List Line). runs code w l pr) (line_at all c.args.index s c.requires.within here.1))
     (stops_at_limit code limit c.args.run.now w pr stands (line_of s) (drop (c.args.index + 1) code) (c.requires.executed s here.1) full)
 

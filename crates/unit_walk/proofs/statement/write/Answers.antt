@@ -3,7 +3,7 @@ use Rattle.std.specs.HashMap.{get}
 use Rattle.f66_tree.specs.Fielded.{whole_text}
 use Rattle.f66_tree.specs.Forms.{Writes, One, NoEntry, AndEntry}
 use Rattle.f66_tree.specs.Views.{formula_of, lines_of}
-use Rattle.unit_walk.specs.declared.statement.RunEnd.{RunEnd}
+use Rattle.unit_walk.specs.declared.statement.Halt.{Halt}
 use Rattle.unit_walk.specs.declared.statement.Exit.TheVariants.{Next, Ends}
 use Rattle.unit_walk.specs.Contents.{values_in}
 use Rattle.unit_walk.specs.Leaving.{Does}
@@ -19,5 +19,5 @@ returns-in_ok-push-in-Ok c unit printer =
 
 pub returns-in-Err : goal.returns-in-Err
 returns-in-Err c unit printer =
-    subst (λ (e : RunEnd). Does (lines_of c.args.plan.now.code.now) c.args.place (Writes unit c.args.label (AndEntry (One (formula_of c.args.item.now)) NoEntry)) (values_in c.args.places.now.cells) c.args.records.now.items (Ends e) (values_in c.args.places.now.cells) c.args.records.now.items) (sym c.end_by.ensures)
+    subst (λ (e : Halt). Does (lines_of c.args.plan.now.code.now) c.args.place (Writes unit c.args.label (AndEntry (One (formula_of c.args.item.now)) NoEntry)) (values_in c.args.places.now.cells) c.args.records.now.items (Ends e) (values_in c.args.places.now.cells) c.args.records.now.items) (sym c.end_by.ensures)
     (write_stuck (lines_of c.args.plan.now.code.now) (values_in c.args.places.now.cells) c.args.place unit c.args.label (formula_of c.args.item.now) (get nat_eq c.args.plan.now.widths c.args.label) c.args.records.now.items printer (c.requires.plan.widths c.args.label) c.requires.item c.in-Err.stuck (search rules))

@@ -1,18 +1,27 @@
-use Rattle.std.proofs.Common.{ℕ, List, length, ◌∙◌, ap}
+use Rattle.std.proofs.Common.{rules, IfOk, ◌≡◌, true, List, sym, subst}
 use Rattle.f66_tree.specs.declared.statement.Stmt.{Stmt}
-use Rattle.f66_tree.specs.Views.{lines_of}
+use Rattle.f66_tree.specs.Views.{lines_of, routine_of}
+use Rattle.f66_tree.specs.World.{Record}
 use Rattle.f66_tree.specs.OneUnit.{executed}
-use Rattle.unit_walk.proofs.RunLemmas.{as_many}
+use Rattle.f66_sound.specs.SoundUnits.{RunsRightly}
+use Rattle.f66_check.proofs.SoundLemmas.{sound_never_wrong}
+use Rattle.unit_walk.specs.declared.walked.Walked.{Walked}
+use Rattle.unit_walk.specs.Walked.{is_walked_unit}
+use Rattle.unit_walk.specs.Shows.{shown_of}
+use Rattle.unit_walk.proofs.SoundUnits.{sound_is_walked}
 use Rattle.unit_walk.proofs.walked.walk.Goals as goal
 
-pub walk_on-requires-clause-sound : goal.walk_on-requires-clause-sound
-walk_on-requires-clause-sound c = c.in_ok-run.ensures.sound (lines_of c.in_ok-plan.plan.code.now) (as_many c.in_ok-plan.plan.code.now ∙ ap (λ (all : List Stmt). length all) c.in_ok-plan.ensures.code)
+pub walk_statements-requires-clause-walked : goal.walk_statements-requires-clause-walked
+walk_statements-requires-clause-walked c =
+    let code : c.deref.result.now ≡ c.args.unit.now.statements.items = search rules in
+    subst (λ (all : List Stmt). is_walked_unit (lines_of all) ≡ true) (sym code) (sound_is_walked (routine_of c.args.unit.now) c.unit.ensures.sound)
 
-pub walk_on-requires-clause-first : goal.walk_on-requires-clause-first
-walk_on-requires-clause-first c = c.in_ok-run.ensures.first (lines_of c.in_ok-plan.plan.code.now) (as_many c.in_ok-plan.plan.code.now ∙ ap (λ (all : List Stmt). length all) c.in_ok-plan.ensures.code)
+pub walk_statements-requires-clause-rightly : goal.walk_statements-requires-clause-rightly
+walk_statements-requires-clause-rightly c =
+    let code : c.deref.result.now ≡ c.args.unit.now.statements.items = search rules in
+    subst (λ (all : List Stmt). RunsRightly (lines_of all)) (sym code) (sound_never_wrong (routine_of c.args.unit.now) c.unit.ensures.sound)
 
 pub returns : goal.returns
-returns c input =
-    c.in_ok-walk_on.ensures input
-    ∙ ap (λ (all : List Stmt). executed (lines_of all) input c.in_ok-plan.plan.limit) c.in_ok-plan.ensures.code
-    ∙ ap (λ (n : ℕ). executed (lines_of c.args.code.now) input n) c.in_ok-plan.ensures.limit
+returns c =
+    let code : c.deref.result.now ≡ c.args.unit.now.statements.items = search rules in
+    subst (λ (all : List Stmt). IfOk c.walk_statements.result (λ (walked : Walked). (input : List Record) → shown_of walked ≡ executed (lines_of all) input c.args.limit)) code c.walk_statements.ensures

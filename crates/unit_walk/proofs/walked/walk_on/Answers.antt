@@ -4,19 +4,18 @@ use Rattle.f66_tree.specs.Forms.{Line}
 use Rattle.f66_tree.specs.World.{World}
 use Rattle.f66_tree.specs.Execution.{Progress}
 use Rattle.f66_tree.specs.Views.{lines_of}
-use Rattle.unit_walk.specs.declared.statement.RunEnd.TheVariants.{Done}
 use Rattle.unit_walk.specs.declared.do_loop.Lead.{Lead}
 use Rattle.unit_walk.specs.declared.do_loop.Lead.TheVariants.{At, Over}
 use Rattle.unit_walk.specs.Standing.{runs, Stands, LeadsTo, whole_run}
 use Rattle.unit_walk.proofs.StepLemmas.{drop_lines}
-use Rattle.unit_walk.proofs.WholeLemmas.{goes_on, ends_there, starts_there, shows}
+use Rattle.unit_walk.proofs.WholeLemmas.{goes_on, ends_there, starts_there}
 use Rattle.unit_walk.proofs.walked.walk_on.Goals as goal
 
 pub lines-init : goal.lines-init
 lines-init c = record {
   sound = c.requires.sound;
   count = omega (arith, c.requires.first.begun);
-  comes = λ input. starts_there (lines_of c.args.plan.now.code.now) c.args.plan.now.limit input c.args.run c.requires.first;
+  comes = λ input. starts_there (lines_of c.args.plan.now.code.now) c.args.plan.now.limit input c.args.run.now c.requires.first;
 }
 
 pub lines-preserved : goal.lines-preserved
@@ -39,13 +38,13 @@ returns-in-Over c input =
     let code : List Line = lines_of all in
     let limit : ℕ = c.args.plan.now.limit in
     let i : ℕ = c.in-Some.index in
-    let leads : (w : World) (pr : Progress) → Stands code limit c.lines.run w pr → LeadsTo code limit (runs code w (drop i code) pr) (Over c.in-Over.end) c.step.new.run =
+    let leads : (w : World) (pr : Progress) → Stands code limit c.lines.run w pr → LeadsTo code limit (runs code w (drop i code) pr) (Over c.in-Over.halt) c.step.new.run =
     subst (λ (l : Lead). (w : World) (pr : Progress) → Stands code limit c.lines.run w pr → LeadsTo code limit (runs code w (drop i code) pr) l c.step.new.run) c.in-Over.is c.in_ok-next-in-Some.ensures.leads in
-    c.shows.ensures ∙ shows code limit input c.in-Over.end c.step.new.run (goes_on code limit (whole_run code input limit) c.lines.at c.lines.run (lines_of (drop c.lines.at all)) (drop i code) (Over c.in-Over.end) c.step.new.run (drop_lines all c.lines.at) (c.in-Some.ensures.rest ∙ sym (drop_lines all i)) (c.lines.invariant.comes input) leads)
+    goes_on code limit (whole_run code input limit) c.lines.at c.lines.run (lines_of (drop c.lines.at all)) (drop i code) (Over c.in-Over.halt) c.step.new.run (drop_lines all c.lines.at) (c.in-Some.ensures.rest ∙ sym (drop_lines all i)) (c.lines.invariant.comes input) leads
 
 pub returns-in-None : goal.returns-in-None
 returns-in-None c input =
     let all : List Stmt = c.args.plan.now.code.now in
     let code : List Line = lines_of all in
     let limit : ℕ = c.args.plan.now.limit in
-    c.shows-in-None.ensures ∙ shows code limit input Done c.lines.run (ends_there code limit (whole_run code input limit) c.lines.at c.lines.run (lines_of (drop c.lines.at all)) (drop_lines all c.lines.at) c.in-None.ensures.rest (c.lines.invariant.comes input))
+    ends_there code limit (whole_run code input limit) c.lines.at c.lines.run (lines_of (drop c.lines.at all)) (drop_lines all c.lines.at) c.in-None.ensures.rest (c.lines.invariant.comes input)
