@@ -6,8 +6,11 @@
 //!
 //! | Text | Tree |
 //! |---|---|
-//! | `12` `k` `L` | a number; the name K; the name KKKKKKK |
-//! | `+ - * / ^ < > = \| &` `~` `?` | an operator behind its two operands; a sign; NOT |
+//! | `12` `k` `$` `%` | a number; the name K; true; false |
+//! | `L` `A` `M` `Z` | the names KKKKKKK, IABS, MAX0 and Z00001 |
+//! | `k(i,j)` | an element, or a function's value |
+//! | `+ - * / ^ < > = \| &` `~` `?` `"` | an operator behind its two operands; a sign; NOT; parentheses |
+//! | `k(5)J` `k(5)P` `k(5)H` | integer k(5); logical k(5); dimension k(5) |
 //! | `k1:` | k = 1 |
 //! | `k!` `9@2T` | write(6,9) k; 9 format(i2) |
 //! | `9@` | the label of the next statement |
@@ -21,7 +24,7 @@
 //! | `i1 9 1{..}D` | do i = 1, 9, 1 |
 //! | `k{1 2[..][..]}S` | a switch: the cases of a clause before `[`, and none for the default |
 
-use f66_tree::{Entry, Expr, Field, Name, Operator, Par, StmtKind};
+use f66_tree::{Declared, Entry, Expr, Field, Name, Operator, Par, StmtKind, TypeWord};
 use ground::{List, Place, Text};
 use rat_tree::{RatCase, RatKind, RatStmt};
 use std::alloc::{AllocError, Global};
@@ -51,6 +54,8 @@ struct Reading {
     line: u32,
     /// Whether the last byte is a digit.
     within_number: bool,
+    /// How many expressions stood on the stack at each open parenthesis.
+    opened: Vec<usize>,
     current: Frame,
     outer: Vec<Frame>,
 }
@@ -83,6 +88,14 @@ fn only(mut list: List<RatStmt>, place: Place) -> RatStmt {
     }
 }
 
+fn par_of(e: Expr) -> Par {
+    match e {
+        Expr::Int(value) => Par::Number(value),
+        Expr::Ref(name) => Par::Variable(name),
+        _ => Par::Number(0),
+    }
+}
+
 /// The statements of a program.
 pub fn read(alloc: Global, text: &[u8]) -> Result<List<RatStmt>, AllocError> {
     let mut reading = Reading {
@@ -92,6 +105,7 @@ pub fn read(alloc: Global, text: &[u8]) -> Result<List<RatStmt>, AllocError> {
         label: None,
         line: 0,
         within_number: false,
+        opened: Vec::new(alloc),
         current: new_frame(alloc, None, at(0), 0),
         outer: Vec::new(alloc),
     };
@@ -126,11 +140,7 @@ impl Reading {
     }
 
     fn par(&mut self) -> Par {
-        match self.stack.pop() {
-            Some(Expr::Int(value)) => Par::Number(value),
-            Some(Expr::Ref(name)) => Par::Variable(name),
-            _ => Par::Number(0),
-        }
+        par_of(self.value())
     }
 
     fn boxed(&mut self) -> Result<Box<Expr>, AllocError> {
@@ -150,6 +160,11 @@ impl Reading {
         }
         let before = i64::from(self.number());
         self.push(Expr::Int(before * 10 + digit))
+    }
+
+    fn name(&mut self, letters: &[u8]) -> Result<(), AllocError> {
+        let name = Text::new(letters.to_vec(self.alloc)?);
+        self.push(Expr::Ref(Name::new(name)))
     }
 
     fn pair(&mut self, operator: Operator) -> Result<(), AllocError> {
@@ -199,16 +214,49 @@ impl Reading {
         self.says(RatKind::Plain(kind))
     }
 
+    fn says_typed(&mut self, word: TypeWord) -> Result<(), AllocError> {
+        let list = self.declared()?;
+        self.says_plain(StmtKind::Typed(word, list))
+    }
+
     fn assignment(&mut self) -> StmtKind {
         let right = self.value();
         let left = self.value();
         StmtKind::Assign(left, right)
     }
 
+    /// The name before an open parenthesis, with what stands behind that.
+    fn closes(&mut self) -> Result<(), AllocError> {
+        let height = self.opened.pop().unwrap_or(0);
+        let list = self.above(height)?;
+        let name = self.named()?;
+        self.push(Expr::Item(name, list))
+    }
+
+    /// A name with its dimensions.
+    fn declared(&mut self) -> Result<List<Declared>, AllocError> {
+        let mut sizes = Vec::new(self.alloc);
+        let name = match self.value() {
+            Expr::Item(name, list) => {
+                for size in list {
+                    sizes.push(par_of(size))?;
+                }
+                name
+            }
+            e => {
+                self.push(e)?;
+                self.named()?
+            }
+        };
+        let mut list = Vec::new(self.alloc);
+        list.push(Declared { name, sizes })?;
+        Ok(list)
+    }
+
     fn write(&mut self) -> Result<StmtKind, AllocError> {
-        let item = self.named()?;
+        let item = self.value();
         let mut entries = Vec::new(self.alloc);
-        entries.push(Entry::Item(Expr::Ref(item)))?;
+        entries.push(Entry::Item(item))?;
         Ok(StmtKind::Write(Par::Number(6), 9, entries))
     }
 
@@ -230,14 +278,19 @@ impl Reading {
         Ok(StmtKind::Computed(labels, index))
     }
 
+    /// What the stack has above this height.
+    fn above(&mut self, height: usize) -> Result<List<Expr>, AllocError> {
+        let mut list = Vec::new(self.alloc);
+        for _ in height..self.stack.len() {
+            let e = self.value();
+            list.insert(0, e)?;
+        }
+        Ok(list)
+    }
+
     /// The cases of a clause: what the stack has above its switch.
     fn cases(&mut self) -> Result<List<Expr>, AllocError> {
-        let mut tests = Vec::new(self.alloc);
-        for _ in self.current.height..self.stack.len() {
-            let e = self.value();
-            tests.insert(0, e)?;
-        }
-        Ok(tests)
+        self.above(self.current.height)
     }
 
     fn ends_clause(&mut self) -> Result<(), AllocError> {
@@ -345,14 +398,11 @@ impl Reading {
     fn take(&mut self, byte: u8) -> Result<(), AllocError> {
         match byte {
             b'0'..=b'9' => self.digit(byte - b'0'),
-            b'a'..=b'z' => {
-                let name = Text::new([byte - 32].to_vec(self.alloc)?);
-                self.push(Expr::Ref(Name::new(name)))
-            }
-            b'L' => {
-                let name = Text::new([b'K'; 7].to_vec(self.alloc)?);
-                self.push(Expr::Ref(Name::new(name)))
-            }
+            b'a'..=b'z' => self.name(&[byte - 32]),
+            b'L' => self.name(b"KKKKKKK"),
+            b'A' => self.name(b"IABS"),
+            b'M' => self.name(b"MAX0"),
+            b'Z' => self.name(b"Z00001"),
             b'{' => self.begins(Vec::new(self.alloc)),
             b'[' => {
                 let tests = self.cases()?;
@@ -394,6 +444,17 @@ impl Reading {
                 let e = self.boxed()?;
                 self.push(Expr::Not(e))
             }
+            b'"' => {
+                let e = self.boxed()?;
+                self.push(Expr::Group(e))
+            }
+            b'$' => self.push(Expr::Truth(true)),
+            b'%' => self.push(Expr::Truth(false)),
+            b'(' => {
+                self.opened.push(self.stack.len())?;
+                Ok(())
+            }
+            b')' => self.closes(),
             _ => self.take_statement(byte),
         }
     }
@@ -419,6 +480,12 @@ impl Reading {
             b'G' => {
                 let label = self.number();
                 self.says_plain(StmtKind::Goto(label))
+            }
+            b'J' => self.says_typed(TypeWord::Integer),
+            b'P' => self.says_typed(TypeWord::Logical),
+            b'H' => {
+                let list = self.declared()?;
+                self.says_plain(StmtKind::Dimension(list))
             }
             b'X' => {
                 let count = self.number();

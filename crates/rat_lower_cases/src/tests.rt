@@ -1,10 +1,10 @@
 // Small programs with what they show, worked out by hand from what the statements of Ratfor do.
 
 use crate::reading::{at, read};
-use f66_tree::{Header, Name};
+use f66_tree::{Header, Name, StmtKind, Unit};
 use ground::{Fault, List, Refusal, Text};
 use rat_lower::lower;
-use rat_tree::{RatStmt, RatUnit};
+use rat_tree::{RatProgram, RatStmt, RatUnit};
 use std::alloc::{AllocError, Global};
 use std::process::Abort;
 use std::test::Fail;
@@ -36,7 +36,6 @@ fn shown(alloc: Global, walked: &Walked) -> Result<String, AllocError> {
             write!(shown, "{word} at {line}")?;
         }
         RunEnd::GoesOn => shown.push_str("goes on")?,
-        RunEnd::Wrong => shown.push_str("wrong")?,
     }
     Ok(shown)
 }
@@ -47,11 +46,25 @@ fn fault_shown(alloc: Global, fault: Fault) -> Result<String, AllocError> {
     Ok(format!(in alloc; "{word} at {line}")?)
 }
 
-/// The run of a unit, or its fault.
-#[tactic(auto, using(unit_walk::proofs::SoundUnits::sound_is_walked))]
-fn run_of(alloc: Global, unit: &RatUnit, limit: u64) -> Result<Result<Walked, Fault>, Fail> {
-    match lower(alloc, unit, at(99)) {
-        Ok(made) => match walk(alloc, &made.unit().statements, limit) {
+/// A program of these units, whose text ends at line 99.
+fn program_of(units: List<RatUnit>) -> RatProgram {
+    RatProgram {
+        units,
+        finish: at(99),
+    }
+}
+
+/// A program of one main unit.
+fn main_program(alloc: Global, text: &str) -> Result<RatProgram, AllocError> {
+    let mut units = Vec::new(alloc);
+    units.push(main_unit(read(alloc, text.as_bytes())?))?;
+    Ok(program_of(units))
+}
+
+/// The run of a program's first unit, or the program's fault.
+fn run_of(alloc: Global, program: &RatProgram, limit: u64) -> Result<Result<Walked, Fault>, Fail> {
+    match lower(alloc, program) {
+        Ok(units) => match walk(alloc, units.first().ok_or("no unit")?, limit) {
             Ok(walked) => Ok(Ok(walked)),
             Err(_) => Err("memory")?,
         },
@@ -60,9 +73,9 @@ fn run_of(alloc: Global, unit: &RatUnit, limit: u64) -> Result<Result<Walked, Fa
     }
 }
 
-/// What the run of a unit shows, or its fault.
-fn outcome(alloc: Global, unit: &RatUnit, limit: u64) -> Result<String, Fail> {
-    match run_of(alloc, unit, limit)? {
+/// What the run of a program's first unit shows, or the program's fault.
+fn outcome(alloc: Global, program: &RatProgram, limit: u64) -> Result<String, Fail> {
+    match run_of(alloc, program, limit)? {
         Ok(walked) => Ok(shown(alloc, &walked)?),
         Err(fault) => Ok(fault_shown(alloc, fault)?),
     }
@@ -71,8 +84,8 @@ fn outcome(alloc: Global, unit: &RatUnit, limit: u64) -> Result<String, Fail> {
 /// Texts of programs, each with what it shows.
 fn expect_all(rt: &impl Abort, alloc: Global, rows: &[(&str, &str)]) -> Result<(), Fail> {
     for (text, wanted) in rows {
-        let unit = main_unit(read(alloc, text.as_bytes())?);
-        let found = outcome(alloc, &unit, 10_000)?;
+        let program = main_program(alloc, text)?;
+        let found = outcome(alloc, &program, 10_000)?;
         assert_eq!(rt; found.as_str(), *wanted, "at {text}");
     }
     Ok(())
@@ -234,7 +247,7 @@ fn traps(rt: HostRuntime) -> Result<(), Fail> {
 // The first fault, with its line.
 #[test]
 fn refusals(rt: HostRuntime) -> Result<(), Fail> {
-    let rows: [(&str, &str); 29] = [
+    let rows: [(&str, &str); 30] = [
         ("1X", "BadBreak at 1"),
         ("1N", "BadBreak at 1"),
         ("k1<{2X}W", "BadBreak at 2"),
@@ -263,20 +276,227 @@ fn refusals(rt: HostRuntime) -> Result<(), Fail> {
         ("9@0T", "BadFormat at 1"),
         ("V", "Unbuilt at 1"),
         ("x1: 1X {V}B", "Unbuilt at 4"),
-        ("k1+{.}W", "Unbuilt at 1"),
+        // A function that is no intrinsic one, and a whole array in a list.
+        ("1X kx(1):", "Unbuilt at 2"),
+        ("k(2)J k!", "Unbuilt at 2"),
     ];
     expect_all(&rt, rt.alloc(), &rows)
 }
 
-// A unit with a header is not built, whatever its statements are; its place is that of the header.
+// Arrays of one, two and three dimensions: each element is a variable of its own, and each subscript has its own bound.
 #[test]
-fn other_units(rt: HostRuntime) -> Result<(), Fail> {
-    let name = Name::new(Text::new([b'S'].to_vec(rt.alloc())?));
-    let mut unit = main_unit(read(rt.alloc(), b"x1:")?);
-    unit.header = Header::Sub(name, Vec::new(rt.alloc()));
-    unit.place = at(3);
-    let found = outcome(rt.alloc(), &unit, 1)?;
-    assert_eq!(rt; found.as_str(), "Unbuilt at 3");
+fn arrays(rt: HostRuntime) -> Result<(), Fail> {
+    let rows: [(&str, &str); 21] = [
+        ("k(3)J 9@2T k(1)7: k(1)!", " 7/done"),
+        ("kJ k(3)H 9@2T k(3)7: k(1)8: k(3)! k(1)!", " 7/ 8/done"),
+        ("k(3)J k(2)k(3):", "Undefined at 2"),
+        (
+            "k(3)J 9@2T i2: k(i1-)4: k(i1+)5: k(2i*1-)6: k(1)! k(3)!",
+            " 4/ 6/done",
+        ),
+        (
+            "k(9)J 9@2T i2: k(2i*)4: k(3i*2+)5: k(4)! k(8)!",
+            " 4/ 5/done",
+        ),
+        (
+            "k(2,3)J 9@2T i1 2 1{j1 3 1{k(i,j)i2*j+:}D}D k(2,3)! k(1,1)! k(1,3)!",
+            " 7/ 3/ 5/done",
+        ),
+        (
+            "k(2,2,2)J 9@2T k(1,2,1)5: k(2,1,2)6: k(1,2,1)! k(2,1,2)!",
+            " 5/ 6/done",
+        ),
+        ("x(2)J 9@2T x(2)3: x(2)!", " 3/done"),
+        ("k(1,1,1)J 9@2T k(1,1,1)3: k(1,1,1)!", " 3/done"),
+        ("k(3)J k(0)1:", "Subscript at 2"),
+        ("k(3)J k(4)1:", "Subscript at 2"),
+        ("k(3)J i4: mk(i):", "Subscript at 3"),
+        // Each of these is one of the array's six or eight places, counted column by column.
+        ("k(2,3)J k(3,1)1:", "Subscript at 2"),
+        ("k(2,3)J k(1,4)1:", "Subscript at 2"),
+        ("k(2,2,2)J k(3,1,1)1:", "Subscript at 2"),
+        ("k(2,2,2)J k(1,3,1)1:", "Subscript at 2"),
+        ("k(2,2,2)J k(1,1,3)1:", "Subscript at 2"),
+        ("k(3)J 9@2T k(1)1: k(2)!", "Undefined at 4"),
+        // A DO over an array.
+        (
+            "k(4)J 9@2T i1 4 1{k(i)i i*:}D j1 4 1{k(j)!}D",
+            " 1/ 4/ 9/16/done",
+        ),
+        (
+            "k(4)J 9@2T i1 4 2{k(i)i:}D k(3)! k(2)!",
+            " 3/Undefined at 6",
+        ),
+        ("k(4)J i1 5 1{k(i)i:}D", "Subscript at 3"),
+    ];
+    expect_all(&rt, rt.alloc(), &rows)
+}
+
+// Logical variables and arrays, and conditions that mix them with relations. All operands are evaluated.
+#[test]
+fn truths(rt: HostRuntime) -> Result<(), Fail> {
+    let rows: [(&str, &str); 16] = [
+        ("aP 9@2T k0: a$: a{k1:}I k!", " 1/done"),
+        ("aP 9@2T k0: a%: a{k1:}I k!", " 0/done"),
+        ("aP 9@2T k0: a%: a?{k1:}I k!", " 1/done"),
+        ("aP 9@2T k3: ak5<: a{k1: k2:}I k!", " 1/done"),
+        (
+            "a(3)P 9@2T k0: a(2)$: a(1)a(2)?: a(1)a(2)|{k1:}I k!",
+            " 1/done",
+        ),
+        (
+            "a(3)P 9@2T k0: a(2)$: a(1)a(2)?: a(1)a(2)&{k1:}I k!",
+            " 0/done",
+        ),
+        ("aP bP 9@2T a$: b%: k0: abk0>|\"?&{k1:}I k!", " 1/done"),
+        ("aP bP 9@2T a$: b%: k1: abk0>|\"?&{k2:}I k!", " 1/done"),
+        ("aP 9@2T k0: a$: a{{k k1+: k! ak3<:}B}W", " 1/ 2/ 3/done"),
+        ("aP 9@2T k0: {{k k1+: k! ak2=:}B}aU", " 1/ 2/done"),
+        ("aP 9@2T i1;i4<i i1+;{{ai2=: a{1N}I i!}B}F", " 1/ 3/done"),
+        ("9@2T k0: ${{k k1+: k! k2={1X}I}B}W", " 1/ 2/done"),
+        ("aP k0: ak1=1k/1=&:", "Division at 3"),
+        ("aP k0: ak0=1k/1=|:", "Division at 3"),
+        ("aP a{.}I", "Undefined at 2"),
+        // An edit of an integer takes no truth value, whether there is one or not.
+        ("aP 9@2T a!", "FormatMismatch at 3"),
+    ];
+    expect_all(&rt, rt.alloc(), &rows)
+}
+
+// Intrinsic functions.
+#[test]
+fn functions(rt: HostRuntime) -> Result<(), Fail> {
+    let rows: [(&str, &str); 6] = [
+        ("9@2T kA(3~): k!", " 3/done"),
+        ("9@2T kM(1,9,4): k!", " 9/done"),
+        ("9@2T kM(2,A(7~))1+: k!", " 8/done"),
+        ("9@2T A5: kA: k!", " 5/done"),
+        ("A(2)J 9@2T A(1)5: A(1)!", " 5/done"),
+        ("9@2T kM(1,1 0/): k!", "Division at 2"),
+    ];
+    expect_all(&rt, rt.alloc(), &rows)
+}
+
+// The rules of names, types, counts, constants and stores, with the line of the statement that breaks one.
+#[test]
+fn misuses(rt: HostRuntime) -> Result<(), Fail> {
+    let rows: [(&str, &str); 40] = [
+        ("i1: k(5)J", "Syntax at 2"),
+        ("k1: k(5)J", "NotAssignable at 1"),
+        ("{kJ}B k(2)H", "done"),
+        ("LJ", "NameTooLong at 1"),
+        ("k1: LJ", "Syntax at 2"),
+        ("xJ x1:", "done"),
+        ("aP a1:", "TypeClash at 2"),
+        ("k$:", "TypeClash at 1"),
+        ("aP ka:", "TypeClash at 2"),
+        ("k{.}I", "TypeClash at 1"),
+        ("k1+{.}W", "TypeClash at 1"),
+        ("k1;k_{.}F", "TypeClash at 1"),
+        ("k1: {k1:}kU", "TypeClash at 4"),
+        ("aP a1={.}I", "TypeClash at 2"),
+        ("aP k0: aak0>\"=:", "TypeClash at 3"),
+        ("k1&{.}I", "TypeClash at 1"),
+        ("aP a{1[.]}S", "TypeClash at 2"),
+        ("k1: k{$[.]}S", "TypeClash at 3"),
+        ("k(2)J k(1 1+)1:", "TypeClash at 2"),
+        ("k(2)J k(M(1,2))1:", "TypeClash at 2"),
+        ("k(2)J mk:", "TypeClash at 2"),
+        ("aP a1 2 1{.}D", "TypeClash at 2"),
+        ("aP ia 2 1{.}D", "TypeClash at 2"),
+        ("k(2)J 8 8kC 8@.", "TypeClash at 2"),
+        ("kA($):", "TypeClash at 1"),
+        ("kA(1,2):", "WrongCount at 1"),
+        ("kM(1):", "WrongCount at 1"),
+        ("k(2)J k(1,2)1:", "WrongCount at 2"),
+        ("k(2,2,2,2)J", "WrongCount at 1"),
+        ("kH", "WrongCount at 1"),
+        ("kJ kP", "DuplicateName at 2"),
+        ("k(2)J k(2)H", "DuplicateName at 2"),
+        ("M1: kM(1,2):", "DuplicateName at 2"),
+        ("k(0)J", "BadConstant at 1"),
+        ("k(n)J", "BadConstant at 1"),
+        ("k(2)J k1:", "NotAssignable at 2"),
+        ("k(2)J k1;i2<_{.}F", "NotAssignable at 2"),
+        ("k(2)J k1 2 1{.}D", "NotAssignable at 2"),
+        ("k(32767)J", "done"),
+        ("k(32768)J", "Limit at 1"),
+    ];
+    expect_all(&rt, rt.alloc(), &rows)
+}
+
+/// The name that the first statement of a unit declares.
+fn first_declared(unit: &Unit) -> Option<&Name> {
+    match &unit.statements.first()?.kind {
+        StmtKind::Typed(_, list) => Some(&list.first()?.name),
+        _ => None,
+    }
+}
+
+// The value of a switch is kept under a name that the source doesn't have.
+#[test]
+fn spare_names(rt: HostRuntime) -> Result<(), Fail> {
+    let rows: [(&str, &str, &str); 4] = [
+        ("9@2T k2: k{1[.] 2[k7:]}S k!", "Z00001", " 7/done"),
+        ("ZJ 9@2T Z5: k2: k{1[.] 2[k7:]}S Z!", "Z00002", " 5/done"),
+        (
+            "ZP 9@2T Z$: k2: k{1[.] 2[.]}S Z{k7:}I k!",
+            "Z00002",
+            " 7/done",
+        ),
+        (
+            "Z(2)J 9@2T Z(1)5: k2: k{1[.] 2[.]}S Z(1)!",
+            "Z00002",
+            " 5/done",
+        ),
+    ];
+    for (text, spare, wanted) in rows {
+        let program = main_program(rt.alloc(), text)?;
+        let made = lower(rt.alloc(), &program).ok().ok_or("refused")?;
+        let unit = made.first().ok_or("no unit")?.unit();
+        let name = first_declared(unit).ok_or("nothing is declared")?;
+        assert!(rt; name.as_bytes() == spare.as_bytes(), "{text}");
+        expect_all(&rt, rt.alloc(), &[(text, wanted)])?;
+    }
+    Ok(())
+}
+
+/// What a program shows of a main unit and of another one behind it, whose place is line 30.
+fn outcome_of_two(
+    alloc: Global,
+    first: &str,
+    header: Header,
+    second: &str,
+) -> Result<String, Fail> {
+    let mut units = Vec::new(alloc);
+    units.push(main_unit(read(alloc, first.as_bytes())?))?;
+    units.push(RatUnit {
+        header,
+        body: read(alloc, second.as_bytes())?,
+        place: at(30),
+    })?;
+    outcome(alloc, &program_of(units), 10)
+}
+
+/// The header of a subroutine.
+fn subroutine(alloc: Global) -> Result<Header, AllocError> {
+    let name = Name::new(Text::new([b'S'].to_vec(alloc)?));
+    Ok(Header::Sub(name, Vec::new(alloc)))
+}
+
+// The units of a program go one by one: each has its unit of FORTRAN, or the first fault is told. A unit with a header is not
+// built, whatever its statements are; its place is that of the header.
+#[test]
+fn units(rt: HostRuntime) -> Result<(), Fail> {
+    let alloc = rt.alloc();
+    let found = outcome_of_two(alloc, "k1: L1:", subroutine(alloc)?, "x1:")?;
+    assert_eq!(rt; found.as_str(), "NameTooLong at 2");
+    let found = outcome_of_two(alloc, "k1: 7Q", subroutine(alloc)?, "x1:")?;
+    assert_eq!(rt; found.as_str(), "Unbuilt at 30");
+    let found = outcome_of_two(alloc, "k1: 7Q", Header::Main, "x1:")?;
+    assert_eq!(rt; found.as_str(), "OutOfProfileType at 1");
+    let found = outcome_of_two(alloc, "k1: 7Q", Header::Main, "aP #")?;
+    assert_eq!(rt; found.as_str(), "stop 7");
     Ok(())
 }
 
@@ -308,10 +528,10 @@ fn endless(rt: HostRuntime) -> Result<(), Fail> {
         "9@2T k1: 5@k! k k1+: 5G",
     ];
     for text in texts {
-        let unit = main_unit(read(rt.alloc(), text.as_bytes())?);
+        let program = main_program(rt.alloc(), text)?;
         let mut before = 0;
         for limit in 1..=40 {
-            let walked = run_of(rt.alloc(), &unit, limit)?.ok().ok_or("refused")?;
+            let walked = run_of(rt.alloc(), &program, limit)?.ok().ok_or("refused")?;
             assert_eq!(rt; walked.end, RunEnd::GoesOn, "at {limit} of {text}");
             assert_eq!(rt; walked.begun, limit, "at {limit} of {text}");
             let counted = are_counted(&walked);
@@ -320,7 +540,7 @@ fn endless(rt: HostRuntime) -> Result<(), Fail> {
             assert!(rt; before <= count, "at {limit} of {text}");
             before = count;
         }
-        let walked = run_of(rt.alloc(), &unit, 1000)?.ok().ok_or("refused")?;
+        let walked = run_of(rt.alloc(), &program, 1000)?.ok().ok_or("refused")?;
         let count = walked.records.len();
         assert!(rt; count >= 2, "{text}");
     }
