@@ -13,6 +13,18 @@ use ports::{MemLibrary, MemSink, MemSource};
 use std::alloc::Global;
 
 #[cfg(test)]
+mod arrays;
+#[cfg(test)]
+mod calling;
+#[cfg(test)]
+mod large;
+#[cfg(test)]
+mod meetings;
+#[cfg(test)]
+mod refusals;
+#[cfg(test)]
+mod runs;
+#[cfg(test)]
 mod tests;
 
 /// A call over objects in memory, which tell what they hold: with a status that a text has, out and diag hold exactly

@@ -1,74 +1,8 @@
 // Worked examples: the expected values are worked out by hand from the language's rules.
-use super::*;
-use std::process::Abort;
+use crate::calling::{Call, RUN, Wanted, expect, expect_text, library_of};
+use crate::eft_in_memory;
+use ports::{MemSink, MemSource};
 use std::test::Fail;
-
-/// A call of `eft`: its words, the texts by their names, and which fetch, put on out and put on diag fail; 0 is none.
-#[derive(Drop)]
-struct Call<'a> {
-    words: &'a [&'a str],
-    texts: &'a [(&'a str, &'a [u8])],
-    failing: (u64, u64, u64),
-}
-
-/// The exit code, and what out and diag have.
-#[derive(Drop)]
-struct Wanted<'a> {
-    code: u8,
-    out: &'a str,
-    diag: &'a str,
-}
-
-const RUN: [&str; 3] = ["run", "ratfor", "p.r"];
-
-fn failing(alloc: Global, call: u64) -> Result<Vec<u64>, Fail> {
-    let mut calls = Vec::new(alloc);
-    if call != 0 {
-        calls.push(call)?;
-    }
-    Ok(calls)
-}
-
-fn library_of(alloc: Global, texts: &[(&str, &[u8])], fetch: u64) -> Result<MemLibrary, Fail> {
-    let mut names = Vec::new(alloc);
-    for (name, text) in texts {
-        names.push((String::from_str(alloc, name)?, text.to_vec(alloc)?))?;
-    }
-    Ok(MemLibrary::new(names, failing(alloc, fetch)?))
-}
-
-fn expect(rt: &impl Abort, alloc: Global, call: Call<'_>, wanted: Wanted<'_>) -> Result<(), Fail> {
-    let (fetch, put, line) = call.failing;
-    let mut library = library_of(alloc, call.texts, fetch)?;
-    let mut input = MemSource::new(Vec::new(alloc), Vec::new(alloc));
-    let mut out = MemSink::new(alloc, 4096, failing(alloc, put)?).map_err(|_| "want of memory")?;
-    let mut diag = MemSink::new(alloc, 256, failing(alloc, line)?).map_err(|_| "want of memory")?;
-    let mut words = Vec::new(alloc);
-    for word in call.words {
-        words.push(String::from_str(alloc, word)?)?;
-    }
-    let status = eft_in_memory(alloc, &words, &mut library, &mut input, &mut out, &mut diag);
-    assert_eq!(rt; status.code(), wanted.code);
-    assert!(rt; out.bytes() == wanted.out.as_bytes());
-    assert!(rt; diag.bytes() == wanted.diag.as_bytes());
-    Ok(())
-}
-
-fn expect_text(
-    rt: &impl Abort,
-    alloc: Global,
-    text: &[u8],
-    code: u8,
-    out: &str,
-    diag: &str,
-) -> Result<(), Fail> {
-    let call = Call {
-        words: &RUN,
-        texts: &[("p.r", text)],
-        failing: (0, 0, 0),
-    };
-    expect(rt, alloc, call, Wanted { code, out, diag })
-}
 
 const SUM: &[u8] = b"k = 2 + 3\nwrite(6,9) k\n9 format(i11)\nstop\nend\n";
 
@@ -206,55 +140,6 @@ fn misreads(rt: HostRuntime) -> Result<(), Fail> {
         (
             b"\nk = ((((((((((((((((((((((((((((((((((((((((((((((((((((((((((((((((((((((((((((((((((((((((((((((((((((((1",
             "fault 30 Limit 3 at p.r:2\n",
-        ),
-    ];
-    for (text, diag) in &table {
-        expect_text(&rt, rt.alloc(), text, 3, "", diag)?;
-    }
-    Ok(())
-}
-
-// Faults of the checks, and what is not built yet.
-#[test]
-fn refuses(rt: HostRuntime) -> Result<(), Fail> {
-    let table: [(&[u8], &str); 11] = [
-        (
-            b"k = 1\nx = k\nwrite(6,9) y\n9 format(i11)\nend\n",
-            "fault 11 OutOfProfileType at p.r:2\n",
-        ),
-        (
-            b"k = 1\nkkkkkkk = 1\nend\n",
-            "fault 10 NameTooLong at p.r:2\n",
-        ),
-        (
-            b"k = 1\nwhile (k < 3)\n\tbreak 2\nend\n",
-            "fault 16 BadBreak at p.r:3\n",
-        ),
-        (
-            b"k = 1\ngoto 10\nwhile (k < 3) { 10 k = 1\n}\nend\n",
-            "fault 15 BadLabel at p.r:2\n",
-        ),
-        (
-            b"k = 1\nswitch (k) {\n\tdefault: l = 1\n\tdefault: l = 2\n\t}\nend\n",
-            "fault 17 DuplicateCase at p.r:4\n",
-        ),
-        (b"write(6,9) k\nend\n", "fault 15 BadLabel at p.r:1\n"),
-        (
-            b"9 format(i11)\n9 format(i11)\nend\n",
-            "fault 15 BadLabel at p.r:2\n",
-        ),
-        (b"stop\nend\nstop\nend\n", "fault 22 MainCount at p.r:3\n"),
-        (
-            b"i = 1\nj = 2\nk = 3\nwrite(6,9) i, j, k\n9 format(i3,(i2))\nstop 17\nend\n",
-            "fault 31 Unbuilt at p.r:4\n",
-        ),
-        (
-            b"k = 1\nm = 2\ncommon /kk/ m\nend\n",
-            "fault 31 Unbuilt at p.r:3\n",
-        ),
-        (
-            b"stop\nend\nsubroutine s\nreturn\nend\n",
-            "fault 31 Unbuilt at p.r:3\n",
         ),
     ];
     for (text, diag) in &table {
