@@ -1,11 +1,9 @@
 // What a call has to show: the words are read, the text is compiled, and its unit is walked.
-ghost use Rattle.std.specs.Prelude.{◌≡◌, true, List, IfOk};
+ghost use Rattle.std.specs.Prelude.{◌≡◌, List, IfOk};
 ghost use Rattle.ports.specs.Left.{joined};
 ghost use Rattle.f66_tree.specs.World.{Record, Shown};
 ghost use Rattle.f66_tree.specs.Views.{lines_of};
 ghost use Rattle.f66_tree.specs.OneUnit.{executed};
-ghost use Rattle.f66_sound.specs.SoundUnits.{RunsRightly};
-ghost use Rattle.unit_walk.specs.Walked.{is_walked_unit};
 ghost use Rattle.eft_top.specs.Words.{command_of, texts, asked_command, Run};
 ghost use Rattle.eft_top.specs.Outcome.{Runs};
 ghost use Rattle.eft_top.specs.Story.{Story, Came, Caused};
@@ -76,11 +74,9 @@ fn run_file<L: Library>(
 }
 
 fn run(alloc: Global, limit: u64, compiled: &Compiled) -> Result<Report, Memory>
-    requires walked { is_walked_unit (lines_of compiled.now.unit.statements.items) ≡ true }
-    requires rightly { RunsRightly (lines_of compiled.now.unit.statements.items) }
     ensures { IfOk result (λ report. (shown : Shown) × ((input : List Record) → shown ≡ executed (lines_of compiled.now.unit.statements.items) input limit)
         × IsReport report (Runs compiled.now.files.items limit shown)) }
 {
-    let walked = walk(alloc, &compiled.unit.statements, limit)?;
+    let walked = walk(alloc, &compiled.unit, limit)?;
     Ok(Report::of_run(alloc, &compiled.files, limit, walked)?)
 }

@@ -1,8 +1,8 @@
 // What a call has to show, before anything is put.
-ghost use Rattle.std.specs.Prelude.{◌≡◌, ◌≢◌, ◌++◌, ◌∷◌, [], true, ℕ, List, IfOk, take};
+ghost use Rattle.std.specs.Prelude.{◌≡◌, ◌++◌, ◌∷◌, [], true, ℕ, List, IfOk, take};
 ghost use Rattle.ports.specs.Left.{joined};
 ghost use Rattle.ports.specs.Records.{output_bytes};
-ghost use Rattle.f66_tree.specs.World.{Wrong, Ended, Shown};
+ghost use Rattle.f66_tree.specs.World.{Shown};
 ghost use Rattle.unit_walk.specs.Shows.{shown_of};
 ghost use Rattle.rat_front.specs.Verdict.{name_of as name_of_file};
 ghost use Rattle.eft_top.specs.Outcome.{HasFault, Runs};
@@ -65,14 +65,13 @@ impl Report {
         })
     }
 
-    /// A run with this limit of steps, which has not gone wrong.
+    /// A run with this limit of steps.
     pub fn of_run(
         alloc: Global,
         files: &[Text],
         limit: u64,
         walked: Walked,
     ) -> Result<Report, AllocError>
-        requires { (shown_of walked).end ≢ Ended Wrong }
         ensures { IfOk result (λ report. IsReport report (Runs files.now limit (shown_of walked))) }
     {
         let Walked { records, end, .. } = walked;
@@ -90,7 +89,6 @@ impl Report {
                 )
             }
             RunEnd::GoesOn => (Status::StepLimit, Line::Made(limit_text(alloc, limit)?)),
-            RunEnd::Wrong => unreachable!(),
         };
         Ok(Report {
             status,

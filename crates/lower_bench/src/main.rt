@@ -9,7 +9,7 @@ use anyhow::{Result, bail};
 use rat_lower::lower;
 use std::env;
 use std::time::Instant;
-use tree::{FINISH, unit_of};
+use tree::program_of;
 
 fn main(rt: HostRuntime) -> Result<()> {
     let mut words = env::args(&rt)?.skip(1);
@@ -18,23 +18,26 @@ fn main(rt: HostRuntime) -> Result<()> {
     };
     let count: u32 = count.as_str().parse()?;
     let (Some(trees), Some(rounds)) = (words.next(), words.next()) else {
-        let unit = unit_of(rt.alloc(), count)?;
-        let lines = lower(rt.alloc(), &unit, FINISH)?.unit().statements.len();
-        println!(rt; "{count} statements become {lines}")?;
+        let program = program_of(rt.alloc(), count)?;
+        let made = lower(rt.alloc(), &program)?;
+        for unit in &made {
+            let lines = unit.unit().statements.len();
+            println!(rt; "{count} statements become {lines}")?;
+        }
         return Ok(());
     };
     let trees: u32 = trees.as_str().parse()?;
     let rounds: u32 = rounds.as_str().parse()?;
-    let mut units = Vec::new(rt.alloc());
+    let mut programs = Vec::new(rt.alloc());
     for _ in 0..trees {
-        units.push(unit_of(rt.alloc(), count)?)?;
+        programs.push(program_of(rt.alloc(), count)?)?;
     }
     let mut least = u128::MAX;
     for _ in 0..rounds {
         let mut made = Vec::new(rt.alloc());
         let start = Instant::now(&rt)?;
-        for unit in &units {
-            made.push(lower(rt.alloc(), unit, FINISH)?)?;
+        for program in &programs {
+            made.push(lower(rt.alloc(), program)?)?;
         }
         least = least.min(start.elapsed(&rt)?.as_nanos());
     }

@@ -1,21 +1,27 @@
-// Main units of Ratfor of any size, in which the statements come in turn.
+// Programs of one main unit of Ratfor of any size, in which the statements come in turn.
 
 use f66_tree::{Expr, Header, Name, Operator, Par, StmtKind};
 use ground::{List, Place, Text};
-use rat_tree::{RatCase, RatKind, RatStmt, RatUnit};
+use rat_tree::{RatCase, RatKind, RatProgram, RatStmt, RatUnit};
 use std::alloc::{AllocError, Global};
-
-/// Where the text would end.
-pub const FINISH: Place = Place {
-    file: 0,
-    line: 99_999,
-};
 
 /// How many statements a group has.
 const GROUP: u32 = 20;
 
-/// A main unit of so many statements, whole groups of 20.
-pub fn unit_of(alloc: Global, count: u32) -> Result<RatUnit, AllocError> {
+/// A program of a main unit of so many statements, whole groups of 20.
+pub fn program_of(alloc: Global, count: u32) -> Result<RatProgram, AllocError> {
+    let mut units = Vec::new(alloc);
+    units.push(unit_of(alloc, count)?)?;
+    Ok(RatProgram {
+        units,
+        finish: Place {
+            file: 0,
+            line: 99_999,
+        },
+    })
+}
+
+fn unit_of(alloc: Global, count: u32) -> Result<RatUnit, AllocError> {
     let mut body = Vec::new(alloc);
     for group in 0..count / GROUP {
         put_assignment(alloc, &mut body, group)?;

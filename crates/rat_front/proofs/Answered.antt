@@ -1,21 +1,23 @@
 -- From the answers of the layers to the verdict on a text.
-use Rattle.std.proofs.Common.{◌≡◌, ◌≤◌, ℕ, arith, List, [], ◌∷◌, length, get_or, map, refl, sym, ◌∙◌, ap, subst, None}
+use Rattle.std.proofs.Common.{◌≡◌, ◌≤◌, ℕ, arith, List, [], ◌∷◌, ◌++◌, length, map, refl, sym, ◌∙◌, ap, subst, None}
 use Rattle.std.specs.Prelude.{Ok, Err}
 use Rattle.ground.specs.declared.token.Token.{Token}
 use Rattle.ground.specs.declared.token.Dialect.TheVariants.{Ratfor}
 use Rattle.macro_define.specs.Answers.{Known}
 use Rattle.macro_define.specs.Expansion.{World, gathered}
 use Rattle.macro_define.specs.GatherAnswers.{EndsText}
+use Rattle.f66_tree.specs.declared.unit.Unit.{Unit as AUnit}
 use Rattle.rat_tree.specs.declared.program.RatProgram as memory
 use Rattle.rat_tree.specs.declared.program.RatUnit.{RatUnit}
+use Rattle.rat_tree.specs.Commands.{Commands}
 use Rattle.rat_tree.specs.Views.{commands, routine_of, program_of}
 use Rattle.grammar.specs.Grammar.{EndsWith}
 use Rattle.rat_table.specs.Words.{kind_terminal}
 use Rattle.rat_table.specs.Ratfor.{certificate}
 use Rattle.rat_grammar.specs.Ratfor.{grammar}
-use Rattle.rat_check.specs.FirstFault.{or_else}
-use Rattle.rat_lower.specs.Lowered.{lower_fault}
-use Rattle.rat_front.specs.Verdict.{Checked, Main, unless, checked, IsParsed, in_files, IsVerdictOf, Becomes}
+use Rattle.rat_lower.specs.Lowered.{first_lower_fault}
+use Rattle.rat_lower.specs.Served.{Serves, AllServe}
+use Rattle.rat_front.specs.Verdict.{Checked, Main, counted, unless, checked, IsParsed, in_files, IsVerdictOf, Becomes}
 
 -- ---- parse ----
 
@@ -25,15 +27,23 @@ ends_with ts h = (h.0, h.1, h.2, ap kind_terminal h.3)
 
 -- ---- checks ----
 
--- a list of one item
-pub one_item : {A : Type 0} → (xs : List A) → (x : A) → 1 ≤ length xs → length xs ≤ 1 → x ≡ get_or xs 0 x → xs ≡ x ∷ []
-one_item [] x long short here = absurd (omega arith)
-one_item (y ∷ []) x long short here = ap (λ z. z ∷ []) (sym here)
-one_item (y ∷ z ∷ zs) x long short here = absurd (omega arith)
+accepted : (p : memory.RatProgram) → first_lower_fault (program_of p).routines ≡ None → checked (program_of p) ≡ counted p.finish (map routine_of p.units.items)
+accepted p none = ap (λ o. unless o (counted p.finish (map routine_of p.units.items))) none
 
-pub main_alone : (u : RatUnit) → (p : memory.RatProgram) → p.units.items ≡ u ∷ [] → lower_fault (routine_of u) ≡ None → Main (commands u.body.items) ≡ checked (program_of p)
-main_alone u p alone none =
-    sym (ap (λ items. checked (record { routines = map routine_of items; finish = p.finish })) alone ∙ ap (λ o. unless (or_else o None) (Main (commands u.body.items))) none)
+-- the unit of a program that has no second one
+pub main_alone : (p : memory.RatProgram) → (made rest : List AUnit) → (unit : AUnit) → first_lower_fault (program_of p).routines ≡ None → length p.units.items ≤ 1 → AllServe (program_of p).routines made → made ≡ rest ++ unit ∷ []
+    → (body : Commands) × (Main body ≡ checked (program_of p)) × Serves body unit
+main_alone p made rest unit none alone serve last =
+    let r = by p.units.items rest alone (subst (λ ms. AllServe (map routine_of p.units.items) ms) last serve) in
+    (r.0, r.1 ∙ sym (accepted p none), r.2)
+  where
+    by : (us : List RatUnit) → (ms : List AUnit) → length us ≤ 1 → AllServe (map routine_of us) (ms ++ unit ∷ []) → (body : Commands) × (Main body ≡ counted p.finish (map routine_of us)) × Serves body unit
+    by [] [] e h = absurd h
+    by [] (m ∷ ms) e h = absurd h
+    by (u ∷ []) [] e h = (commands u.body.items, refl, h.0)
+    by (u ∷ []) (m ∷ []) e h = absurd h.1
+    by (u ∷ []) (m ∷ n ∷ ms) e h = absurd h.1
+    by (u ∷ v ∷ us) ms e h = absurd (omega arith)
 
 -- ---- gather ----
 

@@ -4,25 +4,15 @@ use Rattle.ground.specs.declared.token.Token.{Token}
 use Rattle.ground.specs.declared.fault.Refusal.{Refusal}
 use Rattle.ground.specs.declared.fault.Refusal.TheVariants as whole
 use Rattle.f66_tree.specs.declared.unit.Unit.{Unit as AUnit}
-use Rattle.f66_tree.specs.Views.{lines_of, routine_of}
-use Rattle.f66_tree.specs.World.{Record}
-use Rattle.f66_tree.specs.OneUnit.{executed}
-use Rattle.f66_tree.specs.Agreement.{Agrees}
-use Rattle.f66_check.specs.Answers.{IsSound}
 use Rattle.rat_tree.specs.Commands.{Commands}
-use Rattle.rat_lower.specs.OneUnit.{means}
+use Rattle.rat_lower.specs.Served.{Serves}
 use Rattle.macro_define.specs.declared.refusal.GatherRefusal.{GatherRefusal}
 use Rattle.macro_define.specs.declared.refusal.GatherRefusal.TheVariants as refusals
 use Rattle.macro_define.specs.Answers.{Known, IsOf}
 use Rattle.rat_front.specs.declared.compile.Compiled.{Compiled}
 use Rattle.rat_front.specs.Verdict.{Verdict, Refuses, Accepts, Checked, Faulty, Main, Becomes}
 
--- The unit of FORTRAN does what the statements of Ratfor mean, over any records of input, and it is sound.
-pub record Serves (body : Commands) (unit : AUnit) : Type 0 where
-  pub sound : IsSound (routine_of unit)
-  pub agrees : (input : List Record) → Agrees (means body input) (executed (lines_of unit.statements.items) input)
-
--- a unit that serves for the main program, or the fault; want of memory says nothing
+-- a unit that serves for the main program, so it is sound and does what that means; or the fault. Want of memory says nothing
 abbrev pub Finds : (Checked → Type 0) → Result AUnit Refusal → Type 0
 Finds P (Ok unit) = (body : Commands) × P (Main body) × Serves body unit
 Finds P (Err (whole.Fault fault)) = P (Faulty fault)

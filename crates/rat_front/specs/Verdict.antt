@@ -14,8 +14,8 @@ use Rattle.rat_grammar.specs.Ratfor.{grammar}
 use Rattle.rat_table.specs.Limits.{meter}
 use Rattle.rat_parts.specs.Values.{program}
 use Rattle.rat_tree.specs.Commands.{Commands, RatRoutine, RatProgram}
-use Rattle.rat_check.specs.FirstFault.{fault_at, or_else}
-use Rattle.rat_lower.specs.Lowered.{lower_fault}
+use Rattle.rat_check.specs.FirstFault.{fault_at}
+use Rattle.rat_lower.specs.Lowered.{first_lower_fault}
 
 -- a fault with the name of the file of its place; or the statements of the one main program, and the names of the files, whose
 -- numbers places have
@@ -24,11 +24,6 @@ pub data Verdict : Type 0 where
   Accepts : List (List ℕ) → Commands → Verdict
 
 -- ---- checks ----
-
--- the checks go unit by unit
-abbrev pub first_fault_of : List RatRoutine → Option Fault
-first_fault_of [] = None
-first_fault_of (u ∷ us) = or_else (lower_fault u) (first_fault_of us)
 
 -- a fault of a tree, or the statements of its main program
 pub data Checked : Type 0 where
@@ -46,7 +41,7 @@ unless None all = all
 unless (Some fault) all = Faulty fault
 
 abbrev pub checked : RatProgram → Checked
-checked tree = unless (first_fault_of tree.routines) (counted tree.finish tree.routines)
+checked tree = unless (first_lower_fault tree.routines) (counted tree.finish tree.routines)
 
 -- ---- parse ----
 

@@ -5,16 +5,16 @@ ghost use Rattle.rat_front.specs.Verdict.{name_of as name_of_file};
 ghost use Rattle.rat_front.specs.Compiled.{IsCompiled};
 
 use crate::unit_of;
-use f66_tree::Unit;
+use f66_check::CheckedUnit;
 use ground::{Dialect, List, Refusal, Text};
 use macro_define::{GatherRefusal, Gathered, gather};
 use ports::Library;
 use std::alloc::{AllocError, Global};
 
-/// A main program as a unit of FORTRAN. A place's file has its number in the list of names.
-#[derive(Debug, Drop)]
+/// A main program as a sound unit of FORTRAN. A place's file has its number in the list of names.
+#[derive(Drop)]
 pub struct Compiled {
-    pub unit: Unit,
+    pub unit: CheckedUnit,
     pub files: List<Text>,
 }
 

@@ -1,16 +1,8 @@
 use Rattle.std.proofs.Common.{refl}
-use Rattle.f66_tree.specs.Views.{lines_of, routine_of}
-use Rattle.f66_check.proofs.SoundLemmas.{sound_never_wrong}
+use Rattle.f66_tree.specs.Views.{lines_of}
 use Rattle.rat_front.specs.Verdict.{Accepts}
-use Rattle.unit_walk.proofs.SoundUnits.{sound_is_walked}
 use Rattle.eft_top.specs.Outcome.{Runs}
 use Rattle.eft_top.proofs.answer.run_file.Goals as goal
-
-pub run-requires-clause-walked : goal.run-requires-clause-walked
-run-requires-clause-walked g c = sound_is_walked (routine_of c.in-Ok.compiled.unit) c.in-Ok.ensures.text.gives.2.sound
-
-pub run-requires-clause-rightly : goal.run-requires-clause-rightly
-run-requires-clause-rightly g c = sound_never_wrong (routine_of c.in-Ok.compiled.unit) c.in-Ok.ensures.text.gives.2.sound
 
 pub returns-in-Ok-run-clause-tells : goal.returns-in-Ok-run-clause-tells
 returns-in-Ok-run-clause-tells g c =
