@@ -1,4 +1,4 @@
-// Small units with their first faults, worked out by hand, and a long one.
+// Small units with their first faults, worked out by hand.
 
 use crate::check;
 use f66_tree::{Declared, Expr, Field, Header, Name, Par, StmtKind, TypeWord};
@@ -15,37 +15,45 @@ fn variable(alloc: Global, text: &str) -> Result<Expr, AllocError> {
     Ok(Expr::Ref(name(alloc, text)?))
 }
 
-/// An assignment of 1.
-fn set(alloc: Global, text: &str) -> Result<StmtKind, AllocError> {
-    Ok(StmtKind::Assign(variable(alloc, text)?, Expr::Int(1)))
+/// A name with so many arguments or subscripts, each of which is 1.
+fn applied(alloc: Global, text: &str, count: u8) -> Result<Expr, AllocError> {
+    let mut list = Vec::new(alloc);
+    for _ in 0..count {
+        list.push(Expr::Int(1))?;
+    }
+    Ok(Expr::Item(name(alloc, text)?, list))
 }
 
-/// `dimension k(size)`.
-fn array(alloc: Global, size: i64) -> Result<StmtKind, AllocError> {
-    let mut sizes = Vec::new(alloc);
-    sizes.push(Par::Number(size))?;
+/// A name with these dimensions.
+fn declared(alloc: Global, text: &str, sizes: &[i64]) -> Result<Declared, AllocError> {
     let mut list = Vec::new(alloc);
-    let name = name(alloc, "K")?;
-    list.push(Declared { name, sizes })?;
+    for size in sizes {
+        list.push(Par::Number(*size))?;
+    }
+    let name = name(alloc, text)?;
+    Ok(Declared { name, sizes: list })
+}
+
+/// `dimension k(sizes)`.
+fn array(alloc: Global, sizes: &[i64]) -> Result<StmtKind, AllocError> {
+    let mut list = Vec::new(alloc);
+    list.push(declared(alloc, "K", sizes)?)?;
+    Ok(StmtKind::Dimension(list))
+}
+
+/// `dimension k(0), j(32768)`.
+fn arrays(alloc: Global) -> Result<StmtKind, AllocError> {
+    let mut list = Vec::new(alloc);
+    list.push(declared(alloc, "K", &[0])?)?;
+    list.push(declared(alloc, "J", &[32768])?)?;
     Ok(StmtKind::Dimension(list))
 }
 
 /// A type statement of one name.
-fn typed(alloc: Global, word: TypeWord, text: &str) -> Result<StmtKind, AllocError> {
-    let sizes = Vec::new(alloc);
+fn typed(alloc: Global, word: TypeWord, text: &str, sizes: &[i64]) -> Result<StmtKind, AllocError> {
     let mut list = Vec::new(alloc);
-    let name = name(alloc, text)?;
-    list.push(Declared { name, sizes })?;
+    list.push(declared(alloc, text, sizes)?)?;
     Ok(StmtKind::Typed(word, list))
-}
-
-/// `i = k(1, 1)`.
-fn pair(alloc: Global) -> Result<StmtKind, AllocError> {
-    let mut list = Vec::new(alloc);
-    list.push(Expr::Int(1))?;
-    list.push(Expr::Int(1))?;
-    let element = Expr::Item(name(alloc, "K")?, list);
-    Ok(StmtKind::Assign(variable(alloc, "I")?, element))
 }
 
 /// `format(i133)`.
@@ -55,24 +63,49 @@ fn wide(alloc: Global) -> Result<StmtKind, AllocError> {
     Ok(StmtKind::Format(fields))
 }
 
-/// A plain statement by its word.
+/// A value by its word: `1`, `not 1`, a name with arguments or subscripts, or a variable.
+fn value(alloc: Global, word: &str) -> Result<Expr, AllocError> {
+    match word {
+        "1" => Ok(Expr::Int(1)),
+        "NOT1" => Ok(Expr::Not(Box::new(alloc, Expr::Int(1))?)),
+        "K(1,1)" => applied(alloc, "K", 2),
+        "MOD(1)" => applied(alloc, "MOD", 1),
+        "MOD(1,1)" => applied(alloc, "MOD", 2),
+        word => variable(alloc, word),
+    }
+}
+
+/// A specification or a format by its word, or CONTINUE.
 fn plain(alloc: Global, word: &str) -> Result<StmtKind, AllocError> {
     match word {
-        "array" => array(alloc, 10),
-        "none" => array(alloc, 0),
-        "large" => array(alloc, 32768),
-        "logical" => typed(alloc, TypeWord::Logical, "L"),
-        "complex" => typed(alloc, TypeWord::Other, "C"),
-        "one" => set(alloc, "I"),
-        "whole" => set(alloc, "K"),
-        "truth" => set(alloc, "L"),
-        "long" => set(alloc, "IABCDEF"),
-        "real" => set(alloc, "A"),
-        "pair" => pair(alloc),
+        "array" => array(alloc, &[10]),
+        "none" => array(alloc, &[0]),
+        "large" => array(alloc, &[32768]),
+        "many" => array(alloc, &[1, 1, 1, 0]),
+        "huge" => array(alloc, &[99, 99, 99, 99]),
+        "arrays" => arrays(alloc),
+        "logical" => typed(alloc, TypeWord::Logical, "L", &[]),
+        "complex" => typed(alloc, TypeWord::Other, "C", &[]),
+        "complexnone" => typed(alloc, TypeWord::Other, "C", &[0]),
+        "complexlarge" => typed(alloc, TypeWord::Other, "C", &[32768]),
+        "long" => typed(alloc, TypeWord::Integer, "IABCDEF", &[]),
+        "longnone" => typed(alloc, TypeWord::Integer, "IABCDEF", &[0]),
+        "longlarge" => typed(alloc, TypeWord::Integer, "IABCDEF", &[32768]),
         "wide" => wide(alloc),
         "stop" => Ok(StmtKind::Stop(Some(32768))),
         "goto" => Ok(StmtKind::Goto(10)),
         _ => Ok(StmtKind::Continue),
+    }
+}
+
+/// An assignment, as `I=K(1,1)`, or another plain statement by its word.
+fn act(alloc: Global, word: &str) -> Result<StmtKind, AllocError> {
+    match word.split_once('=') {
+        Some((target, source)) => {
+            let target = variable(alloc, target)?;
+            Ok(StmtKind::Assign(target, value(alloc, source)?))
+        }
+        None => plain(alloc, word),
     }
 }
 
@@ -104,20 +137,26 @@ fn kind(alloc: Global, word: &str, place: Place) -> Result<RatKind, AllocError> 
         "break" => Ok(RatKind::Break(1)),
         "return" => Ok(RatKind::Return(None)),
         "switch" => defaults(alloc, place),
-        word => Ok(RatKind::Plain(plain(alloc, word)?)),
+        word => Ok(RatKind::Plain(act(alloc, word)?)),
     }
 }
 
-/// A unit with a word on each line.
+/// A unit with a statement on each line. A number is the label of the word behind it.
 fn unit(alloc: Global, text: &str) -> Result<RatUnit, AllocError> {
     let mut body = Vec::new(alloc);
     let mut line: u32 = 0;
+    let mut label = None;
     for word in text.split(' ') {
-        let place = Place { file: 0, line };
-        let kind = kind(alloc, word, place)?;
-        let label = None;
-        body.push(RatStmt { label, place, kind })?;
-        line = line.saturating_add(1);
+        match word.parse::<u32>() {
+            Ok(number) => label = Some(number),
+            Err(_) => {
+                let place = Place { file: 0, line };
+                let kind = kind(alloc, word, place)?;
+                body.push(RatStmt { label, place, kind })?;
+                label = None;
+                line = line.saturating_add(1);
+            }
+        }
     }
     let place = Place { file: 0, line: 0 };
     Ok(RatUnit {
@@ -127,7 +166,7 @@ fn unit(alloc: Global, text: &str) -> Result<RatUnit, AllocError> {
     })
 }
 
-/// The line and the kind of the first fault.
+/// The line, the kind and the limit of the first fault.
 fn fault(alloc: Global, text: &str) -> Result<Option<(u32, FaultKind, u64)>, AllocError> {
     let unit = unit(alloc, text)?;
     match check(alloc, &unit) {
@@ -140,51 +179,123 @@ fn fault(alloc: Global, text: &str) -> Result<Option<(u32, FaultKind, u64)>, All
 #[test]
 fn accepted(rt: HostRuntime) -> Result<(), Fail> {
     let alloc = rt.alloc();
-    assert_eq!(rt; fault(alloc, "; array logical one")?, None);
+    assert_eq!(rt; fault(alloc, "; array logical 10 I=1 goto")?, None);
     Ok(())
 }
 
+/// Each fault alone.
 #[test]
 fn faults(rt: HostRuntime) -> Result<(), Fail> {
     let alloc = rt.alloc();
     let rows = [
-        ("one array", 1, FaultKind::Syntax),
+        ("I=1 array", 1, FaultKind::Syntax),
         ("repeat logical", 1, FaultKind::Syntax),
-        ("one stop", 1, FaultKind::Syntax),
-        ("one long", 1, FaultKind::NameTooLong),
-        ("one real", 1, FaultKind::OutOfProfileType),
-        ("complex one", 0, FaultKind::OutOfProfileType),
-        ("logical truth", 1, FaultKind::TypeClash),
-        ("one if", 1, FaultKind::TypeClash),
-        ("array pair", 1, FaultKind::WrongCount),
+        ("I=1 stop", 1, FaultKind::Syntax),
+        ("I=1 IABCDEF=1", 1, FaultKind::NameTooLong),
+        ("I=1 A=1", 1, FaultKind::OutOfProfileType),
+        ("complex I=1", 0, FaultKind::OutOfProfileType),
+        ("logical L=1", 1, FaultKind::TypeClash),
+        ("I=1 if", 1, FaultKind::TypeClash),
+        ("array I=K(1,1)", 1, FaultKind::WrongCount),
         ("array array", 1, FaultKind::DuplicateName),
-        ("one goto", 1, FaultKind::BadLabel),
-        ("one break", 1, FaultKind::BadBreak),
-        ("one switch", 1, FaultKind::DuplicateCase),
-        ("none one", 0, FaultKind::BadConstant),
-        ("wide one", 0, FaultKind::BadFormat),
-        ("array whole", 1, FaultKind::NotAssignable),
-        ("one if return", 2, FaultKind::Unbuilt),
-        ("pair one", 0, FaultKind::Unbuilt),
+        ("I=1 goto", 1, FaultKind::BadLabel),
+        ("10 I=1 10 I=1", 1, FaultKind::BadLabel),
+        ("I=1 break", 1, FaultKind::BadBreak),
+        ("I=1 switch", 1, FaultKind::DuplicateCase),
+        ("none I=1", 0, FaultKind::BadConstant),
+        ("wide I=1", 0, FaultKind::BadFormat),
+        ("array K=1", 1, FaultKind::NotAssignable),
+        ("I=1 if return", 2, FaultKind::Unbuilt),
+        ("I=K(1,1) I=1", 0, FaultKind::Unbuilt),
     ];
     for (text, line, kind) in rows {
         assert_eq!(rt; fault(alloc, text)?, Some((line, kind, 0)));
     }
-    assert_eq!(rt; fault(alloc, "large one")?, Some((0, FaultKind::Limit, 7)));
+    assert_eq!(rt; fault(alloc, "large I=1")?, Some((0, FaultKind::Limit, 7)));
     Ok(())
 }
 
-/// Two rules at one statement, and two statements with faults.
+/// Two rules at one statement: the fault with the smaller number.
 #[test]
-fn first_of_two(rt: HostRuntime) -> Result<(), Fail> {
+fn two_rules(rt: HostRuntime) -> Result<(), Fail> {
+    use FaultKind::{
+        BadConstant, BadLabel, DuplicateName, NameTooLong, OutOfProfileType, Syntax, TypeClash,
+        WrongCount,
+    };
     let alloc = rt.alloc();
-    assert_eq!(rt;
-        fault(alloc, "one real if")?,
-        Some((1, FaultKind::OutOfProfileType, 0))
-    );
-    assert_eq!(rt;
-        fault(alloc, "array one array")?,
-        Some((2, FaultKind::Syntax, 0))
-    );
+    let rows = [
+        ("I=1 long", 1, Syntax),
+        ("I=1 complex", 1, Syntax),
+        ("I=1 many", 1, Syntax),
+        ("array I=1 array", 2, Syntax),
+        ("10 I=1 10 stop", 1, Syntax),
+        ("I=1 none", 1, Syntax),
+        ("I=1 large", 1, Syntax),
+        ("ABCDEFG=1", 0, NameTooLong),
+        ("IABCDEF=NOT1", 0, NameTooLong),
+        ("array IABCDEF=K(1,1)", 1, NameTooLong),
+        ("I=MOD(1,1) IABCDEF=MOD", 1, NameTooLong),
+        ("10 I=1 10 IABCDEF=1", 1, NameTooLong),
+        ("longnone", 0, NameTooLong),
+        ("array K=IABCDEF", 1, NameTooLong),
+        ("longlarge", 0, NameTooLong),
+        ("A=NOT1", 0, OutOfProfileType),
+        ("array A=K(1,1)", 1, OutOfProfileType),
+        ("I=MOD(1,1) A=MOD", 1, OutOfProfileType),
+        ("10 I=1 10 A=1", 1, OutOfProfileType),
+        ("complexnone", 0, OutOfProfileType),
+        ("array K=A", 1, OutOfProfileType),
+        ("complexlarge", 0, OutOfProfileType),
+        ("array logical L=K(1,1)", 2, TypeClash),
+        ("logical I=MOD(1,1) L=MOD", 2, TypeClash),
+        ("10 I=1 10 if", 1, TypeClash),
+        ("array K=NOT1", 1, TypeClash),
+        ("MOD=MOD(1)", 0, WrongCount),
+        ("array 10 I=1 10 I=K(1,1)", 2, WrongCount),
+        ("many", 0, WrongCount),
+        ("array K=K(1,1)", 1, WrongCount),
+        ("huge", 0, WrongCount),
+        ("10 array 10 array", 1, DuplicateName),
+        ("array none", 1, DuplicateName),
+        ("array I=MOD(1,1) K=MOD", 2, DuplicateName),
+        ("array large", 1, DuplicateName),
+        ("10 I=1 10 break", 1, BadLabel),
+        ("10 logical 10 none", 1, BadLabel),
+        ("10 I=1 10 wide", 1, BadLabel),
+        ("array 10 I=1 10 K=1", 2, BadLabel),
+        ("10 logical 10 large", 1, BadLabel),
+        ("arrays", 0, BadConstant),
+    ];
+    for (text, line, kind) in rows {
+        assert_eq!(rt; fault(alloc, text)?, Some((line, kind, 0)), "{text}");
+    }
+    Ok(())
+}
+
+/// Two statements with faults: the earlier one, whose number is the greater. What is not built goes before both.
+#[test]
+fn two_statements(rt: HostRuntime) -> Result<(), Fail> {
+    use FaultKind::{
+        BadBreak, BadConstant, BadFormat, BadLabel, DuplicateCase, DuplicateName, Limit,
+        NotAssignable, OutOfProfileType, TypeClash, Unbuilt, WrongCount,
+    };
+    let alloc = rt.alloc();
+    let rows = [
+        ("A=1 IABCDEF=1", 0, OutOfProfileType),
+        ("if A=1", 0, TypeClash),
+        ("array I=K(1,1) if", 1, WrongCount),
+        ("array array I=K(1,1)", 1, DuplicateName),
+        ("array goto array", 1, BadLabel),
+        ("break goto", 0, BadBreak),
+        ("switch break", 0, DuplicateCase),
+        ("none switch", 0, BadConstant),
+        ("wide none", 0, BadFormat),
+        ("array K=1 wide", 1, NotAssignable),
+        ("stop return", 1, Unbuilt),
+    ];
+    for (text, line, kind) in rows {
+        assert_eq!(rt; fault(alloc, text)?, Some((line, kind, 0)), "{text}");
+    }
+    assert_eq!(rt; fault(alloc, "large K=1")?, Some((0, Limit, 7)));
     Ok(())
 }
