@@ -129,7 +129,7 @@ pub fn check_unit(alloc: Global, unit: Unit) -> Result<CheckedUnit, Refusal>
 /// The number of the first part that is at fault, and the fault, by the rules that do not speak of a unit's end
 /// (X3.9-1966, sections 3 to 9): 0 for the header, and the statements from 1 on.
 pub fn first_fault(alloc: Global, unit: &Unit) -> Result<Option<(u32, Fault)>, Memory>
-    requires { length unit.now.statements.items < 2 ^ 32 - 1 }
+    requires { length unit.now.statements.items < 2 ^ 32 }
     ensures none { IfOk result (λ o. IfNone o (IsFaultless Part (routine_of unit.now))) }
     ensures first { IfOk result (λ o. IfSome o (λ r. IsFirstFault Part (routine_of unit.now) r.0 r.1)) }
 {
