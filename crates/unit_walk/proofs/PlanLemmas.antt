@@ -4,9 +4,11 @@ use Rattle.std.specs.declared.alloc.Global.{Global}
 use Rattle.std.specs.Borrow.{Bor}
 use Rattle.std.specs.Prelude.{cond}
 use Rattle.std.specs.BTreeMap.{BTreeMap, get_by}
+use Rattle.std.specs.HashMap.{HashMap, get}
 use Rattle.std.specs.Ordering.{nat_cmp, is_eq}
 use Rattle.std.specs.declared.cmp.Ordering.TheVariants.{Less, Equal, Greater}
 use Rattle.std.proofs.lemmas.Bool.Decides.{nat_tests}
+use Rattle.std.proofs.lemmas.List.Elements.{All-nil, All-push}
 use Rattle.std.proofs.lemmas.List.{drop_more, map-append, drop_all, get_or_append_left, get_or_default, get_or_push}
 use Rattle.f66_tree.specs.declared.statement.Stmt.{Stmt}
 use Rattle.f66_tree.specs.Forms.{Line}
@@ -15,28 +17,62 @@ use Rattle.f66_tree.specs.Views.{act_of, line_of, lines_of}
 use Rattle.unit_walk.specs.declared.do_loop.Closing.{Closing}
 use Rattle.unit_walk.specs.Running.{closer_at}
 use Rattle.unit_walk.specs.Standing.{ClosesAt, Points, LabelsAre}
-use Rattle.unit_walk.specs.Prepared.{ClosesLines, closer_by}
+use Rattle.unit_walk.specs.Prepared.{ClosesLines, ClosesFrom, AreNoted, listed, noted, noted_at, closer_by}
 use Rattle.unit_walk.proofs.StepLemmas.{drop_lines}
+use Rattle.unit_walk.proofs.RunLemmas.{as_many}
 
-module _ (all : List Stmt) (label i : ℕ) (s : Stmt) (within : i < length all) (here : s ≡ get_or all i s) where
+module _ (all : List Stmt) (i : ℕ) (s : Stmt) (within : i < length all) (here : s ≡ get_or all i s) where
   -- the loops from a line on, by those behind it
-  from_line : closers label (lines_of (drop i all)) ≡ closer_of label (act_of s.kind) (lines_of (drop (i + 1) all)) (closers label (lines_of (drop (i + 1) all)))
-  from_line =
-      ap (λ (l : List Stmt). closers label (lines_of l)) (drop_more all i s within)
-      ∙ ap (λ (x : Stmt). closer_of label (act_of x.kind) (lines_of (drop (i + 1) all)) (closers label (lines_of (drop (i + 1) all)))) (sym here)
+  from_line : (l : ℕ) → closers l (lines_of (drop i all)) ≡ closer_of l (act_of s.kind) (lines_of (drop (i + 1) all)) (closers l (lines_of (drop (i + 1) all)))
+  from_line l =
+      ap (λ (ls : List Stmt). closers l (lines_of ls)) (drop_more all i s within)
+      ∙ ap (λ (x : Stmt). closer_of l (act_of x.kind) (lines_of (drop (i + 1) all)) (closers l (lines_of (drop (i + 1) all)))) (sym here)
 
-  pub closers_more : (x : Bor (List ℕ)) (es : List Closing) → ((rest : List Line) (found : List Closer) → closer_of label (act_of s.kind) rest found ≡ closer_by (Some x) rest found)
-      → map (closer_at (lines_of all)) es ≡ closers label (lines_of (drop (i + 1) all)) → map (closer_at (lines_of all)) (es ++ (record { index = i; variable = x }) ∷ []) ≡ closers label (lines_of (drop i all))
-  closers_more x es is so_far =
-      map-append (closer_at (lines_of all)) es (record { index = i; variable = x } ∷ [])
-      ∙ ap (λ (ks : List Closer). ks ++ closer_at (lines_of all) (record { index = i; variable = x }) ∷ []) so_far
-      ∙ ap (λ (rest : List Line). closers label (lines_of (drop (i + 1) all)) ++ (let k : Closer = record { variable = x.now; inner = rest } in k) ∷ []) (drop_lines all (i + 1))
-      ∙ sym (is (lines_of (drop (i + 1) all)) (closers label (lines_of (drop (i + 1) all))))
-      ∙ sym from_line
+  -- the line is no DO
+  pub noted_same : {S : Type 0} (table : HashMap ℕ (Vec Closing Global) S) → ((l : ℕ) (rest : List Line) (found : List Closer) → closer_of l (act_of s.kind) rest found ≡ closer_by l None rest found)
+      → AreNoted all table (lines_of (drop (i + 1) all)) → AreNoted all table (lines_of (drop i all))
+  noted_same table is so_far l = record {
+    same = (so_far l).same ∙ sym (is l (lines_of (drop (i + 1) all)) (closers l (lines_of (drop (i + 1) all)))) ∙ sym (from_line l);
+    within = (so_far l).within;
+  }
 
-  pub closers_same : (es : List Closing) → ((rest : List Line) (found : List Closer) → closer_of label (act_of s.kind) rest found ≡ closer_by None rest found)
-      → map (closer_at (lines_of all)) es ≡ closers label (lines_of (drop (i + 1) all)) → map (closer_at (lines_of all)) es ≡ closers label (lines_of (drop i all))
-  closers_same es is so_far = so_far ∙ sym (is (lines_of (drop (i + 1) all)) (closers label (lines_of (drop (i + 1) all)))) ∙ sym from_line
+  -- the line is a DO that ends at the label m
+  module _ (m : ℕ) (x : Bor (List ℕ)) (is : (l : ℕ) (rest : List Line) (found : List Closer) → closer_of l (act_of s.kind) rest found ≡ closer_by l (Some (m, x)) rest found) where
+    abbrev e : Closing
+    e = record { index = i; variable = x }
+
+    found_by : (l : ℕ) (b : Bool) → nat_eq m l ≡ b → closers l (lines_of (drop i all))
+        ≡ (if b then (closers l (lines_of (drop (i + 1) all)) ++ (let k : Closer = record { variable = x.now; inner = lines_of (drop (i + 1) all) } in k) ∷ []) else closers l (lines_of (drop (i + 1) all)))
+    found_by l b ends =
+        from_line l
+        ∙ is l (lines_of (drop (i + 1) all)) (closers l (lines_of (drop (i + 1) all)))
+        ∙ ap (λ (t : Bool). if t then (closers l (lines_of (drop (i + 1) all)) ++ (let k : Closer = record { variable = x.now; inner = lines_of (drop (i + 1) all) } in k) ∷ []) else closers l (lines_of (drop (i + 1) all))) ends
+
+    closes_by : (l : ℕ) (es : List Closing) (b : Bool) → nat_eq m l ≡ b → ClosesFrom all l (lines_of (drop (i + 1) all)) es → ClosesFrom all l (lines_of (drop i all)) (if b then (es ++ e ∷ []) else es)
+    closes_by l es true ends so_far = record {
+      same = map-append (closer_at (lines_of all)) es (e ∷ [])
+          ∙ ap (λ (ks : List Closer). ks ++ closer_at (lines_of all) e ∷ []) so_far.same
+          ∙ ap (λ (rest : List Line). closers l (lines_of (drop (i + 1) all)) ++ (let k : Closer = record { variable = x.now; inner = rest } in k) ∷ []) (drop_lines all (i + 1))
+          ∙ sym (found_by l true ends);
+      within = All-push (λ (c : Closing). c.index < length (lines_of all)) es e so_far.within (subst (λ (n : ℕ). i < n) (sym (as_many all)) within);
+    }
+    closes_by l es false ends so_far = record { same = so_far.same ∙ sym (found_by l false ends); within = so_far.within }
+
+    pub noted_more : {S : Type 0} (table more : HashMap ℕ (Vec Closing Global) S) → ((l : ℕ) → noted l more ≡ (if nat_eq m l then (noted l table ++ e ∷ []) else noted l table))
+        → AreNoted all table (lines_of (drop (i + 1) all)) → AreNoted all more (lines_of (drop i all))
+    noted_more table more put so_far l =
+        subst (λ (es : List Closing). ClosesFrom all l (lines_of (drop i all)) es) (sym (put l)) (closes_by l (noted l table) (nat_eq m l) refl (so_far l))
+
+pub noted_none : {S : Type 0} (all : List Stmt) (table : HashMap ℕ (Vec Closing Global) S) (n : ℕ) → length all ≤ n → ((l : ℕ) → get nat_eq table l ≡ None) → AreNoted all table (lines_of (drop n all))
+noted_none all table n past empty l =
+    let none_left : drop n all ≡ [] = drop_all n all past in
+    subst (λ (ls : List Stmt). ClosesFrom all l (lines_of ls) (noted l table)) (sym none_left)
+    (subst (λ (o : Option (Vec Closing Global)). ClosesFrom all l [] (listed o)) (sym (empty l)) (record { same = refl; within = All-nil (λ (c : Closing). c.index < length (lines_of all)) }))
+
+-- what is noted at a line's label
+pub closes_noted : {S : Type 0} (all : List Stmt) (table : HashMap ℕ (Vec Closing Global) S) (o : Option ℕ) (es : List Closing) → es ≡ noted_at o table → AreNoted all table (lines_of all) → ClosesAt (lines_of all) o es
+closes_noted all table None es is closes = subst (λ (found : List Closing). ClosesAt (lines_of all) None found) (sym is) (record { same = refl; within = All-nil (λ (c : Closing). c.index < length (lines_of all)) })
+closes_noted all table (Some l) es is closes = subst (λ (found : List Closing). ClosesAt (lines_of all) (Some l) found) (sym is) (record { same = (closes l).same; within = (closes l).within })
 
 -- one more line
 pub closes_more : (all : List Stmt) (closings : List (Vec Closing Global)) (n : ℕ) (s : Stmt) (es : Vec Closing Global) → length closings ≡ n → n < length all → s ≡ get_or all n s → ClosesAt (lines_of all) s.label es.items

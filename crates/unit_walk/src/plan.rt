@@ -1,5 +1,5 @@
 // What is prepared of a unit before it runs: its names and formats, the DO loops that end at each line, and where its labels are.
-ghost use Rattle.std.specs.Prelude.{◌≡◌, ℕ, ◌<◌, List, [], IfOk, length, drop, true, false, not, IfSome, MatchOption, slice_index_or};
+ghost use Rattle.std.specs.Prelude.{◌≡◌, ℕ, nat_eq, ◌<◌, if◌then◌else◌, List, [], ◌∷◌, ◌++◌, IfOk, OnOk, length, drop, true, false, not, IfSome, MatchOption, slice_index_or};
 ghost use Rattle.f66_tree.specs.declared.statement.Stmt.{Stmt};
 ghost use Rattle.f66_tree.specs.Units.{is_note as notes};
 ghost use Rattle.f66_tree.specs.Forms.{Line};
@@ -7,7 +7,7 @@ ghost use Rattle.f66_tree.specs.Execution.{Closer, closer_of, from_label, runnab
 ghost use Rattle.f66_tree.specs.Views.{act_of, lines_of};
 ghost use Rattle.unit_walk.specs.Walked.{is_walked_unit};
 ghost use Rattle.unit_walk.specs.Standing.{IsPlan, ClosesAt, LabelsAre};
-ghost use Rattle.unit_walk.specs.Prepared.{ClosesLines, closer_by};
+ghost use Rattle.unit_walk.specs.Prepared.{ClosesLines, AreNoted, noted, noted_at, closer_by};
 
 use crate::do_loop::Closing;
 use crate::formats::widths_of;
@@ -78,9 +78,10 @@ fn closings_of<'a>(alloc: Global, code: &'a [Stmt]) -> Result<Vec<Vec<Closing<'a
     ensures size { IfOk result (λ all. length all.items ≡ length code.now) }
     ensures closes { IfOk result (λ all. ClosesLines code.now all.items (length code.now)) }
 {
+    let table = closings_by_label(alloc, code)?;
     let mut all = Vec::new(alloc);
     for statement in code {
-        let closings = closings_at_line(alloc, code, statement.label)?;
+        let closings = closings_at_line(alloc, &table, statement.label)?;
         all.push(closings)?;
     }
     Ok(all)
@@ -89,42 +90,65 @@ fn closings_of<'a>(alloc: Global, code: &'a [Stmt]) -> Result<Vec<Vec<Closing<'a
 /// The loops that end at a line with this label, the innermost first.
 fn closings_at_line<'a>(
     alloc: Global,
-    code: &'a [Stmt],
+    table: &HashMap<u32, Vec<Closing<'a>>>,
     label: Option<u32>,
 ) -> Result<Vec<Closing<'a>>, AllocError>
-    ensures { IfOk result (λ closings. ClosesAt (lines_of code.now) label closings.items) }
+    ensures { IfOk result (λ closings. closings.items ≡ noted_at label table.now) }
 {
-    match label {
-        Some(label) => closings_at_label(alloc, code, label),
+    let Some(label) = label else {
+        return Ok(Vec::new(alloc));
+    };
+    match table.get(&label) {
+        Some(closings) => closings.to_vec(alloc),
         None => Ok(Vec::new(alloc)),
     }
 }
 
-fn closings_at_label<'a>(
+/// The loops that end at each label, the innermost first.
+fn closings_by_label<'a>(
     alloc: Global,
     code: &'a [Stmt],
-    label: u32,
-) -> Result<Vec<Closing<'a>>, AllocError>
-    ensures { IfOk result (λ closings. ClosesAt (lines_of code.now) (Some label) closings.items) }
+) -> Result<HashMap<u32, Vec<Closing<'a>>>, AllocError>
+    ensures { IfOk result (λ table. AreNoted code.now table (lines_of code.now)) }
 {
-    let mut closings = Vec::new(alloc);
+    let mut table = HashMap::new(alloc);
     for index in (0..code.len()).rev() {
-        match loop_to(&code[index].kind, label) {
-            Some(variable) => closings.push(Closing { index, variable })?,
+        match loop_at(&code[index].kind) {
+            Some((label, variable)) => {
+                note_closing(alloc, &mut table, label, Closing { index, variable })?;
+            }
             None => {}
         }
     }
-    Ok(closings)
+    Ok(table)
 }
 
-/// The variable of a DO that ends at this label.
-fn loop_to(kind: &StmtKind, label: u32) -> Option<&Name>
-    ensures { (rest : List Line) (found : List Closer) → closer_of label (act_of kind.now) rest found ≡ closer_by result rest found }
+/// The last label of a DO, and its variable.
+fn loop_at(kind: &StmtKind) -> Option<(u32, &Name)>
+    ensures { (l : ℕ) (rest : List Line) (found : List Closer) → closer_of l (act_of kind.now) rest found ≡ closer_by l result rest found }
 {
     match kind {
-        StmtKind::Loop(end, variable, _, _, _) if *end == label => Some(variable),
+        StmtKind::Loop(end, variable, _, _, _) => Some((*end, variable)),
         _ => None,
     }
+}
+
+/// Notes one more loop at its label, behind those that are there.
+fn note_closing<'a>(
+    alloc: Global,
+    table: &mut HashMap<u32, Vec<Closing<'a>>>,
+    label: u32,
+    closing: Closing<'a>,
+) -> Result<(), AllocError>
+    ensures { OnOk result ((l : ℕ) → noted l table.new ≡ (if nat_eq label l then noted l table.old ++ closing.entry ∷ [] else noted l table.old)) }
+{
+    let mut list = match table.remove(&label) {
+        Some(list) => list,
+        None => Vec::new(alloc),
+    };
+    list.push(closing)?;
+    table.insert(label, list)?;
+    Ok(())
 }
 
 /// The index of the first line with each label.
