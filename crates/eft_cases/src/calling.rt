@@ -51,12 +51,16 @@ fn shown(alloc: Global, bytes: &[u8]) -> Result<String, AllocError> {
     Ok(shown)
 }
 
-/// The first 200 bytes of the first text.
-fn first_text<'a>(texts: &[(&'a str, &'a [u8])]) -> &'a [u8] {
+/// The first 200 bytes of the first text, as characters.
+fn beginning(alloc: Global, texts: &[(&str, &[u8])]) -> Result<String, AllocError> {
+    let mut shown = String::new(alloc);
     let Some((_, text)) = texts.first() else {
-        return &[];
+        return Ok(shown);
     };
-    if text.len() > 200 { &text[..200] } else { text }
+    for byte in text.iter().take(200) {
+        shown.push(*byte as char)?;
+    }
+    Ok(shown)
 }
 
 /// A call shows what is wanted.
@@ -78,7 +82,7 @@ pub fn expect(
     let status = eft_in_memory(alloc, &words, &mut library, &mut input, &mut out, &mut diag);
     let told = shown(alloc, diag.bytes())?;
     let records = shown(alloc, out.bytes())?;
-    let text = shown(alloc, first_text(call.texts))?;
+    let text = beginning(alloc, call.texts)?;
     assert_eq!(rt; told.as_str(), wanted.diag, "of {text}");
     assert_eq!(rt; records.as_str(), wanted.out, "of {text}");
     assert_eq!(rt; status.code(), wanted.code, "of {text}");
