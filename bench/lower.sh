@@ -1,9 +1,10 @@
 #!/bin/sh
-# How fast trees of Ratfor become units of FORTRAN: the time of lowering one unit of 20,000 statements against that of one of
-# 2,000, and whether it is at most 12 times as long. The small unit is one of ten that are lowered in turn, so that both go over
-# as much memory; the time of one that is lowered again and again, which is shorter, stands beside the others. Each is the least of several rounds in one process that keeps its memory from round
-# to round, so that the kernel's work for new pages takes no part. Nor do reading a text and making its tree. Wants
-# crates/lower_bench/out/lower_bench (`rt run` in that folder makes it).
+# How fast trees of Ratfor become units of FORTRAN, their checks included: the time of lowering one unit of 20,000 statements against
+# that of one of 2,000, and whether it is at most 12 times as long. The small unit is one of ten that are lowered in turn, so that
+# both go over as much memory; the time of one that is lowered again and again, which is shorter, stands beside the others. Each is
+# the least of several rounds in one process that keeps its memory from round to round, so that the kernel's work for new pages
+# takes no part. Nor do reading a text and making its tree. Wants crates/lower_bench/out/lower_bench (`rt run` in that folder makes
+# it).
 here=$(CDPATH= cd -- "$(dirname -- "$0")/.." && pwd) || exit 1
 program=$here/crates/lower_bench/out/lower_bench
 if [ ! -x "$program" ]; then
