@@ -1,3 +1,4 @@
+-- A group nests as deep as its parts, and one level more.
 use Rattle.format_io.proofs.Trees.{group_within}
 use Rattle.format_io.proofs.examples.+nests_within.Goals as goal
 

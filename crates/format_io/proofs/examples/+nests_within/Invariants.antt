@@ -1,3 +1,4 @@
+-- Where the parts that are left nest within the levels, the whole field does.
 use Rattle.std.proofs.Common.{◌≤◌, ◌-◌, drop}
 use Rattle.format_io.specs.Places.{depth}
 use Rattle.format_io.specs.OneField.{one}

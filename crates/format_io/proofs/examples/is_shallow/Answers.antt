@@ -1,3 +1,4 @@
+-- The depth of a format is that of its fields.
 use Rattle.std.proofs.Common.{◌≤◌, sym, subst}
 use Rattle.format_io.proofs.Trees.{list_depth_is}
 use Rattle.format_io.proofs.examples.is_shallow.Goals as goal

@@ -1,3 +1,4 @@
+-- Where the fields that are left nest at most two deep, all do.
 use Rattle.std.proofs.Common.{◌≤◌, drop}
 use Rattle.f66_tree.specs.Views.{fields_of}
 use Rattle.format_io.specs.Places.{depth}

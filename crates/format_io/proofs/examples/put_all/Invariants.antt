@@ -1,3 +1,4 @@
+-- The way stays writing.
 use Rattle.std.proofs.Common.{◌≡◌}
 use Rattle.f66_tree.specs.declared.editing.Way.TheVariants.{Writing}
 use Rattle.format_io.proofs.examples.put_all.Given as goal

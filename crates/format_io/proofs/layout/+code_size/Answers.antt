@@ -1,3 +1,4 @@
+-- The size of a group is that of its parts, and two more.
 use Rattle.format_io.proofs.Trees.{group_size}
 use Rattle.format_io.proofs.layout.+code_size.Goals as goal
 

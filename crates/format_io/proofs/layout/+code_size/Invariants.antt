@@ -1,3 +1,4 @@
+-- The size so far, with that of the parts to come, is that of the field.
 use Rattle.std.proofs.Common.{◌≡◌, ◌+◌, drop}
 use Rattle.format_io.specs.Places.{size}
 use Rattle.format_io.specs.OneField.{one}

@@ -1,3 +1,4 @@
+-- The code of a group is that of its parts between its beginning and its end.
 use Rattle.std.proofs.Common.{ap, ◌∙◌, ◌-◌, map}
 use Rattle.std.proofs.lemmas.List.{map-append}
 use Rattle.format_io.specs.Places.{code_of}

@@ -1,3 +1,4 @@
+-- The code so far, with that of the parts to come and the end of the group, is that of the field.
 use Rattle.std.proofs.Common.{◌≡◌, ◌≤◌, ◌+◌, ◌++◌, ◌∷◌, [], drop, map}
 use Rattle.format_io.specs.Places.{code, code_of, Leave}
 use Rattle.format_io.specs.OneField.{one}

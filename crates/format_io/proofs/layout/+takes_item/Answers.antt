@@ -1,3 +1,4 @@
+-- A group takes an item where one of its parts does.
 use Rattle.format_io.proofs.Trees.{group_has}
 use Rattle.format_io.proofs.layout.+takes_item.Goals as goal
 

@@ -1,3 +1,4 @@
+-- The parts that are left take an item where the field does.
 use Rattle.std.proofs.Common.{◌≡◌, drop}
 use Rattle.f66_tree.specs.Fields.{has_item, steps}
 use Rattle.format_io.specs.OneField.{one}

@@ -1,3 +1,4 @@
+-- Each piece of code makes the code longer.
 use Rattle.format_io.proofs.Trees.{grown_ok}
 use Rattle.format_io.proofs.layout.emit_top.Goals as goal
 

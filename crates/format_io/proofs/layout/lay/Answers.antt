@@ -1,3 +1,4 @@
+-- The code, the place where control goes back, and whether it may, are those of the format.
 use Rattle.std.proofs.Common.{◌≡◌, ◌≤◌, length, ap, arith}
 use Rattle.std.proofs.Math.ListN.{drop_of_length-le}
 use Rattle.format_io.proofs.Trees.{plan_starts, plan_ends}

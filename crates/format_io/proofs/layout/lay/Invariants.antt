@@ -1,3 +1,4 @@
+-- The code so far with that of the fields to come is that of the format; so for the place to which control goes back, and whether it may.
 use Rattle.std.proofs.Common.{◌≡◌, ◌≤◌, ◌++◌, drop, map, length}
 use Rattle.format_io.specs.Places.{code_of}
 use Rattle.format_io.proofs.Parts.{list_code, list_depth, list_place, list_cycles}

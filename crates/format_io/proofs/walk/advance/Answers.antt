@@ -1,3 +1,4 @@
+-- What is next on a walk over the code of a plan, or that it has ended.
 use Rattle.std.proofs.Common.{◌≡◌, ◌+◌, ◌<◌, length, arith, Some, slice_get, rules}
 use Rattle.format_io.specs.declared.code.Op.TheVariants as ops
 use Rattle.format_io.proofs.Plans.{reads, reads_none, next_does, next_ends, turned, shorter, once_more, once_over, enters, enters_within, enter_level, leaves_within, leaves_last, leaves_more, leave_level, plan_end}

@@ -1,3 +1,4 @@
+-- At the end of the code the hand is closed.
 use Rattle.std.proofs.Common.{◌≡◌, sym, ◌∙◌, ap, []}
 use Rattle.format_io.proofs.Hands.{closes_writing, closes_reading, visible_end}
 use Rattle.format_io.proofs.Plans.{plan_size}

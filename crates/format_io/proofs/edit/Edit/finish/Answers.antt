@@ -1,3 +1,4 @@
+-- The way stays as it is.
 use Rattle.format_io.proofs.Ways.{last_keeps}
 use Rattle.format_io.proofs.edit.Edit.finish.Goals as goal
 

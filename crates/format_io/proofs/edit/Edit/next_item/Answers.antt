@@ -1,3 +1,4 @@
+-- The way stays as it is.
 use Rattle.format_io.proofs.Ways.{next_keeps}
 use Rattle.format_io.proofs.edit.Edit.next_item.Goals as goal
 

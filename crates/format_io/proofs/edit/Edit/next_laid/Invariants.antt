@@ -1,3 +1,4 @@
+-- The turn that is looked for is that of the statement as it stood.
 use Rattle.std.proofs.Common.{◌≡◌, length}
 use Rattle.f66_tree.specs.Turns.{next_turn}
 use Rattle.format_io.specs.Places.{hand_of, format, ahead, visible}

@@ -1,3 +1,4 @@
+-- A new walk is the hand that a statement begins with.
 use Rattle.format_io.proofs.Hands.{start_is}
 use Rattle.format_io.proofs.edit.Edit.start.Goals as goal
 

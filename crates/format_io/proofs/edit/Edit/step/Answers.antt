@@ -1,3 +1,4 @@
+-- One step of a plan is one step of its format, where control goes back too.
 use Rattle.std.proofs.Common.{sym, ◌∙◌, ap, None}
 use Rattle.format_io.proofs.Hands.{none_next, back_again, visible_again}
 use Rattle.format_io.specs.Places.{format, hand_of}

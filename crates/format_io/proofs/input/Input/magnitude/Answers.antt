@@ -1,3 +1,4 @@
+-- One digit more, or a magnitude that is out of range.
 use Rattle.std.proofs.Common.{arith, ap, ◌∙◌}
 use Rattle.format_io.proofs.FieldFacts.{digit_great, digit_more}
 use Rattle.format_io.proofs.input.Input.magnitude.Goals as goal

@@ -1,3 +1,4 @@
+-- The magnitude of the digits so far is in range, and with those to come it is that of all.
 use Rattle.std.proofs.Common.{◌≡◌, ◌≤◌, drop}
 use Rattle.f66_tree.specs.Fielded.{field, capped, digits_from}
 use Rattle.format_io.proofs.input.Input.magnitude.Given as goal

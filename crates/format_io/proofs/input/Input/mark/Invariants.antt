@@ -1,3 +1,4 @@
+-- Only blanks were passed.
 use Rattle.std.proofs.Common.{◌≡◌, drop}
 use Rattle.f66_tree.specs.Fielded.{field, unblanked}
 use Rattle.format_io.proofs.input.Input.mark.Given as goal

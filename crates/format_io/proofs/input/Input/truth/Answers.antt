@@ -1,3 +1,4 @@
+-- Behind the blanks T is true, F is false, and all else is no truth value.
 use Rattle.std.proofs.Common.{arith, ◌∙◌}
 use Rattle.f66_tree.specs.Fielded.{field}
 use Rattle.format_io.proofs.FieldFacts.{truth_bad, found_at}

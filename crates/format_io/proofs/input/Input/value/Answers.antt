@@ -1,3 +1,4 @@
+-- A magnitude with its sign is the integer of the digits, where it is in range.
 use Rattle.std.proofs.Common.{arith, rules, w64, ◌∙◌}
 use Rattle.std.proofs.lemmas.Int.{to_z-of_z}
 use Rattle.f66_tree.specs.Fielded.{sign_of}

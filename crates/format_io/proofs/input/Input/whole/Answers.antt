@@ -1,3 +1,4 @@
+-- Behind the blanks stands a plus sign, a minus sign or none, and then the digits.
 use Rattle.std.proofs.Common.{arith, sym, ◌∙◌, ap, false}
 use Rattle.f66_tree.specs.Fielded.{sign_of, field, ranged, digits_of}
 use Rattle.format_io.proofs.FieldFacts.{sign_plus, sign_minus, sign_none, found_at, field_drop}
