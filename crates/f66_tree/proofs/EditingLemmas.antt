@@ -1,44 +1,44 @@
--- Editing keeps the records that were written. A step of editing gives a hand with the records after it, or a trap;
--- the walk to the next edit only appends to the records, at each slash and where control goes back.
+-- Editing keeps the records that were written. A step of editing gives a hand with the records after it, or a trap with
+-- the records by then; the walk to the next edit only appends to the records, at each slash and where control goes back.
 use Rattle.std.proofs.Common.{ℕ, Bool, true, false, List, [], ◌∷◌, length, Result, Ok, Err}
-use Rattle.std.specs.Prelude.{if◌then◌else◌, nat_le, ⊤}
+use Rattle.std.specs.Prelude.{if◌then◌else◌, nat_le}
 use Rattle.ground.specs.declared.trap.Trap.{Trap}
-use Rattle.ground.specs.declared.trap.Trap.TheVariants.{FormatMismatch, LongRecord}
+use Rattle.ground.specs.declared.trap.Trap.TheVariants.{LongRecord}
 use Rattle.ground.specs.declared.value.Kind.{Kind}
 use Rattle.ground.specs.Content.{Content}
 use Rattle.f66_tree.specs.declared.editing.Way.{Way}
 use Rattle.f66_tree.specs.declared.editing.Way.TheVariants.{Reading, Writing}
 use Rattle.f66_tree.specs.declared.editing.Mark.TheVariants.{Due}
 use Rattle.f66_tree.specs.Fields.{Step, Takes, Blanks, Chars, Slash, Fields, has_item}
-use Rattle.f66_tree.specs.Turns.{Hand, started, took, ◌>>=◌, blanked, lettered, suits, stands, line_of}
-use Rattle.f66_tree.specs.Editing.{Files, Onward, fetched, exchanged, seek, cycled, to_item, shut, seek_end, to_end}
-use Rattle.f66_tree.specs.World.{Record, Tape, files_of, tape_of, Try, Yields, Traps, Fails, then_try, lifted, IfYields, IsPrefix}
-use Rattle.f66_tree.specs.Records.{placed, opened, put_by, put, take_by, take}
+use Rattle.f66_tree.specs.Turns.{Hand, ◌>>=◌, blanked, lettered, suits, stands, line_of}
+use Rattle.f66_tree.specs.Editing.{Files, Break, within, Onward, mismatch, fetched, exchanged, seek, cycled, to_item, shut, seek_end, to_end}
+use Rattle.f66_tree.specs.World.{Record, Tape, files_of, tape_of, Try, Yields, Traps, Fails, then_try, AfterMove, IfYields, IsPrefix}
+use Rattle.f66_tree.specs.Records.{placed, begun, opened, put_by, handed, put, take_by, take}
 use Rattle.f66_tree.specs.FirstLaws.{Keeps, RecordsStay}
 use Rattle.f66_tree.proofs.Prefixes.{prefix_self, prefix_more}
 
--- the records are still there where a step ends well
-abbrev KeepsAll : {A : Type 0} → List Record → Result (A × Files) Trap → Type 0
+-- the records are still there after a step, also where it traps
+abbrev KeepsAll : {A : Type 0} → List Record → Result (A × Files) Break → Type 0
 KeepsAll a (Ok x) = IsPrefix a x.1.written
-KeepsAll a (Err e) = ⊤
+KeepsAll a (Err e) = IsPrefix a e.1.written
 
-bind_line : (a : List Record) (r : Result (List ℕ) Trap) (g : List ℕ → Result (Hand × Files) Trap) → ((line : List ℕ) → KeepsAll a (g line)) → KeepsAll a (r >>= g)
-bind_line a (Ok line) g h = h line
-bind_line a (Err e) g h = tt
+bind_line : (a : List Record) (f : Files) (r : Result (List ℕ) Trap) (g : List ℕ → Result (Hand × Files) Break) → IsPrefix a f.written → ((line : List ℕ) → KeepsAll a (g line)) → KeepsAll a (within f r >>= g)
+bind_line a f (Ok line) g p h = h line
+bind_line a f (Err e) g p h = p
 
-bind_both : (a : List Record) (r : Result (List ℕ × Files) Trap) (g : List ℕ × Files → Result (Hand × Files) Trap) → KeepsAll a r → ((line : List ℕ) (f : Files) → IsPrefix a f.written → KeepsAll a (g (line, f))) → KeepsAll a (r >>= g)
+bind_both : (a : List Record) (r : Result (List ℕ × Files) Break) (g : List ℕ × Files → Result (Hand × Files) Break) → KeepsAll a r → ((line : List ℕ) (f : Files) → IsPrefix a f.written → KeepsAll a (g (line, f))) → KeepsAll a (r >>= g)
 bind_both a (Ok x) g k h = h x.0 x.1 k
-bind_both a (Err e) g k h = tt
+bind_both a (Err e) g k h = k
 
-fetch_keeps : (a : List Record) (rs : List Record) (f : Files) → IsPrefix a f.written → KeepsAll a (fetched rs f)
-fetch_keeps a [] f h = tt
+fetch_keeps : (a : List Record) (rs : List Record) (f : Files) → IsPrefix a f.written → KeepsAll a (within f (fetched rs f))
+fetch_keeps a [] f h = h
 fetch_keeps a (r ∷ rs) f h = fits (nat_le (length r) 65535)
   where
-    fits : (b : Bool) → KeepsAll a (if b then Ok (r, record f { unread = rs }) else Err LongRecord)
+    fits : (b : Bool) → KeepsAll a (within f (if b then Ok (r, record f { unread = rs }) else Err LongRecord))
     fits true = h
-    fits false = tt
+    fits false = h
 
-exchange_keeps : (a : List Record) (way : Way) (line : List ℕ) (f : Files) → IsPrefix a f.written → KeepsAll a (exchanged way line f)
+exchange_keeps : (a : List Record) (way : Way) (line : List ℕ) (f : Files) → IsPrefix a f.written → KeepsAll a (within f (exchanged way line f))
 exchange_keeps a Writing line f h = prefix_more line h
 exchange_keeps a Reading line f h = fetch_keeps a f.unread f h
 
@@ -49,22 +49,22 @@ seek_keeps : (a : List Record) (way : Way) (cycle : List Step) (k : Kind) (rest 
 seek_keeps a way cycle k [] past p line f h = p line f h
 seek_keeps a way cycle k (Takes j w ∷ rest) past p line f h = by_type (suits k j)
   where
-    by_type : (b : Bool) → KeepsAll a (if b then Ok (stands way rest cycle line (Due j w), f) else Err FormatMismatch)
+    by_type : (b : Bool) → KeepsAll a (if b then Ok (stands way rest cycle line (Due j w), f) else mismatch line f)
     by_type true = h
-    by_type false = tt
-seek_keeps a way cycle k (Blanks n ∷ rest) past p line f h = bind_line a (blanked way n line) (λ line1. seek way cycle k rest past line1 f) (λ line1. seek_keeps a way cycle k rest past p line1 f h)
-seek_keeps a way cycle k (Chars text ∷ rest) past p line f h = bind_line a (lettered way text line) (λ line1. seek way cycle k rest past line1 f) (λ line1. seek_keeps a way cycle k rest past p line1 f h)
+    by_type false = h
+seek_keeps a way cycle k (Blanks n ∷ rest) past p line f h = bind_line a f (blanked way n line) (λ line1. seek way cycle k rest past line1 f) h (λ line1. seek_keeps a way cycle k rest past p line1 f h)
+seek_keeps a way cycle k (Chars text ∷ rest) past p line f h = bind_line a f (lettered way text line) (λ line1. seek way cycle k rest past line1 f) h (λ line1. seek_keeps a way cycle k rest past p line1 f h)
 seek_keeps a way cycle k (Slash ∷ rest) past p line f h =
-    bind_both a (exchanged way line f) (λ x. seek way cycle k rest past x.0 x.1) (exchange_keeps a way line f h) (λ line1 f1 h1. seek_keeps a way cycle k rest past p line1 f1 h1)
+    bind_both a (within f (exchanged way line f)) (λ x. seek way cycle k rest past x.0 x.1) (exchange_keeps a way line f h) (λ line1 f1 h1. seek_keeps a way cycle k rest past p line1 f1 h1)
 
 cycle_keeps : (a : List Record) (way : Way) (cycle : List Step) (k : Kind) → OnwardKeeps a (cycled way cycle k)
 cycle_keeps a way cycle k line f h = by_items (has_item cycle)
   where
-    by_items : (b : Bool) → KeepsAll a (if b then (exchanged way line f >>= λ x. seek way cycle k cycle (λ line1 f1. Err FormatMismatch) x.0 x.1) else Err FormatMismatch)
+    by_items : (b : Bool) → KeepsAll a (if b then (within f (exchanged way line f) >>= λ x. seek way cycle k cycle mismatch x.0 x.1) else mismatch line f)
     by_items true =
-        bind_both a (exchanged way line f) (λ x. seek way cycle k cycle (λ line1 f1. Err FormatMismatch) x.0 x.1) (exchange_keeps a way line f h)
-        (λ line1 f1 h1. seek_keeps a way cycle k cycle (λ line2 f2. Err FormatMismatch) (λ line2 f2 h2. tt) line1 f1 h1)
-    by_items false = tt
+        bind_both a (within f (exchanged way line f)) (λ x. seek way cycle k cycle mismatch x.0 x.1) (exchange_keeps a way line f h)
+        (λ line1 f1 h1. seek_keeps a way cycle k cycle mismatch (λ line2 f2 h2. h2) line1 f1 h1)
+    by_items false = h
 
 item_keeps : (hand : Hand) (k : Kind) (f : Files) → KeepsAll f.written (to_item hand k f)
 item_keeps hand k f =
@@ -77,32 +77,32 @@ shut_keeps a Reading cycle line f h = h
 seek_end_keeps : (a : List Record) (way : Way) (cycle rest : List Step) → OnwardKeeps a (seek_end way cycle rest)
 seek_end_keeps a way cycle [] line f h = shut_keeps a way cycle line f h
 seek_end_keeps a way cycle (Takes j w ∷ rest) line f h = shut_keeps a way cycle line f h
-seek_end_keeps a way cycle (Blanks n ∷ rest) line f h = bind_line a (blanked way n line) (λ line1. seek_end way cycle rest line1 f) (λ line1. seek_end_keeps a way cycle rest line1 f h)
-seek_end_keeps a way cycle (Chars text ∷ rest) line f h = bind_line a (lettered way text line) (λ line1. seek_end way cycle rest line1 f) (λ line1. seek_end_keeps a way cycle rest line1 f h)
+seek_end_keeps a way cycle (Blanks n ∷ rest) line f h = bind_line a f (blanked way n line) (λ line1. seek_end way cycle rest line1 f) h (λ line1. seek_end_keeps a way cycle rest line1 f h)
+seek_end_keeps a way cycle (Chars text ∷ rest) line f h = bind_line a f (lettered way text line) (λ line1. seek_end way cycle rest line1 f) h (λ line1. seek_end_keeps a way cycle rest line1 f h)
 seek_end_keeps a way cycle (Slash ∷ rest) line f h =
-    bind_both a (exchanged way line f) (λ x. seek_end way cycle rest x.0 x.1) (exchange_keeps a way line f h) (λ line1 f1 h1. seek_end_keeps a way cycle rest line1 f1 h1)
+    bind_both a (within f (exchanged way line f)) (λ x. seek_end way cycle rest x.0 x.1) (exchange_keeps a way line f h) (λ line1 f1 h1. seek_end_keeps a way cycle rest line1 f1 h1)
 
 end_keeps : (hand : Hand) (f : Files) → KeepsAll f.written (to_end hand f)
 end_keeps hand f = seek_end_keeps f.written hand.way hand.cycle hand.rest (line_of hand.way hand.mark hand.line) f (prefix_self f.written)
 
-placed_keeps : (t : Tape) (r : Result (Hand × Files) Trap) → KeepsAll t.written r → IfYields (Keeps t) (placed r)
+placed_keeps : (t : Tape) (r : Result (Hand × Files) Break) → KeepsAll t.written r → AfterMove (Keeps t) (placed t r)
 placed_keeps t (Ok x) h = h
-placed_keeps t (Err e) h = tt
+placed_keeps t (Err e) h = h
 
-opened_keeps : (way : Way) (fs : Fields) (t : Tape) → IfYields (Keeps t) (opened way fs t)
+opened_keeps : (way : Way) (fs : Fields) (t : Tape) → AfterMove (Keeps t) (opened way fs t)
 opened_keeps Reading fs t = taken (fetched t.unread (files_of t)) (fetch_keeps t.written t.unread (files_of t) (prefix_self t.written))
   where
-    taken : (r : Result (List ℕ × Files) Trap) → KeepsAll t.written r → IfYields (Keeps t) (then_try (lifted r) (λ x. Yields (tape_of (took (started Reading fs) x.0) x.1)))
+    taken : (r : Result (List ℕ × Files) Trap) → KeepsAll t.written (within (files_of t) r) → AfterMove (Keeps t) (begun fs t r)
     taken (Ok x) h = h
-    taken (Err e) h = tt
+    taken (Err e) h = h
 opened_keeps Writing fs t = prefix_self t.written
 
-put_keeps : (c : Content) (t : Tape) → IfYields (Keeps t) (put c t)
+put_keeps : (c : Content) (t : Tape) → AfterMove (Keeps t) (put c t)
 put_keeps c t = after (put_by t.hand.mark c t.hand)
   where
-    after : (o : Try Hand) → IfYields (Keeps t) (then_try o (λ h. Yields (tape_of h (files_of t))))
+    after : (o : Try Hand) → AfterMove (Keeps t) (handed t o)
     after (Yields h) = prefix_self t.written
-    after (Traps e) = tt
+    after (Traps e) = prefix_self t.written
     after Fails = tt
 
 take_keeps : (t : Tape) → IfYields (λ x. Keeps t x.1) (take t)

@@ -47,6 +47,16 @@ no_value = refl
 too_long : (written_by (Single 1 (Blanks 133) (whole 1 NoField)) (k ∷ [])).end ≡ Ended (Trapped LongRecord (here 4))
 too_long = refl
 
+-- FORMAT (I1,/,L1) with two integers: the record before the slash is written, and then no edit comes for the second
+mismatch_behind_slash : written_by (whole 1 (Single 1 Slash (Single 1 (Takes edits.Truth 1) NoField))) (k ∷ m ∷ []) ≡ record { records = codes "1" ∷ []; end = Ended (Trapped FormatMismatch (here 4)); work = 4 }
+unfolding digits
+mismatch_behind_slash = refl
+
+-- FORMAT (I1,/,133X,I1): the record before the slash is written, and the one behind it is too long
+long_behind_slash : written_by (whole 1 (Single 1 Slash (Single 1 (Blanks 133) (whole 1 NoField)))) (k ∷ m ∷ []) ≡ record { records = codes "1" ∷ []; end = Ended (Trapped LongRecord (here 4)); work = 4 }
+unfolding digits
+long_behind_slash = refl
+
 -- A1 of the integer 1, which is no character
 no_character : (written_by (Single 1 (Takes edits.Letter 1) NoField) (k ∷ [])).end ≡ Ended (Trapped BadCharacter (here 4))
 no_character = refl

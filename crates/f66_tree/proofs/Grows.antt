@@ -4,7 +4,7 @@ use Rattle.std.specs.Prelude.{⊤}
 use Rattle.ground.specs.declared.place.Place.{Place}
 use Rattle.ground.specs.Content.{Content}
 use Rattle.f66_tree.specs.Forms.{Text, Line}
-use Rattle.f66_tree.specs.World.{Record, State, Tape, World, Out, Gives, Halts, bind, Try, Yields, Traps, Fails, IfYields, settle, holding, taping, take_one, take_from, IsPrefix, choose}
+use Rattle.f66_tree.specs.World.{Record, State, Tape, World, Out, Gives, Halts, bind, Try, Yields, Traps, Fails, IfYields, Move, Moves, Breaks, Misses, AfterMove, settle, moving, holding, taping, take_one, take_from, IsPrefix, choose}
 use Rattle.f66_tree.specs.FirstLaws.{Keeps}
 use Rattle.f66_tree.specs.Units.{Spot, Held, Lent, Linkage, Setting, Frame, is_main, around, moved_to}
 use Rattle.f66_tree.specs.Evaluation.{ticked, stored}
@@ -36,10 +36,10 @@ settle_grows p (Yields a) w = prefix_self w.state.tape.written
 settle_grows p (Traps t) w = prefix_self w.state.tape.written
 settle_grows p Fails w = prefix_self w.state.tape.written
 
-taped_grows : (p : Place) (o : Try Tape) (w : World) → IfYields (Keeps w.state.tape) o → IsPrefix w.state.tape.written (out_of {A = ⊤} (bind (settle p o w) (λ t w1. Gives tt (taping t w1))))
-taped_grows p (Yields t) w h = h
-taped_grows p (Traps t) w h = prefix_self w.state.tape.written
-taped_grows p Fails w h = prefix_self w.state.tape.written
+taped_grows : (p : Place) (m : Move) (w : World) → AfterMove (Keeps w.state.tape) m → IsPrefix w.state.tape.written (out_of (moving p m w))
+taped_grows p (Moves t) w h = h
+taped_grows p (Breaks e t) w h = h
+taped_grows p Misses w h = prefix_self w.state.tape.written
 
 took_grows : (p : Place) (o : Try (Content × Tape)) (w : World) → IfYields (λ (x : Content × Tape). Keeps w.state.tape x.1) o → IsPrefix w.state.tape.written (out_of (bind (settle p o w) (λ x w1. Gives x.0 (taping x.1 w1))))
 took_grows p (Yields x) w h = h

@@ -6,7 +6,7 @@ use Rattle.ground.specs.declared.place.Place.{Place}
 use Rattle.ground.specs.declared.trap.Trap.{Trap}
 use Rattle.ground.specs.Content.{Content}
 use Rattle.f66_tree.specs.Forms.{Text, Line}
-use Rattle.f66_tree.specs.World.{Record, State, Tape, World, taping, Trapped, End, Ended, GoesOn, Lost, Out, Gives, Halts, bind, Try, Yields, Traps, Fails, settle, holding, take_one, IsPrefix, choose, shown}
+use Rattle.f66_tree.specs.World.{Record, State, Tape, World, taping, Trapped, End, Ended, GoesOn, Lost, Out, Gives, Halts, bind, Try, Yields, Traps, Fails, Move, Moves, Breaks, Misses, settle, moving, holding, take_one, IsPrefix, choose, shown}
 use Rattle.f66_tree.specs.Units.{Spot, Held, Lent, Linkage, Setting, Frame, is_main}
 use Rattle.f66_tree.specs.Evaluation.{asked, held, stored, store_at}
 use Rattle.f66_tree.specs.Statements.{Loop, loop_turn, taped, took, item_turns}
@@ -63,10 +63,10 @@ bind_longer_if {A} {B} P e k (Halts GoesOn w1) o2 g1 g2 h post gr l = go o2 h po
     go (Gives a v) p ok = prefix_in p (gr a ok v)
     go (Halts r v) p ok = p
 
-taped_longer : (e k : ℕ) (p : Place) (o : Try Tape) (s : State) (c : ℕ) → LongerBy {A = ⊤} e k (bind (settle p o (at s k c)) (λ t w1. Gives tt (taping t w1))) (bind (settle p o (at s (k + e) c)) (λ t w1. Gives tt (taping t w1)))
-taped_longer e k p (Yields t) s c = (omega arith, refl)
-taped_longer e k p (Traps t) s c = (omega arith, refl)
-taped_longer e k p Fails s c = (omega arith, refl)
+taped_longer : (e k : ℕ) (p : Place) (m : Move) (s : State) (c : ℕ) → LongerBy e k (moving p m (at s k c)) (moving p m (at s (k + e) c))
+taped_longer e k p (Moves t) s c = (omega arith, refl)
+taped_longer e k p (Breaks f t) s c = (omega arith, refl)
+taped_longer e k p Misses s c = (omega arith, refl)
 
 took_longer : (e k : ℕ) (p : Place) (o : Try (Content × Tape)) (s : State) (c : ℕ) → LongerBy {A = Content} e k (bind (settle p o (at s k c)) (λ t w1. Gives t.0 (taping t.1 w1))) (bind (settle p o (at s (k + e) c)) (λ t w1. Gives t.0 (taping t.1 w1)))
 took_longer e k p (Yields t) s c = (omega arith, refl)

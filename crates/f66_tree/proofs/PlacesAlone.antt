@@ -5,7 +5,7 @@ use Rattle.std.specs.Prelude.{⊤, map}
 use Rattle.ground.specs.declared.place.Place.{Place}
 use Rattle.ground.specs.Content.{Content}
 use Rattle.f66_tree.specs.Forms.{Text, Line}
-use Rattle.f66_tree.specs.World.{Record, Tape, World, Done, Stopped, Trapped, Wrong, Finish, Ended, GoesOn, Lost, Out, Gives, Halts, bind, Try, Yields, Traps, Fails, settle, holding, taping, take_one, take_from, choose, shown}
+use Rattle.f66_tree.specs.World.{Record, Tape, World, Done, Stopped, Trapped, Wrong, Finish, Ended, GoesOn, Lost, Out, Gives, Halts, bind, Try, Yields, Traps, Fails, Move, Moves, Breaks, Misses, settle, moving, holding, taping, take_one, take_from, choose, shown}
 use Rattle.f66_tree.specs.Units.{Spot, Held, Lent, Linkage, Setting, is_main}
 use Rattle.f66_tree.specs.Evaluation.{ticked, asked, held, stored}
 use Rattle.f66_tree.specs.Statements.{Loop, loop_turn, item_turns}
@@ -47,10 +47,10 @@ settle_alike p q (Yields a) w = refl
 settle_alike p q (Traps t) w = (q, refl)
 settle_alike p q Fails w = refl
 
-pub taped_alike : (p q : Place) (o : Try Tape) (w : World) → Alike {A = ⊤} (bind (settle p o w) (λ t w1. Gives tt (taping t w1))) (bind (settle q o w) (λ t w1. Gives tt (taping t w1)))
-taped_alike p q (Yields t) w = refl
-taped_alike p q (Traps t) w = (q, refl)
-taped_alike p q Fails w = refl
+pub taped_alike : (p q : Place) (m : Move) (w : World) → Alike (moving p m w) (moving q m w)
+taped_alike p q (Moves t) w = refl
+taped_alike p q (Breaks e t) w = (q, refl)
+taped_alike p q Misses w = refl
 
 pub took_alike : (p q : Place) (o : Try (Content × Tape)) (w : World) → Alike {A = Content} (bind (settle p o w) (λ x w1. Gives x.0 (taping x.1 w1))) (bind (settle q o w) (λ x w1. Gives x.0 (taping x.1 w1)))
 took_alike p q (Yields t) w = refl

@@ -19,9 +19,9 @@ use Rattle.f66_tree.specs.declared.editing.Way.{Way}
 use Rattle.f66_tree.specs.declared.editing.Way.TheVariants.{Reading, Writing}
 use Rattle.f66_tree.specs.Fields.{Fields}
 use Rattle.f66_tree.specs.Forms.{Text, Formula, Number, Fact, Letter, Variable, Applied, Grouped, Positive, Negative, Negated, Joined, Formulas, Nought, Also, Par, Constant, Named, Entry, One, Many, Entries, NoEntry, AndEntry, Act, Assigns, Goes, Selects, Signs, Chooses, Loops, Invokes, Passes, Stops, Returns, Reads, Writes, Formats, Types, Dimensions, Commons, Equivalences, Presets}
-use Rattle.f66_tree.specs.World.{Record, Tape, World, Done, Stopped, Trapped, Finish, Ended, Wrong, Out, Gives, Halts, bind, Try, Yields, Traps, Fails, IfYields, settle, choose}
+use Rattle.f66_tree.specs.World.{Record, Tape, World, Done, Stopped, Trapped, Finish, Ended, Wrong, Out, Gives, Halts, bind, Try, Yields, Traps, Fails, IfYields, Move, AfterMove, settle, choose}
 use Rattle.f66_tree.specs.Records.{due, put, take, closed}
-use Rattle.f66_tree.specs.FirstLaws.{Keeps, longer, Unasked}
+use Rattle.f66_tree.specs.FirstLaws.{Keeps, longer, Unasked, SameTake}
 use Rattle.f66_tree.specs.Units.{is_main, kind_of, format_of, sizes_of, places_of, position, dummies_of, Spot, Held, Lent, Linkage, Setting, Frame}
 use Rattle.f66_tree.specs.Uses.{Names, NamesOfAll, NameOfPar, NamesOfPars, NamesOfEntry, NamesOfEntries, NamesOfAct}
 use Rattle.f66_tree.specs.Evaluation.{Intrinsic, Sort, AnArray, AnIntrinsic, AFunction, known, intrinsics, array_or, is_array, sort_of, base, base_by, load, store_at, variable_in, par_in, pars_in, distance, moved, element, called, referred, place_by, place_of, names_place, actual_of, operate, opposite, denied, same_whole, intrinsic, truth_in, ticked, value_of, values_of, subscripts_of, spots_of, locate, asks}
@@ -88,13 +88,13 @@ pub record Good {I : Type 0} (d : Sides I) (f : Frames) : Type 0 where
   pub actuals : AllFair d.Fair f.actuals
 
 -- a step of editing: the records written stay, and records that are not asked for change nothing
-pub record IsStep (h : Tape → Try Tape) : Type 0 where
-  pub keeps : (t : Tape) → IfYields (Keeps t) (h t)
-  pub unasked : (more : List Record) (t : Tape) → Unasked (longer more) (h t) (h (longer more t))
+pub record IsStep (h : Tape → Move) : Type 0 where
+  pub keeps : (t : Tape) → AfterMove (Keeps t) (h t)
+  pub unasked : (more : List Record) (t : Tape) → Unasked more (h t) (h (longer more t))
 
 pub record IsTake (h : Tape → Try (Content × Tape)) : Type 0 where
   pub keeps : (t : Tape) → IfYields (λ x. Keeps t x.1) (h t)
-  pub unasked : (more : List Record) (t : Tape) → Unasked (λ x. (x.0, longer more x.1)) (h t) (h (longer more t))
+  pub unasked : (more : List Record) (t : Tape) → SameTake more (h t) (h (longer more t))
 
 pub due_steps : (k : Kind) → IsStep (due k)
 due_steps k = record { keeps = records_stay.dues k; unasked = λ more t. records_unasked.dues more k t }
@@ -152,7 +152,7 @@ module _ (I : Type 0) (d : Sides I) (R : (A : Type 0) → (I → World → Out A
     pub binds : {A B : Type 0} {P : A → Type 0} {m1 : I → World → Out A} {m2 : World → Out A} {g1 : A → I → World → Out B} {g2 : A → World → Out B} → R A m1 m2 → Post P m2 → ((a : A) → P a → R B (g1 a) (g2 a)) → R B (λ i w. bind (m1 i w) (λ a w1. g1 a i w1)) (λ w. bind (m2 w) (λ a w1. g2 a w1))
     pub loads : (f : Frames) → Good d f → (k : Kind) (p : Spot) → d.Fair p → R Content (λ i. load (s1 i) (one f) k p) (load s2 (two f) k p)
     pub stores : (f : Frames) → Good d f → (p : Spot) → d.Fair p → (c : Content) → R ⊤ (λ i. store_at (s1 i) (one f) p c) (store_at s2 (two f) p c)
-    pub tapes : (f : Frames) → Good d f → (h : Tape → Try Tape) → IsStep h → R ⊤ (λ i. taped f.here h) (taped f.there h)
+    pub tapes : (f : Frames) → Good d f → (h : Tape → Move) → IsStep h → R ⊤ (λ i. taped f.here h) (taped f.there h)
     pub takes : (f : Frames) → Good d f → (h : Tape → Try (Content × Tape)) → IsTake h → R Content (λ i. took f.here h) (took f.there h)
     pub ticks : {A : Type 0} {m1 : I → World → Out A} {m2 : World → Out A} → R A m1 m2 → R A (λ i w. m1 i (ticked (s1 i) w)) (λ w. m2 (ticked s2 w))
     pub calls : (u : ℕ) (x : Text) (v : ℕ) (ps : List Spot) → d.K u x → d.linked2.find x ≡ Some v → AllFair d.Fair ps → R ⊤ (λ i. d.call1 i v ps) (d.call2 v ps)

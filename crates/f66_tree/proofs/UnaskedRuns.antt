@@ -7,8 +7,8 @@ use Rattle.ground.specs.declared.trap.Trap.{Trap}
 use Rattle.ground.specs.declared.trap.Trap.TheVariants.{EndOfInput}
 use Rattle.ground.specs.Content.{Content}
 use Rattle.f66_tree.specs.Forms.{Text, Line}
-use Rattle.f66_tree.specs.World.{Record, Tape, World, Done, Stopped, Trapped, Wrong, Finish, Ended, GoesOn, Lost, Out, Gives, Halts, bind, Try, Yields, Traps, Fails, settle, holding, taping, take_one, take_from, choose, shown}
-use Rattle.f66_tree.specs.FirstLaws.{longer, Unasked}
+use Rattle.f66_tree.specs.World.{Record, Tape, World, Done, Stopped, Trapped, Wrong, Finish, Ended, GoesOn, Lost, Out, Gives, Halts, bind, Try, Yields, Traps, Fails, Move, Moves, Breaks, Misses, settle, moving, holding, taping, take_one, take_from, choose, shown}
+use Rattle.f66_tree.specs.FirstLaws.{longer, Unasked, SameTake}
 use Rattle.f66_tree.specs.Units.{Spot, Held, Lent, Linkage, Frame, is_main}
 use Rattle.f66_tree.specs.Evaluation.{ticked, asked, held, stored}
 use Rattle.f66_tree.specs.Statements.{Loop, loop_turn, taped, took, item_turns}
@@ -62,22 +62,18 @@ module _ (more : List Record) where
   settle_spares A p (Traps t) w = trap_spares A t p w
   settle_spares A p Fails w = refl
 
-  taped_spares : (p : Place) (o1 o2 : Try Tape) (w : World) → Unasked (longer more) o1 o2 → SparesOut {A = ⊤} (bind (settle p o1 w) (λ t w1. Gives tt (taping t w1))) (bind (settle p o2 (fuller w)) (λ t w1. Gives tt (taping t w1)))
-  taped_spares p (Yields t) o2 w h = ap (λ o. bind (settle p o (fuller w)) (λ v w1. Gives tt (taping v w1))) h
-  taped_spares p (Traps t) o2 w h = by_trap t h
+  taped_spares : (p : Place) (m1 m2 : Move) (w : World) → Unasked more m1 m2 → SparesOut (moving p m1 w) (moving p m2 (fuller w))
+  taped_spares p (Moves t) m2 w h = ap (λ m. moving p m (fuller w)) h
+  taped_spares p (Breaks e t) m2 w h = by_trap e h
     where
-      by_trap : (t : Trap) → Unasked (longer more) (Traps t) o2 → SparesOut {A = ⊤} (Halts (Ended (Trapped t p)) w) (bind (settle p o2 (fuller w)) (λ v w1. Gives tt (taping v w1)))
+      by_trap : (e : Trap) → Unasked more (Breaks e t) m2 → SparesOut (Halts (Ended (Trapped e p)) (taping t w)) (moving p m2 (fuller w))
       by_trap EndOfInput q = tt
-      by_trap _ q = ap (λ o. bind (settle p o (fuller w)) (λ v w1. Gives tt (taping v w1))) q
-  taped_spares p Fails o2 w h = ap (λ o. bind (settle p o (fuller w)) (λ v w1. Gives tt (taping v w1))) h
+      by_trap _ q = ap (λ m. moving p m (fuller w)) q
+  taped_spares p Misses m2 w h = ap (λ m. moving p m (fuller w)) h
 
-  took_spares : (p : Place) (o1 o2 : Try (Content × Tape)) (w : World) → Unasked (λ (x : Content × Tape). (x.0, longer more x.1)) o1 o2 → SparesOut {A = Content} (bind (settle p o1 w) (λ x w1. Gives x.0 (taping x.1 w1))) (bind (settle p o2 (fuller w)) (λ x w1. Gives x.0 (taping x.1 w1)))
-  took_spares p (Yields t) o2 w h = ap (λ o. bind (settle p o (fuller w)) (λ (x : Content × Tape) w1. Gives x.0 (taping x.1 w1))) h
-  took_spares p (Traps t) o2 w h = by_trap t h
-    where
-      by_trap : (t : Trap) → Unasked (λ (x : Content × Tape). (x.0, longer more x.1)) (Traps t) o2 → SparesOut {A = Content} (Halts (Ended (Trapped t p)) w) (bind (settle p o2 (fuller w)) (λ x w1. Gives x.0 (taping x.1 w1)))
-      by_trap EndOfInput q = tt
-      by_trap _ q = ap (λ o. bind (settle p o (fuller w)) (λ (x : Content × Tape) w1. Gives x.0 (taping x.1 w1))) q
+  took_spares : (p : Place) (o1 o2 : Try (Content × Tape)) (w : World) → SameTake more o1 o2 → SparesOut {A = Content} (bind (settle p o1 w) (λ x w1. Gives x.0 (taping x.1 w1))) (bind (settle p o2 (fuller w)) (λ x w1. Gives x.0 (taping x.1 w1)))
+  took_spares p (Yields x) o2 w h = ap (λ o. bind (settle p o (fuller w)) (λ (x : Content × Tape) w1. Gives x.0 (taping x.1 w1))) h
+  took_spares p (Traps t) o2 w h = subst (λ o. SparesOut {A = Content} (Halts (Ended (Trapped t p)) w) (bind (settle p o (fuller w)) (λ x w1. Gives x.0 (taping x.1 w1)))) (sym h) (trap_spares Content t p w)
   took_spares p Fails o2 w h = ap (λ o. bind (settle p o (fuller w)) (λ (x : Content × Tape) w1. Gives x.0 (taping x.1 w1))) h
 
   store_spares : (l : Linkage) (p : Place) (s : Spot) (c : Content) (w : World) → SparesOut {A = ⊤} (bind (settle p (stored l s c w.state.store) w) (λ st w1. Gives tt (holding st w1))) (bind (settle p (stored l s c w.state.store) (fuller w)) (λ st w1. Gives tt (holding st w1)))

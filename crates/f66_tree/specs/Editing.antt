@@ -26,23 +26,35 @@ abbrev pub exchanged : Way → List ℕ → Files → Result (List ℕ × Files)
 exchanged Writing line f = Ok ([], record f { written = f.written ++ line ∷ [] })
 exchanged Reading line f = fetched f.unread f
 
+-- a trap, with the records as they are by then: those that were completed before it stay
+abbrev pub Break : Type 0
+Break = Trap × Files
+
+abbrev pub within : {A : Type 0} → Files → Result A Trap → Result A Break
+within f (Ok a) = Ok a
+within f (Err e) = Err (e, f)
+
 abbrev pub Onward : Type 0
-Onward = List ℕ → Files → Result (Hand × Files) Trap
+Onward = List ℕ → Files → Result (Hand × Files) Break
+
+-- no edit for the item comes
+abbrev pub mismatch : Onward
+mismatch line f = Err (FormatMismatch, f)
 
 -- to the next edit that takes an item; at the end of the edits it goes as past says
 abbrev pub seek : Way → List Step → Kind → List Step → Onward → Onward
 seek way cycle k [] past line f = past line f
-seek way cycle k (Takes j w ∷ rest) past line f = if suits k j then Ok (stands way rest cycle line (Due j w), f) else Err FormatMismatch
-seek way cycle k (Blanks n ∷ rest) past line f = blanked way n line >>= λ line1. seek way cycle k rest past line1 f
-seek way cycle k (Chars text ∷ rest) past line f = lettered way text line >>= λ line1. seek way cycle k rest past line1 f
-seek way cycle k (Slash ∷ rest) past line f = exchanged way line f >>= λ x. seek way cycle k rest past x.0 x.1
+seek way cycle k (Takes j w ∷ rest) past line f = if suits k j then Ok (stands way rest cycle line (Due j w), f) else mismatch line f
+seek way cycle k (Blanks n ∷ rest) past line f = within f (blanked way n line) >>= λ line1. seek way cycle k rest past line1 f
+seek way cycle k (Chars text ∷ rest) past line f = within f (lettered way text line) >>= λ line1. seek way cycle k rest past line1 f
+seek way cycle k (Slash ∷ rest) past line f = within f (exchanged way line f) >>= λ x. seek way cycle k rest past x.0 x.1
 
 -- control goes back, if an edit there takes an item
 abbrev pub cycled : Way → List Step → Kind → Onward
-cycled way cycle k line f = if has_item cycle then (exchanged way line f >>= λ x. seek way cycle k cycle (λ line1 f1. Err FormatMismatch) x.0 x.1) else Err FormatMismatch
+cycled way cycle k line f = if has_item cycle then (within f (exchanged way line f) >>= λ x. seek way cycle k cycle mismatch x.0 x.1) else mismatch line f
 
 -- all turns up to the one that is ready for an item
-abbrev pub to_item : Hand → Kind → Files → Result (Hand × Files) Trap
+abbrev pub to_item : Hand → Kind → Files → Result (Hand × Files) Break
 to_item h k f = seek h.way h.cycle k h.rest (cycled h.way h.cycle k) (line_of h.way h.mark h.line) f
 
 abbrev pub arrived : Hand → Result (List ℕ × Files) Trap → Result (Hand × Files) Trap
@@ -54,12 +66,12 @@ abbrev pub changed_by : Way → Hand → Files → Result (Hand × Files) Trap
 changed_by Writing h f = Ok (h, record f { written = f.written ++ h.line ∷ [] })
 changed_by Reading h f = arrived h (fetched f.unread f)
 
-abbrev pub changed : Hand → Files → Result (Hand × Files) Trap
-changed h f = changed_by h.way h f
+abbrev pub changed : Hand → Files → Result (Hand × Files) Break
+changed h f = within f (changed_by h.way h f)
 
 -- one turn, and then all others up to the item
-abbrev pub followed : Kind → Files → Result (Turn × Hand) Trap → Result (Hand × Files) Trap
-followed k f (Err e) = Err e
+abbrev pub followed : Kind → Files → Result (Turn × Hand) Trap → Result (Hand × Files) Break
+followed k f (Err e) = Err (e, f)
 followed k f (Ok (Ready j, h)) = Ok (h, f)
 followed k f (Ok (RecordDone, h)) = changed h f >>= λ x. to_item x.0 k x.1
 
@@ -70,21 +82,21 @@ shut Reading cycle line f = Ok (stands Reading [] cycle line Over, f)
 abbrev pub seek_end : Way → List Step → List Step → Onward
 seek_end way cycle [] line f = shut way cycle line f
 seek_end way cycle (Takes j w ∷ rest) line f = shut way cycle line f
-seek_end way cycle (Blanks n ∷ rest) line f = blanked way n line >>= λ line1. seek_end way cycle rest line1 f
-seek_end way cycle (Chars text ∷ rest) line f = lettered way text line >>= λ line1. seek_end way cycle rest line1 f
-seek_end way cycle (Slash ∷ rest) line f = exchanged way line f >>= λ x. seek_end way cycle rest x.0 x.1
+seek_end way cycle (Blanks n ∷ rest) line f = within f (blanked way n line) >>= λ line1. seek_end way cycle rest line1 f
+seek_end way cycle (Chars text ∷ rest) line f = within f (lettered way text line) >>= λ line1. seek_end way cycle rest line1 f
+seek_end way cycle (Slash ∷ rest) line f = within f (exchanged way line f) >>= λ x. seek_end way cycle rest x.0 x.1
 
 -- all turns where no item is left
-abbrev pub to_end : Hand → Files → Result (Hand × Files) Trap
+abbrev pub to_end : Hand → Files → Result (Hand × Files) Break
 to_end h f = seek_end h.way h.cycle h.rest (line_of h.way h.mark h.line) f
 
 -- one answer of finish, and then all others: a RecordDone after which the statement is over has put its record out
-abbrev pub ended_by : Way → Mark → Hand → Files → Result (Hand × Files) Trap
+abbrev pub ended_by : Way → Mark → Hand → Files → Result (Hand × Files) Break
 ended_by Writing Over h f = Ok (h, record f { written = f.written ++ h.line ∷ [] })
 ended_by way m h f = changed h f >>= λ x. to_end x.0 x.1
 
-abbrev pub followed_end : Files → Result (Option Turn × Hand) Trap → Result (Hand × Files) Trap
-followed_end f (Err e) = Err e
+abbrev pub followed_end : Files → Result (Option Turn × Hand) Trap → Result (Hand × Files) Break
+followed_end f (Err e) = Err (e, f)
 followed_end f (Ok (None, h)) = Ok (h, f)
 followed_end f (Ok (Some t, h)) = ended_by h.way h.mark h f
 
@@ -124,20 +136,20 @@ abbrev pub acted : Hand → Item → Result Hand Trap
 acted h i = i.act (width_of h.mark) h.line >>= λ l. Ok (record h { line = l; mark = Between })
 
 -- a whole statement, one item after the other
-abbrev pub runs : List Item → Hand → Files → Result Files Trap
+abbrev pub runs : List Item → Hand → Files → Result Files Break
 runs [] h f = to_end h f >>= λ x. Ok x.1
-runs (i ∷ is) h f = to_item h i.kind f >>= λ x. acted x.0 i >>= λ h1. runs is h1 x.1
+runs (i ∷ is) h f = to_item h i.kind f >>= λ x. within x.1 (acted x.0 i) >>= λ h1. runs is h1 x.1
 
 abbrev pub final : Way → List ℕ → Files → Files
 final Writing line f = record f { written = f.written ++ line ∷ [] }
 final Reading line f = f
 
 -- a whole statement, by its list
-abbrev pub played : Way → Listed → List Item → List ℕ → Files → Result Files Trap
+abbrev pub played : Way → Listed → List Item → List ℕ → Files → Result Files Break
 played way Ends is line f = Ok (final way line f)
-played way Lacks is line f = Err FormatMismatch
-played way (Then (Takes j w) l) [] line f = Err FormatMismatch
-played way (Then (Takes j w) l) (i ∷ is) line f = if suits i.kind j then (i.act w line >>= λ l1. played way l is l1 f) else Err FormatMismatch
-played way (Then (Blanks n) l) is line f = blanked way n line >>= λ l1. played way l is l1 f
-played way (Then (Chars text) l) is line f = lettered way text line >>= λ l1. played way l is l1 f
-played way (Then Slash l) is line f = exchanged way line f >>= λ x. played way l is x.0 x.1
+played way Lacks is line f = Err (FormatMismatch, f)
+played way (Then (Takes j w) l) [] line f = Err (FormatMismatch, f)
+played way (Then (Takes j w) l) (i ∷ is) line f = if suits i.kind j then (within f (i.act w line) >>= λ l1. played way l is l1 f) else Err (FormatMismatch, f)
+played way (Then (Blanks n) l) is line f = within f (blanked way n line) >>= λ l1. played way l is l1 f
+played way (Then (Chars text) l) is line f = within f (lettered way text line) >>= λ l1. played way l is l1 f
+played way (Then Slash l) is line f = within f (exchanged way line f) >>= λ x. played way l is x.0 x.1

@@ -9,7 +9,7 @@ use Rattle.f66_tree.specs.declared.editing.Way.{Way}
 use Rattle.f66_tree.specs.declared.editing.Way.TheVariants.{Reading, Writing}
 use Rattle.f66_tree.specs.Fields.{Fields}
 use Rattle.f66_tree.specs.Forms.{Text, Formula, Variable, Applied, Par, Entry, One, Many, Entries, NoEntry, AndEntry, Act, Assigns, Goes, Selects, Signs, Invokes, Passes, Stops, Returns, Reads, Writes}
-use Rattle.f66_tree.specs.World.{Tape, World, Done, Stopped, Ended, GoesOn, Wrong, Out, Gives, Halts, bind, Try, Yields, Traps, Fails, then_try, settle, choose, taping}
+use Rattle.f66_tree.specs.World.{Tape, World, Done, Stopped, Ended, GoesOn, Wrong, Out, Gives, Halts, bind, Try, Yields, Traps, Fails, then_try, Move, Misses, settle, moving, choose, taping}
 use Rattle.f66_tree.specs.Records.{opened, due, put, take, closed}
 use Rattle.f66_tree.specs.Units.{is_main, kind_of, format_of, sizes_of, Spot, Setting, Frame, around}
 use Rattle.f66_tree.specs.Evaluation.{base, load, store_at, variable_in, par_in, pars_in, ticked, moved, value_of, spots_of, locate}
@@ -56,8 +56,8 @@ loop_turn s f x k w =
 -- ---- READ and WRITE ----
 
 -- one step of formatted editing, and one that gives a content too
-abbrev pub taped : Place → (Tape → Try Tape) → World → Out ⊤
-taped p h w = bind (settle p (h w.state.tape) w) (λ t w1. Gives tt (taping t w1))
+abbrev pub taped : Place → (Tape → Move) → World → Out ⊤
+taped p h w = moving p (h w.state.tape) w
 
 abbrev pub took : Place → (Tape → Try (Content × Tape)) → World → Out Content
 took p h w = bind (settle p (h w.state.tape) w) (λ r w1. Gives r.0 (taping r.1 w1))
@@ -123,9 +123,9 @@ abbrev pub on_unit : Way → Content → Try ⊤
 on_unit way (Whole z) = if int_le z (unit_for way) && int_le (unit_for way) z then Yields tt else Traps BadUnit
 on_unit way _ = Fails
 
-abbrev pub opened_by : Way → Option Fields → Tape → Try Tape
+abbrev pub opened_by : Way → Option Fields → Tape → Move
 opened_by way (Some fs) t = opened way fs t
-opened_by way None t = Fails
+opened_by way None t = Misses
 
 -- the unit is tested, a READ takes a record, the items follow, and the last record ends
 abbrev pub record_by : Setting → Frame → Way → Par → ℕ → Entries → World → Out Exit

@@ -16,7 +16,7 @@ use Rattle.f66_tree.specs.Fields.{Step, Takes, Blanks, Chars, Slash, Fields, ste
 use Rattle.f66_tree.specs.Fielded.{whole_text, truth_text, letter_text, field, whole_of, truth_of, letter_of}
 
 infixl 10 ◌>>=◌
-abbrev pub ◌>>=◌ : {A B : Type 0} → Result A Trap → (A → Result B Trap) → Result B Trap
+abbrev pub ◌>>=◌ : {A B E : Type 0} → Result A E → (A → Result B E) → Result B E
 (Ok x) >>= f = f x
 (Err e) >>= f = Err e
 

@@ -99,6 +99,19 @@ abbrev pub lifted : {A : Type 0} → Result A Trap → Try A
 lifted (Ok a) = Yields a
 lifted (Err t) = Traps t
 
+-- what a step with the records comes to: the records after it; a trap, with the records as they are by then; or nothing where it
+-- was not given what it needs
+pub data Move : Type 0 where
+  Moves : Tape → Move
+  Breaks : Trap → Tape → Move
+  Misses : Move
+
+-- what holds of the records after a step, one that ends in a trap too
+abbrev pub AfterMove : (Tape → Type 0) → Move → Type 0
+AfterMove P (Moves t) = P t
+AfterMove P (Breaks e t) = P t
+AfterMove P Misses = ⊤
+
 -- an operation within the statement at this place
 abbrev pub settle : {A : Type 0} → Place → Try A → World → Out A
 settle p (Yields a) w = Gives a w
@@ -126,6 +139,12 @@ holding st w = record { state = record { store = st; tape = w.state.tape }; left
 
 abbrev pub taping : Tape → World → World
 taping t w = record { state = record { store = w.state.store; tape = t }; left = w.left; count = w.count }
+
+-- a step with the records within the statement at this place
+abbrev pub moving : Place → Move → World → Out ⊤
+moving p (Moves t) w = Gives tt (taping t w)
+moving p (Breaks e t) w = Halts (Ended (Trapped e p)) (taping t w)
+moving p Misses w = Halts (Ended Wrong) w
 
 -- what a bounded run shows: the records written, the end, and the work or the count of statements begun
 pub record Shown : Type 0 where

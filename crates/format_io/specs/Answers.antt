@@ -5,7 +5,9 @@ use Rattle.f66_tree.specs.declared.editing.Turn.{Turn}
 use Rattle.ground.specs.declared.value.Kind.{Kind}
 use Rattle.f66_tree.specs.declared.editing.Way.{Way}
 use Rattle.f66_tree.specs.declared.editing.Way.TheVariants.{Reading, Writing}
-use Rattle.f66_tree.specs.declared.editing.Mark.TheVariants.{Between}
+use Rattle.f66_tree.specs.declared.editing.EditKind.{EditKind}
+use Rattle.f66_tree.specs.declared.editing.Mark.{Mark}
+use Rattle.f66_tree.specs.declared.editing.Mark.TheVariants.{Between, Due}
 use Rattle.f66_tree.specs.Fields.{Fields}
 use Rattle.f66_tree.specs.Turns.{Hand, find, close, closed, line_of}
 use Rattle.format_io.specs.Places.{Stand, hand_of}
@@ -19,6 +21,11 @@ Writes (Err e) new said = said ≡ Err e
 abbrev pub line_in : Way → List ℕ → List ℕ → List ℕ
 line_in Writing output input = output
 line_in Reading output input = input
+
+-- the edit that waits
+abbrev pub due_of : Mark → Option EditKind
+due_of (Due k w) = Some k
+due_of _ = None
 
 -- a turn as the definition has it, and the hand after it
 abbrev pub Answers : {A : Type 0} → Fields → Result A Trap → Stand → Result (A × Hand) Trap → Type 0

@@ -4,7 +4,7 @@ ghost use Rattle.f66_tree.specs.Fields.{Fields};
 ghost use Rattle.f66_tree.specs.declared.editing.Way.TheVariants.{Reading, Writing};
 ghost use Rattle.f66_tree.specs.Turns.{started, took, next_turn, last_turn, is_over, suits, width_of, put_whole, put_truth, put_letter, take_whole, take_truth, take_letter};
 ghost use Rattle.format_io.specs.Places.{Stand, hand_of, format, IsPlan};
-ghost use Rattle.format_io.specs.Answers.{line_in, Answers, opened, StepsTo, EndsTo, ClosesTo, Puts};
+ghost use Rattle.format_io.specs.Answers.{line_in, Answers, opened, due_of, StepsTo, EndsTo, ClosesTo, Puts};
 
 use crate::between::{pass_blanks, pass_text};
 use crate::code::{Laid, Piece};
@@ -234,6 +234,23 @@ impl Edit {
     {
         self.input.replace(bytes);
         self.mark = Mark::Between;
+    }
+
+    /// Whether the statement reads or writes.
+    pub fn way(&self) -> Way
+        ensures { result ≡ self.now.way }
+    {
+        self.way
+    }
+
+    /// The edit that waits for its item, if one does.
+    pub fn due(&self) -> Option<EditKind>
+        ensures { result ≡ due_of self.now.mark }
+    {
+        match self.mark {
+            Mark::Due(wanted, _) => Some(wanted),
+            _ => None,
+        }
     }
 
     /// The width of the field of the edit that waits.
