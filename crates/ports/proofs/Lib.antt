@@ -1,3 +1,4 @@
 pub mod Pieces
 pub mod CounterLines
 pub mod PutsInARow
+pub mod RecordLemmas

@@ -8,6 +8,7 @@ mod mem_sink;
 mod mem_source;
 mod outside;
 mod streams;
+mod whole;
 
 pub use counter::Counter;
 pub use mem_library::MemLibrary;
@@ -15,3 +16,4 @@ pub use mem_sink::MemSink;
 pub use mem_source::MemSource;
 pub use outside::{Failed, FetchFault, Library, Sink, Source};
 pub use streams::{FileLibrary, StreamSink, StreamSource};
+pub use whole::Whole;
