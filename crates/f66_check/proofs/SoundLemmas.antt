@@ -7,7 +7,7 @@ use Rattle.std.proofs.lemmas.Bool.{or_parts}
 use Rattle.ground.specs.declared.fault.FaultKind.{FaultKind}
 use Rattle.ground.specs.declared.fault.FaultKind.TheVariants.{BadLabel}
 use Rattle.rule_table.specs.Words.{is_some_and}
-use Rattle.f66_tree.specs.Forms.{Header, MainUnit, SubUnit, FuncUnit, DataUnit, Act, Chooses, Writes, Formats, Line, Routine}
+use Rattle.f66_tree.specs.Forms.{Header, MainUnit, SubUnit, FuncUnit, DataUnit, Act, Chooses, Reads, Writes, Formats, Line, Routine}
 use Rattle.f66_tree.specs.Units.{Note, Context, is_main, is_note, notes_of, format_of}
 use Rattle.f66_tree.specs.Execution.{has_label}
 use Rattle.f66_names.specs.Rules.{breaks_name}
@@ -96,6 +96,7 @@ format_there l [] h = absurd (true≢false h)
 format_there l (s ∷ rest) h = format_step l s rest (has_label l s.label) refl (format_there l rest) h
 
 formats_there : (lines : List Line) (a : Act) → list_any (names_no_format lines) (formats_named a) ≡ false → finds_format (notes_of lines) a ≡ true
+formats_there lines (Reads u l es) h = format_there l lines (or_parts (names_no_format lines l) _ h).0
 formats_there lines (Writes u l es) h = format_there l lines (or_parts (names_no_format lines l) _ h).0
 formats_there lines (Chooses e a) h = formats_there lines a h
 formats_there lines _ h = refl

@@ -68,6 +68,12 @@ fn declared(alloc: Global, word: TypeWord, size: Option<u16>) -> Result<StmtKind
     Ok(StmtKind::Typed(word, list))
 }
 
+fn read(alloc: Global, label: u32) -> Result<StmtKind, AllocError> {
+    let mut list = Vec::new(alloc);
+    list.push(Entry::Item(Expr::Ref(name(alloc, "I")?)))?;
+    Ok(StmtKind::Read(Par::Number(5), label, list))
+}
+
 fn write(alloc: Global, label: u32) -> Result<StmtKind, AllocError> {
     let mut list = Vec::new(alloc);
     list.push(Entry::Item(Expr::Ref(name(alloc, "I")?)))?;
@@ -99,6 +105,7 @@ fn kind_of(alloc: Global, said: Said) -> Result<StmtKind, AllocError> {
         "ELEMENT" => Ok(StmtKind::Assign(element(alloc, first)?, Expr::Int(1))),
         "INTEGER" => declared(alloc, TypeWord::Integer, None),
         "OTHER" => declared(alloc, TypeWord::Other, None),
+        "READ" => read(alloc, label),
         "WRITE" => write(alloc, label),
         "FORMAT" => format(alloc, first, second),
         "DO" => loop_to(alloc, label),
@@ -172,7 +179,7 @@ fn small_units(rt: HostRuntime) -> Result<(), Fail> {
         BadConstant, BadFormat, BadLabel, DoNesting, DuplicateName, Limit, NameTooLong,
         NotAssignable, OutOfProfileType, Syntax, TypeClash, Unbuilt, WrongCount,
     };
-    let rows: [(&str, Option<Found>); 33] = [
+    let rows: [(&str, Option<Found>); 35] = [
         ("STOP", None),
         ("SET;WRITE 9;9 FORMAT 1 5;STOP", None),
         ("ARRAY 5;ELEMENT 1;DO 10;10 PASS;STOP", None),
@@ -195,7 +202,9 @@ fn small_units(rt: HostRuntime) -> Result<(), Fail> {
         ("ARRAY 5;WHOLE;STOP", Some((2, NotAssignable, 0))),
         ("ARRAY 40000;STOP", Some((1, Limit, 7))),
         ("RETURN", Some((1, Unbuilt, 0))),
-        ("STOP;9 FORMAT 2 5", Some((2, Unbuilt, 0))),
+        ("STOP;9 FORMAT 1000 5", Some((2, BadFormat, 0))),
+        ("SET;READ 9;9 FORMAT 2 5;STOP", None),
+        ("READ 9;STOP", Some((1, BadLabel, 0))),
         ("MINUS;SET;RETURN;RETURN", Some((3, Unbuilt, 0))),
         ("TRUTH;LONG;STOP", Some((1, TypeClash, 0))),
         ("SET;SET;INTEGER;STOP", Some((3, Syntax, 0))),

@@ -13,9 +13,12 @@
 //! | `K 1 set` `10 go` `10 20 K select` | K = 1; GO TO 10; GO TO (10,20),K |
 //! | `K 10 20 30 sign` `10 K 1 9 2 do` | IF (K) 10,20,30; DO 10 K = 1,9,2 |
 //! | `continue` `stop` `17 stops` | CONTINUE; STOP; STOP with the number 17 |
-//! | `6 9 K write` `1 5 format` | WRITE (6,9) K; FORMAT (1I5) |
+//! | `5 9 K read` `6 9 K write` | READ (5,9) K; WRITE (6,9) K |
+//! | `6 9 K [ M I (1) item I 1 9 2 ] write` | WRITE (6,9) K,(M(I),I=1,9,2) |
+//! | `1 5 format` | FORMAT (1I5) |
+//! | `1 5 i 1 5 l 3 a 2 x 4 h bell slash ( 5 x 2 ) format` | FORMAT (1I5,1L5,3A1,2X,4H****,1H.,/,2(5X)), where . is no character of a card |
 //! | `K M 5 (1) integer` | INTEGER K,M(5), and so with `logical`, `real` and `dimension` |
-//! | `call` `return` `read` `many` `common` `equivalence` `data` `empty` `truth` | forms that are not built |
+//! | `call` `return` `common` `equivalence` `data` | forms that are not built |
 
 use f66_tree::{
     Area, Declared, Entry, Expr, Field, Name, Operator, Par, PresetPart, Stmt, StmtKind, TypeWord,
@@ -30,6 +33,12 @@ struct Reading {
     alloc: Global,
     stack: Vec<Expr>,
     conditions: Vec<Expr>,
+    /// The entries of the list in hand, and of the lists that it stands in.
+    entries: List<Entry>,
+    outer_entries: Vec<List<Entry>>,
+    /// The same of the fields of a format.
+    fields: List<Field>,
+    outer_fields: Vec<List<Field>>,
     label: Option<u32>,
     kind: StmtKind,
 }
@@ -57,6 +66,10 @@ pub fn statement(alloc: Global, text: &str, line: u32) -> Result<Stmt, AllocErro
         alloc,
         stack: Vec::new(alloc),
         conditions: Vec::new(alloc),
+        entries: Vec::new(alloc),
+        outer_entries: Vec::new(alloc),
+        fields: Vec::new(alloc),
+        outer_fields: Vec::new(alloc),
         label: None,
         kind: StmtKind::Continue,
     };
@@ -174,8 +187,9 @@ impl Reading {
         Ok(list)
     }
 
+    /// The unit and the label stand first on the stack, and items behind them; implied DO lists come last.
     fn entries(&mut self) -> Result<List<Entry>, AllocError> {
-        let mut list = Vec::new(self.alloc);
+        let mut list = mem::replace(&mut self.entries, Vec::new(self.alloc));
         for _ in 2..self.stack.len() {
             let e = self.value();
             list.insert(0, Entry::Item(e))?;
@@ -245,8 +259,86 @@ impl Reading {
                 self.conditions.push(condition)?;
                 Ok(())
             }
-            _ => self.take_word(word),
+            _ => self.take_entry(word),
         }
+    }
+
+    /// What stands in an implied DO.
+    fn take_entry(&mut self, word: &str) -> Result<(), AllocError> {
+        match word {
+            "[" => {
+                let outer = mem::replace(&mut self.entries, Vec::new(self.alloc));
+                self.outer_entries.push(outer)?;
+                Ok(())
+            }
+            "item" => {
+                let e = self.value();
+                self.entries.push(Entry::Item(e))?;
+                Ok(())
+            }
+            "]" => {
+                let counted = self.counted()?;
+                self.entries.push(counted)?;
+                Ok(())
+            }
+            _ => self.take_field(word),
+        }
+    }
+
+    fn counted(&mut self) -> Result<Entry, AllocError> {
+        let (step, last, first) = (self.par(), self.par(), self.par());
+        let variable = self.named()?;
+        let outer = match self.outer_entries.pop() {
+            Some(outer) => outer,
+            None => Vec::new(self.alloc),
+        };
+        let list = mem::replace(&mut self.entries, outer);
+        Ok(Entry::Many(list, variable, first, last, step))
+    }
+
+    /// What stands in a format.
+    fn take_field(&mut self, word: &str) -> Result<(), AllocError> {
+        let field = match word {
+            "i" => {
+                let width = self.count();
+                Field::Whole(self.count(), width)
+            }
+            "l" => {
+                let width = self.count();
+                Field::Truth(self.count(), width)
+            }
+            "a" => Field::Letter(self.count()),
+            "x" => Field::Skip(self.count()),
+            "h" => Field::Chars(self.stars()?),
+            "bell" => Field::Chars(Text::new(b"\x07".to_vec(self.alloc)?)),
+            "slash" => Field::Slash,
+            "(" => {
+                let outer = mem::replace(&mut self.fields, Vec::new(self.alloc));
+                self.outer_fields.push(outer)?;
+                return Ok(());
+            }
+            ")" => self.group(),
+            _ => return self.take_word(word),
+        };
+        self.fields.push(field)?;
+        Ok(())
+    }
+
+    fn stars(&mut self) -> Result<Text, AllocError> {
+        let mut text = Vec::new(self.alloc);
+        for _ in 0..self.count() {
+            text.push(b'*')?;
+        }
+        Ok(Text::new(text))
+    }
+
+    fn group(&mut self) -> Field {
+        let count = self.count();
+        let outer = match self.outer_fields.pop() {
+            Some(outer) => outer,
+            None => Vec::new(self.alloc),
+        };
+        Field::Group(count, mem::replace(&mut self.fields, outer))
     }
 
     /// A statement's word, or else a name.
@@ -290,6 +382,11 @@ impl Reading {
             "continue" => StmtKind::Continue,
             "stop" => StmtKind::Stop(None),
             "stops" => StmtKind::Stop(Some(self.count())),
+            "read" => {
+                let list = self.entries()?;
+                let label = self.number();
+                StmtKind::Read(self.par(), label, list)
+            }
             "write" => {
                 let list = self.entries()?;
                 let label = self.number();
@@ -316,20 +413,20 @@ impl Reading {
             "logical" => StmtKind::Typed(TypeWord::Logical, self.declarations()?),
             "real" => StmtKind::Typed(TypeWord::Other, self.declarations()?),
             "dimension" => StmtKind::Dimension(self.declarations()?),
-            "format" => {
-                let width = self.count();
-                let field = Field::Whole(self.count(), width);
-                StmtKind::Format(self.only(field)?)
-            }
+            "format" => StmtKind::Format(self.format()?),
             _ => return Ok(None),
         };
         Ok(Some(kind))
     }
 
-    fn only(&self, field: Field) -> Result<List<Field>, AllocError> {
-        let mut fields = Vec::new(self.alloc);
-        fields.push(field)?;
-        Ok(fields)
+    /// The fields, and one more of what the stack has.
+    fn format(&mut self) -> Result<List<Field>, AllocError> {
+        if !self.stack.is_empty() {
+            let width = self.count();
+            let field = Field::Whole(self.count(), width);
+            self.fields.push(field)?;
+        }
+        Ok(mem::replace(&mut self.fields, Vec::new(self.alloc)))
     }
 
     fn unbuilt(&mut self, word: &str) -> Result<Option<StmtKind>, AllocError> {
@@ -339,34 +436,12 @@ impl Reading {
                 StmtKind::Invoke(name, self.rest())
             }
             "return" => StmtKind::Return,
-            "read" => {
-                let list = self.entries()?;
-                let label = self.number();
-                StmtKind::Read(self.par(), label, list)
-            }
-            "many" => self.many()?,
             "common" => self.common()?,
             "equivalence" => self.equivalence()?,
             "data" => self.preset()?,
-            "empty" => StmtKind::Format(Vec::new(self.alloc)),
-            "truth" => {
-                let width = self.count();
-                StmtKind::Format(self.only(Field::Truth(1, width))?)
-            }
             _ => return Ok(None),
         };
         Ok(Some(kind))
-    }
-
-    /// A WRITE of an implied DO over one item.
-    fn many(&mut self) -> Result<StmtKind, AllocError> {
-        let list = self.entries()?;
-        let variable = name_by(self.alloc, "I")?;
-        let (first, last, step) = (Par::Number(1), Par::Number(9), Par::Number(1));
-        let mut entries = Vec::new(self.alloc);
-        entries.push(Entry::Many(list, variable, first, last, step))?;
-        let label = self.number();
-        Ok(StmtKind::Write(self.par(), label, entries))
     }
 
     /// Blank common.

@@ -588,30 +588,195 @@ fn stores(rt: HostRuntime) -> Result<(), Fail> {
     expect_all(&rt, rt.alloc(), &rows)
 }
 
+// Lists of READ and WRITE: items, whole arrays and implied DOs.
+#[test]
+fn lists(rt: HostRuntime) -> Result<(), Fail> {
+    let rows: [(&str, &str); 12] = [
+        ("5 9 K read;9 : 1 5 format;stop", "sound"),
+        ("5 9 read;9 : 1 5 format;stop", "sound"),
+        ("6 9 write;9 : 1 5 format;stop", "sound"),
+        ("6 9 K J write;9 : 1 5 format;stop", "sound"),
+        ("J 9 K write;9 : 1 5 format;stop", "sound"),
+        ("true ? 5 9 K read;9 : 1 5 format;stop", "sound"),
+        ("L logical;6 9 L write;9 : 1 5 format;stop", "sound"),
+        ("M 5 (1) integer;6 9 M write;9 : 1 5 format;stop", "sound"),
+        (
+            "M 5 (1) integer;5 9 M K (1) M read;9 : 1 5 format;stop",
+            "sound",
+        ),
+        (
+            "M 5 (1) integer;6 9 K [ M I (1) item J item I 1 N 1 ] write;9 : 1 5 format;stop",
+            "sound",
+        ),
+        (
+            "M 5 5 (2) integer;5 9 [ [ M I J (2) item I 1 5 1 ] J 1 5 1 ] read;9 : 1 5 format;stop",
+            "sound",
+        ),
+        (
+            "6 9 [ K item I 1 5 1 ] [ I item K 1 5 1 ] write;9 : 1 5 format;stop",
+            "sound",
+        ),
+    ];
+    expect_all(&rt, rt.alloc(), &rows)
+}
+
+// Faults of lists, and where there is no format.
+#[test]
+fn faults_of_lists(rt: HostRuntime) -> Result<(), Fail> {
+    let rows: [(&str, &str); 34] = [
+        ("6 9 1 write;9 : 1 5 format;stop", "Syntax at 1"),
+        ("6 9 K group write;9 : 1 5 format;stop", "Syntax at 1"),
+        ("5 9 N (0) read;9 : 1 5 format;stop", "Syntax at 1"),
+        ("-1 9 K read;9 : 1 5 format;stop", "Syntax at 1"),
+        ("6 9 [ I 1 5 1 ] write;9 : 1 5 format;stop", "Syntax at 1"),
+        (
+            "6 9 [ 1 item I 1 5 1 ] write;9 : 1 5 format;stop",
+            "Syntax at 1",
+        ),
+        (
+            "6 9 [ K item I 1 5 -1 ] write;9 : 1 5 format;stop",
+            "Syntax at 1",
+        ),
+        ("5 9 KKKKKKK read;9 : 1 5 format;stop", "NameTooLong at 1"),
+        (
+            "6 9 [ K item IIIIIII 1 5 1 ] write;9 : 1 5 format;stop",
+            "NameTooLong at 1",
+        ),
+        ("5 9 X read;9 : 1 5 format;stop", "OutOfProfileType at 1"),
+        (
+            "6 9 [ X item I 1 5 1 ] write;9 : 1 5 format;stop",
+            "OutOfProfileType at 1",
+        ),
+        (
+            "6 9 [ K item X 1 5 1 ] write;9 : 1 5 format;stop",
+            "OutOfProfileType at 1",
+        ),
+        ("L logical;L 9 K read;9 : 1 5 format;stop", "TypeClash at 2"),
+        (
+            "M 5 (1) integer;M 9 K write;9 : 1 5 format;stop",
+            "TypeClash at 2",
+        ),
+        (
+            "L logical;6 9 [ K item L 1 5 1 ] write;9 : 1 5 format;stop",
+            "TypeClash at 2",
+        ),
+        (
+            "L logical;5 9 [ K item I L 5 1 ] read;9 : 1 5 format;stop",
+            "TypeClash at 2",
+        ),
+        (
+            "M 5 (1) integer;6 9 [ K item I 1 M 1 ] write;9 : 1 5 format;stop",
+            "TypeClash at 2",
+        ),
+        (
+            "M 5 (1) integer;5 9 M K K + (1) read;9 : 1 5 format;stop",
+            "TypeClash at 2",
+        ),
+        (
+            "M 5 (1) integer;6 9 [ M true (1) item I 1 5 1 ] write;9 : 1 5 format;stop",
+            "TypeClash at 2",
+        ),
+        ("6 9 N 1 (1) write;9 : 1 5 format;stop", "TypeClash at 1"),
+        (
+            "6 9 MOD 7 2 (2) write;9 : 1 5 format;stop",
+            "TypeClash at 1",
+        ),
+        (
+            "M 5 (1) integer;5 9 M 1 1 (2) read;9 : 1 5 format;stop",
+            "WrongCount at 2",
+        ),
+        (
+            "K MOD 7 2 (2) set;5 9 MOD read;9 : 1 5 format;stop",
+            "DuplicateName at 2",
+        ),
+        (
+            "K MOD 7 2 (2) set;6 9 [ K item MOD 1 5 1 ] write;9 : 1 5 format;stop",
+            "DuplicateName at 2",
+        ),
+        ("5 9 N 1 (1) read;9 : 1 5 format;stop", "NotAssignable at 1"),
+        (
+            "5 9 MOD 7 2 (2) read;9 : 1 5 format;stop",
+            "NotAssignable at 1",
+        ),
+        (
+            "true ? 5 9 N 1 (1) read;9 : 1 5 format;stop",
+            "NotAssignable at 1",
+        ),
+        (
+            "M 5 (1) integer;6 9 [ K item M 1 5 1 ] write;9 : 1 5 format;stop",
+            "NotAssignable at 2",
+        ),
+        (
+            "M 5 (1) integer;5 9 [ [ K item M 1 5 1 ] I 1 5 1 ] read;9 : 1 5 format;stop",
+            "NotAssignable at 2",
+        ),
+        ("5 9 K read;stop", "BadLabel at 1"),
+        ("5 9 K read;9 : stop", "BadLabel at 1"),
+        ("true ? 5 9 K read;stop", "BadLabel at 1"),
+        ("5 9 N 1 (1) read;stop", "BadLabel at 1"),
+        ("6 9 N 1 (1) write;stop", "TypeClash at 1"),
+    ];
+    expect_all(&rt, rt.alloc(), &rows)
+}
+
+// Counts, widths and groups of formats.
+#[test]
+fn formats(rt: HostRuntime) -> Result<(), Fail> {
+    let rows: [(&str, &str); 41] = [
+        ("0 5 i format;stop", "BadFormat at 1"),
+        ("1 5 i format;stop", "sound"),
+        ("999 5 i format;stop", "sound"),
+        ("1000 5 i format;stop", "BadFormat at 1"),
+        ("1 0 i format;stop", "BadFormat at 1"),
+        ("1 1 i format;stop", "sound"),
+        ("1 132 i format;stop", "sound"),
+        ("1 133 i format;stop", "BadFormat at 1"),
+        ("0 5 l format;stop", "BadFormat at 1"),
+        ("1 5 l format;stop", "sound"),
+        ("999 5 l format;stop", "sound"),
+        ("1000 5 l format;stop", "BadFormat at 1"),
+        ("1 0 l format;stop", "BadFormat at 1"),
+        ("1 1 l format;stop", "sound"),
+        ("1 132 l format;stop", "sound"),
+        ("1 133 l format;stop", "BadFormat at 1"),
+        ("0 a format;stop", "BadFormat at 1"),
+        ("( slash 0 ) format;stop", "BadFormat at 1"),
+        ("1 a format;stop", "sound"),
+        ("( slash 1 ) format;stop", "sound"),
+        ("999 a format;stop", "sound"),
+        ("( slash 999 ) format;stop", "sound"),
+        ("1000 a format;stop", "BadFormat at 1"),
+        ("( slash 1000 ) format;stop", "BadFormat at 1"),
+        ("0 x format;stop", "BadFormat at 1"),
+        ("0 h format;stop", "BadFormat at 1"),
+        ("1 x format;stop", "sound"),
+        ("1 h format;stop", "sound"),
+        ("255 x format;stop", "sound"),
+        ("255 h format;stop", "sound"),
+        ("256 x format;stop", "BadFormat at 1"),
+        ("256 h format;stop", "BadFormat at 1"),
+        ("format;stop", "sound"),
+        ("3 5 i 2 1 l 10 a 3 x 5 h slash format;stop", "sound"),
+        ("( ( 3 5 i 2 ) 4 x 3 ) ( slash 1 ) format;stop", "sound"),
+        ("( ( ( 3 5 i 2 ) 2 ) 2 ) format;stop", "BadFormat at 1"),
+        ("( 1 133 i 2 ) 5 x format;stop", "BadFormat at 1"),
+        ("5 x ( ( 0 x 2 ) 2 ) format;stop", "BadFormat at 1"),
+        ("bell format;stop", "Syntax at 1"),
+        ("( 0 x bell 2 ) format;stop", "Syntax at 1"),
+        ("0 : 0 x format;stop", "BadLabel at 1"),
+    ];
+    expect_all(&rt, rt.alloc(), &rows)
+}
+
 // Forms that are not built go before all faults of their unit.
 #[test]
 fn unbuilt_statements(rt: HostRuntime) -> Result<(), Fail> {
-    let rows: [(&str, &str); 24] = [
+    let rows: [(&str, &str); 12] = [
         ("K S call;stop", "Unbuilt at 1"),
         ("return", "Unbuilt at 1"),
-        ("5 9 K read;9 : 1 5 format;stop", "Unbuilt at 1"),
         ("K common;stop", "Unbuilt at 1"),
         ("K J equivalence;stop", "Unbuilt at 1"),
         ("K 1 data;stop", "Unbuilt at 1"),
-        ("empty;stop", "Unbuilt at 1"),
-        ("5 truth;stop", "Unbuilt at 1"),
-        ("stop;9 : 2 5 format", "Unbuilt at 2"),
-        ("0 5 format;stop", "Unbuilt at 1"),
-        ("6 9 write;9 : 1 5 format;stop", "Unbuilt at 1"),
-        ("6 9 K J write;9 : 1 5 format;stop", "Unbuilt at 1"),
-        ("6 9 K many;9 : 1 5 format;stop", "Unbuilt at 1"),
-        ("6 9 1 write;9 : 1 5 format;stop", "Unbuilt at 1"),
-        (
-            "M 5 (1) integer;6 9 M write;9 : 1 5 format;stop",
-            "Unbuilt at 2",
-        ),
-        ("5 9 K write;9 : 1 5 format;stop", "Unbuilt at 1"),
-        ("J 9 K write;9 : 1 5 format;stop", "Unbuilt at 1"),
         ("K N 1 (1) set;stop", "Unbuilt at 1"),
         ("K MOD N 1 (1) 2 (2) set;stop", "Unbuilt at 1"),
         ("10 : N 1 (1) 10 10 10 sign", "Unbuilt at 1"),

@@ -7,8 +7,8 @@ use Rattle.rule_table.specs.FaultRules.{first_rule}
 use Rattle.f66_tree.specs.declared.declaration.TypeWord.TheVariants.{Integer, Logical, Other}
 use Rattle.f66_tree.specs.declared.expression.Operator.TheVariants.{Add, Sub, Mul, Power, Lt, And}
 use Rattle.f66_tree.specs.declared.editing.EditKind.TheVariants as edits
-use Rattle.f66_tree.specs.Fields.{Takes, NoField, Single}
-use Rattle.f66_tree.specs.Forms.{Text, Formula, Number, Fact, Variable, Applied, Grouped, Negated, Joined, Nought, Also, Constant, Named, Declared, MainUnit, One, NoEntry, AndEntry, Act, Assigns, Selects, Chooses, Loops, Passes, Stops, Writes, Formats, Types, Dimensions, Invokes}
+use Rattle.f66_tree.specs.Fields.{Takes, Blanks, Chars, Slash, Fields, NoField, Single, Group}
+use Rattle.f66_tree.specs.Forms.{Text, Formula, Number, Fact, Variable, Applied, Grouped, Negated, Joined, Nought, Also, Constant, Named, Declared, MainUnit, Entry, One, Many, NoEntry, AndEntry, Act, Assigns, Selects, Chooses, Loops, Passes, Stops, Reads, Writes, Formats, Types, Dimensions, Invokes}
 use Rattle.f66_names.specs.Declaring.{context_by}
 use Rattle.f66_names.specs.BuiltActs as built
 use Rattle.f66_names.specs.Rules.{breaks_name}
@@ -156,6 +156,110 @@ adjustable = refl
 
 wide : fault (Formats (Single 1 (Takes edits.Whole 133) NoField) ∷ []) ≡ Some BadFormat
 wide = refl
+
+-- ---- formats ----
+
+abbrev format : Fields → Option FaultKind
+format fs = fault (Formats fs ∷ [])
+
+abbrev whole : ℕ → ℕ → Fields
+whole n w = Single n (Takes edits.Whole w) NoField
+
+many_fields : format (whole 999 132) ≡ None
+many_fields = refl
+
+more_fields : format (whole 1000 132) ≡ Some BadFormat
+more_fields = refl
+
+no_fields : format (whole 0 5) ≡ Some BadFormat
+no_fields = refl
+
+no_width : format (whole 1 0) ≡ Some BadFormat
+no_width = refl
+
+no_blanks : format (Single 1 (Blanks 0) NoField) ≡ Some BadFormat
+no_blanks = refl
+
+many_blanks : format (Single 1 (Blanks 255) (Single 1 Slash NoField)) ≡ None
+many_blanks = refl
+
+more_blanks : format (Single 1 Slash (Single 1 (Blanks 256) NoField)) ≡ Some BadFormat
+more_blanks = refl
+
+no_characters : format (Single 1 (Chars []) NoField) ≡ Some BadFormat
+no_characters = refl
+
+control_character : format (Group 1 (Single 1 (Chars (10 ∷ [])) NoField) NoField) ≡ Some Syntax
+control_character = refl
+
+two_groups_deep : format (Group 2 (Group 3 (whole 1 5) NoField) (whole 1 5)) ≡ None
+two_groups_deep = refl
+
+three_groups_deep : format (Group 2 (Group 3 (Group 1 (whole 1 5) NoField) NoField) (whole 1 5)) ≡ Some BadFormat
+three_groups_deep = refl
+
+many_groups : format (Group 1000 (whole 1 5) NoField) ≡ Some BadFormat
+many_groups = refl
+
+empty_format : format NoField ≡ None
+empty_format = refl
+
+-- ---- lists ----
+
+abbrev read : Entry → Act
+read e = Reads (Constant (pos 5)) 9 (AndEntry e NoEntry)
+
+abbrev write : Entry → Act
+write e = Writes (Constant (pos 6)) 9 (AndEntry e NoEntry)
+
+-- (e,x=1,n)
+abbrev counted : Formula → Text → Entry
+counted e x = Many (AndEntry (One e) NoEntry) x (Constant (pos 1)) (Named (codes "N")) (Constant (pos 1))
+
+read_array : fault (array ∷ read (One (Variable k)) ∷ []) ≡ None
+read_array = refl
+
+write_array : fault (array ∷ write (One (Variable k)) ∷ []) ≡ None
+write_array = refl
+
+-- ((K(I),I=1,N),J=1,N)
+read_counted : fault (array ∷ read (Many (AndEntry (counted (with_one k (Variable i)) i) NoEntry) (codes "J") (Constant (pos 1)) (Constant (pos 2)) (Constant (pos 1))) ∷ []) ≡ None
+read_counted = refl
+
+no_item_counted : fault (read (Many NoEntry i (Constant (pos 1)) (Constant (pos 2)) (Constant (pos 1))) ∷ []) ≡ Some Syntax
+no_item_counted = refl
+
+constant_as_item : fault (write (One (num 1)) ∷ []) ≡ Some Syntax
+constant_as_item = refl
+
+read_function : fault (read (One (with_one k (num 1))) ∷ []) ≡ Some NotAssignable
+read_function = refl
+
+write_function : fault (write (One (with_one k (num 1))) ∷ []) ≡ Some TypeClash
+write_function = refl
+
+function_is_built : is_built (write (One (with_one k (num 1))) ∷ []) ≡ true
+function_is_built = refl
+
+logical_subscript_of_item : fault (logical ∷ array ∷ read (counted (with_one k (Variable l)) i) ∷ []) ≡ Some TypeClash
+logical_subscript_of_item = refl
+
+array_as_item_counter : fault (array ∷ write (counted (Variable i) k) ∷ []) ≡ Some NotAssignable
+array_as_item_counter = refl
+
+logical_item_counter : fault (logical ∷ read (counted (Variable i) l) ∷ []) ≡ Some TypeClash
+logical_item_counter = refl
+
+logical_unit : fault (logical ∷ Reads (Named l) 9 NoEntry ∷ []) ≡ Some TypeClash
+logical_unit = refl
+
+real_item : fault (write (counted (Variable (codes "X")) i) ∷ []) ≡ Some OutOfProfileType
+real_item = refl
+
+subscripts_of_item : fault (array ∷ read (One (with_two k (num 1) (num 1))) ∷ []) ≡ Some WrongCount
+subscripts_of_item = refl
+
+-- ---- stores, sizes and what is built ----
 
 array_as_target : fault (array ∷ set (Variable k) (num 1) ∷ []) ≡ Some NotAssignable
 array_as_target = refl

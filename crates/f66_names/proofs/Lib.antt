@@ -4,7 +4,8 @@ pub mod TableLemmas
 pub mod ContextLemmas
 pub mod SizeLemmas
 pub mod DeclaredLemmas
-pub mod BuiltLemmas
+pub mod EntryLemmas
+pub mod FormatLemmas
 pub mod ConditionLemmas
 pub mod JumpLemmas
 pub mod ExpressionLemmas

@@ -5,7 +5,9 @@ use Rattle.ground.specs.declared.value.Kind.TheVariants.{Integer, Logical}
 use Rattle.rule_table.specs.Words.{is_some_and}
 use Rattle.f66_tree.specs.declared.expression.Operator.{Operator}
 use Rattle.f66_tree.specs.declared.expression.Operator.TheVariants.{Add, Sub, Mul, And, Or}
-use Rattle.f66_tree.specs.Forms.{Formula, Number, Fact, Letter, Variable, Applied, Grouped, Positive, Negative, Negated, Joined, Formulas, Nought, Also, Par, Constant, Named, Entry, One, Many, Entries, NoEntry, AndEntry, Act, Assigns, Selects, Signs, Chooses, Loops, Writes}
+use Rattle.f66_tree.specs.declared.editing.Way.{Way}
+use Rattle.f66_tree.specs.declared.editing.Way.TheVariants.{Reading, Writing}
+use Rattle.f66_tree.specs.Forms.{Text, Formula, Number, Fact, Letter, Variable, Applied, Grouped, Positive, Negative, Negated, Joined, Formulas, Nought, Also, Par, Constant, Named, Entry, One, Many, Entries, NoEntry, AndEntry, Act, Assigns, Selects, Signs, Chooses, Loops, Reads, Writes}
 use Rattle.f66_tree.specs.Units.{Context, kind_of}
 use Rattle.f66_tree.specs.Built.{is_arithmetic}
 use Rattle.f66_names.specs.declared.name_form.NameForm.{NameForm}
@@ -115,19 +117,26 @@ abbrev pub is_counting : Context → Par → Bool
 is_counting c (Constant z) = true
 is_counting c (Named x) = is_counter c x
 
--- an item is a variable, an array, or an element
-abbrev pub is_listed : Context → Formula → Bool
-is_listed c (Variable x) = true
-is_listed c (Applied x es) = is_array c x && are_subscripts c es
-is_listed c _ = true
+-- An item is a variable, an array, or an element. A name with parentheses that is no array clashes in a WRITE; into one of a
+-- READ nothing can be stored, which is another rule.
+abbrev pub is_listed : Way → Context → Formula → Bool
+is_listed way c (Variable x) = true
+is_listed Writing c (Applied x es) = is_array c x && are_subscripts c es
+is_listed Reading c (Applied x es) = not (is_array c x) || are_subscripts c es
+is_listed way c _ = true
 
-abbrev pub is_entry : Context → Entry → Bool
-is_entry c (One e) = is_listed c e
-is_entry c (Many es x a b d) = true
+-- the variable and the parameters of a DO are integers
+abbrev pub counts : Context → Text → Par → Par → Par → Bool
+counts c x p q r = is_integer (kind_of c x) && (is_counting c p && (is_counting c q && is_counting c r))
 
-abbrev pub are_entries : Context → Entries → Bool
-are_entries c NoEntry = true
-are_entries c (AndEntry e es) = is_entry c e && are_entries c es
+abbrev mutual
+  pub is_entry : Way → Context → Entry → Bool
+  is_entry way c (One e) = is_listed way c e
+  is_entry way c (Many es x p q r) = are_entries way c es && counts c x p q r
+
+  pub are_entries : Way → Context → Entries → Bool
+  are_entries way c NoEntry = true
+  are_entries way c (AndEntry e es) = is_entry way c e && are_entries way c es
 
 -- the statement has an operand, a subscript, an argument or a value of another type than it asks for
 abbrev pub clashes : Context → Act → Bool
@@ -135,6 +144,7 @@ clashes c (Assigns x e) = not (is_some_and (takes_kind c x) (kind_in c e))
 clashes c (Selects ls x) = not (is_counter c x)
 clashes c (Signs e l m k) = not (is_kind Integer (kind_in c e))
 clashes c (Chooses e a) = not (is_kind Logical (kind_in c e)) || clashes c a
-clashes c (Loops l x p q r) = not (is_integer (kind_of c x) && (is_counting c p && (is_counting c q && is_counting c r)))
-clashes c (Writes u l es) = not (is_counting c u && are_entries c es)
+clashes c (Loops l x p q r) = not (counts c x p q r)
+clashes c (Reads u l es) = not (is_counting c u && are_entries Reading c es)
+clashes c (Writes u l es) = not (is_counting c u && are_entries Writing c es)
 clashes c _ = false

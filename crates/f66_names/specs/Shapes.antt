@@ -3,7 +3,8 @@ use Rattle.std.specs.Prelude.{ℕ, Bool, true, false, not, nat_le, ◌&&◌, ◌
 use Rattle.std.specs.List.{list_all}
 use Rattle.f66_tree.specs.declared.expression.Operator.{Operator}
 use Rattle.f66_tree.specs.declared.expression.Operator.TheVariants.{Add, Sub, Mul, Div, Power, And, Or}
-use Rattle.f66_tree.specs.Forms.{Text, Formula, Number, Fact, Letter, Variable, Applied, Grouped, Positive, Negative, Negated, Joined, Formulas, Nought, Also, Par, Constant, Named, Declared, Entry, One, Many, Entries, NoEntry, AndEntry, Act, Assigns, Selects, Signs, Chooses, Loops, Stops, Writes, Types, Dimensions}
+use Rattle.f66_tree.specs.Fields.{Step, Chars, Fields, NoField, Single, Group}
+use Rattle.f66_tree.specs.Forms.{Text, Formula, Number, Fact, Letter, Variable, Applied, Grouped, Positive, Negative, Negated, Joined, Formulas, Nought, Also, Par, Constant, Named, Declared, Entry, One, Many, Entries, NoEntry, AndEntry, Act, Assigns, Selects, Signs, Chooses, Loops, Stops, Reads, Writes, Formats, Types, Dimensions}
 use Rattle.f66_tree.specs.Units.{is_note}
 use Rattle.f66_tree.specs.Built.{is_constant}
 
@@ -96,13 +97,33 @@ abbrev pub is_parameter : Par → Bool
 is_parameter (Constant z) = is_constant z
 is_parameter (Named x) = is_name x
 
-abbrev pub is_item : Entry → Bool
-is_item (One e) = is_place e
-is_item (Many es x a b c) = true
+-- an item, or an implied DO over one item or more
+abbrev mutual
+  pub is_item : Entry → Bool
+  is_item (One e) = is_place e
+  is_item (Many es x a b c) = are_some_items es && (is_name x && (is_parameter a && (is_parameter b && is_parameter c)))
 
-abbrev pub are_items : Entries → Bool
-are_items NoEntry = true
-are_items (AndEntry e es) = is_item e && are_items es
+  pub are_items : Entries → Bool
+  are_items NoEntry = true
+  are_items (AndEntry e es) = is_item e && are_items es
+
+  pub are_some_items : Entries → Bool
+  are_some_items NoEntry = false
+  are_some_items (AndEntry e es) = is_item e && are_items es
+
+-- characters that a card may have
+abbrev pub is_printed : ℕ → Bool
+is_printed c = nat_le 32 c && nat_le c 126
+
+abbrev pub is_printed_step : Step → Bool
+is_printed_step (Chars text) = list_all is_printed text
+is_printed_step _ = true
+
+-- the texts of a format have such characters alone
+abbrev pub are_printed : Fields → Bool
+are_printed NoField = true
+are_printed (Single n s fs) = is_printed_step s && are_printed fs
+are_printed (Group n inside fs) = are_printed inside && are_printed fs
 
 abbrev pub is_declared : Declared → Bool
 is_declared d = is_name d.name && list_all is_parameter d.sizes
@@ -131,7 +152,9 @@ has_shape (Signs e l m k) = stands 0 e
 has_shape (Chooses e a) = stands 0 e && (is_branch a && has_shape a)
 has_shape (Loops l x a b c) = is_name x && (is_parameter a && (is_parameter b && is_parameter c))
 has_shape (Stops n) = is_stop n
+has_shape (Reads u l es) = is_parameter u && are_items es
 has_shape (Writes u l es) = is_parameter u && are_items es
+has_shape (Formats fs) = are_printed fs
 has_shape (Types t ds) = are_declared ds
 has_shape (Dimensions ds) = are_declared ds
 has_shape _ = true

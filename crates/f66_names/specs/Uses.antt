@@ -1,7 +1,7 @@
 -- The names that a statement uses, and how each stands there (X3.9-1966, sections 5.1.3, 6 and 7.1).
 use Rattle.std.specs.Prelude.{ℕ, ◌+◌, List, [], ◌∷◌, ◌++◌}
 use Rattle.std.specs.List.{flat_map}
-use Rattle.f66_tree.specs.Forms.{Text, Formula, Variable, Applied, Grouped, Positive, Negative, Negated, Joined, Formulas, Nought, Also, Par, Constant, Named, Declared, Entry, One, Many, Entries, NoEntry, AndEntry, Act, Assigns, Selects, Signs, Chooses, Loops, Writes, Types, Dimensions}
+use Rattle.f66_tree.specs.Forms.{Text, Formula, Variable, Applied, Grouped, Positive, Negative, Negated, Joined, Formulas, Nought, Also, Par, Constant, Named, Declared, Entry, One, Many, Entries, NoEntry, AndEntry, Act, Assigns, Selects, Signs, Chooses, Loops, Reads, Writes, Types, Dimensions}
 use Rattle.f66_names.specs.declared.name_form.Manner.{Manner}
 use Rattle.f66_names.specs.declared.name_form.Manner.TheVariants.{Alone, With, Stored}
 
@@ -31,7 +31,7 @@ abbrev mutual
   uses_of_all Nought = []
   uses_of_all (Also e es) = uses_of e ++ uses_of_all es
 
--- of a target with parentheses the name itself is stored into
+-- of a place with parentheses, which is stored into or read from, the name itself is no function
 abbrev pub uses_of_target : Formula → List Usage
 uses_of_target (Applied x es) = usage x (Stored (many es)) ∷ uses_of_all es
 uses_of_target e = uses_of e
@@ -40,14 +40,19 @@ abbrev pub uses_of_par : Par → List Usage
 uses_of_par (Constant z) = []
 uses_of_par (Named x) = usage x Alone ∷ []
 
--- an implied DO is not built
-abbrev pub uses_of_entry : Entry → List Usage
-uses_of_entry (One e) = uses_of e
-uses_of_entry (Many es x a b c) = []
+-- the variable and the parameters of a DO
+abbrev pub uses_of_counting : Text → Par → Par → Par → List Usage
+uses_of_counting x a b c = usage x Alone ∷ (uses_of_par a ++ (uses_of_par b ++ uses_of_par c))
 
-abbrev pub uses_of_entries : Entries → List Usage
-uses_of_entries NoEntry = []
-uses_of_entries (AndEntry e es) = uses_of_entry e ++ uses_of_entries es
+-- an item is a place, as a target is
+abbrev mutual
+  pub uses_of_entry : Entry → List Usage
+  uses_of_entry (One e) = uses_of_target e
+  uses_of_entry (Many es x a b c) = uses_of_entries es ++ uses_of_counting x a b c
+
+  pub uses_of_entries : Entries → List Usage
+  uses_of_entries NoEntry = []
+  uses_of_entries (AndEntry e es) = uses_of_entry e ++ uses_of_entries es
 
 -- the names in dimensions
 abbrev pub uses_of_sizes : List Declared → List Usage
@@ -58,7 +63,8 @@ uses_in (Assigns x e) = uses_of_target x ++ uses_of e
 uses_in (Selects ls x) = usage x Alone ∷ []
 uses_in (Signs e l m k) = uses_of e
 uses_in (Chooses e a) = uses_of e ++ uses_in a
-uses_in (Loops l x a b c) = usage x Alone ∷ (uses_of_par a ++ (uses_of_par b ++ uses_of_par c))
+uses_in (Loops l x a b c) = uses_of_counting x a b c
+uses_in (Reads u l es) = uses_of_par u ++ uses_of_entries es
 uses_in (Writes u l es) = uses_of_par u ++ uses_of_entries es
 uses_in (Types t ds) = uses_of_sizes ds
 uses_in (Dimensions ds) = uses_of_sizes ds

@@ -1,18 +1,16 @@
 // The types of expressions, and where statements have others than they ask for.
-ghost use Rattle.std.specs.Prelude.{◌≡◌, ◌&&◌};
+ghost use Rattle.std.specs.Prelude.{◌≡◌};
 ghost use Rattle.rule_table.specs.Words.{is_some_and};
 ghost use Rattle.f66_tree.specs.Views.{formula_of, formulas_of, par_of, entry_of, entries_of, act_of};
-ghost use Rattle.f66_tree.specs.Forms.{Applied};
+ghost use Rattle.f66_tree.specs.Forms.{Applied, Many};
 ghost use Rattle.f66_tree.specs.Built.{is_arithmetic};
-ghost use Rattle.f66_names.specs.Sorts.{is_integer};
-ghost use Rattle.f66_names.specs.Kinds.{is_number, is_index, is_times, is_plus_or_minus, is_multiple, is_shifted, is_subscript, are_subscripts, same_kind, is_kind, is_connective, operand, outcome, when, kind_applied, kind_in, are_integers, takes_kind, is_counting, is_listed, is_entry, are_entries, clashes};
-ghost use Rattle.f66_tree.specs.Units.{kind_of};
+ghost use Rattle.f66_names.specs.Kinds.{is_number, is_index, is_times, is_plus_or_minus, is_multiple, is_shifted, is_subscript, are_subscripts, same_kind, is_kind, is_connective, operand, outcome, when, kind_applied, kind_in, are_integers, takes_kind, is_counting, is_listed, counts, is_entry, are_entries, clashes};
 ghost use Rattle.f66_names.specs.DeclarationViews.{context_in};
 
 use crate::NameForm;
 use crate::declarations::Declarations;
 use crate::sorts::{form_of, is_array, is_counter, is_integer, kind_of};
-use f66_tree::{Entry, Expr, Name, Operator, Par, StmtKind};
+use f66_tree::{Entry, Expr, Name, Operator, Par, StmtKind, Way};
 use ground::Kind;
 
 /// Whether a statement has an operand, a subscript, an argument or a value of another type than it asks for
@@ -28,26 +26,27 @@ pub fn clashes(declarations: &Declarations, kind: &StmtKind) -> bool
             !has_kind(declarations, Kind::Logical, test) || clashes(declarations, inner)
         }
         StmtKind::Loop(_, variable, first, last, step) => {
-            !counts_integers(declarations, variable, first, last, step)
+            !counts(declarations, variable, first, last, step)
+        }
+        StmtKind::Read(unit, _, list) => {
+            !(is_counting(declarations, unit) && are_entries(Way::Reading, declarations, list))
         }
         StmtKind::Write(unit, _, list) => {
-            !(is_counting(declarations, unit) && are_entries(declarations, list))
+            !(is_counting(declarations, unit) && are_entries(Way::Writing, declarations, list))
         }
         _ => false,
     }
 }
 
 /// Whether the variable and the parameters of a DO are integers (section 7.1.2.8).
-pub fn counts_integers(
+pub fn counts(
     declarations: &Declarations,
     variable: &Name,
     first: &Par,
     last: &Par,
     step: &Par,
 ) -> bool
-    ensures { result
-        ≡ (is_integer (kind_of (context_in declarations.now) variable.now)
-        && (is_counting (context_in declarations.now) (par_of first.now) && (is_counting (context_in declarations.now) (par_of last.now) && is_counting (context_in declarations.now) (par_of step.now)))) }
+    ensures { result ≡ counts (context_in declarations.now) variable.now (par_of first.now) (par_of last.now) (par_of step.now) }
 {
     is_integer(kind_of(declarations, variable))
         && (is_counting(declarations, first)
@@ -294,35 +293,61 @@ fn is_counting(declarations: &Declarations, par: &Par) -> bool
     }
 }
 
-fn is_listed(declarations: &Declarations, e: &Expr) -> bool
-    ensures { result ≡ is_listed (context_in declarations.now) (formula_of e.now) }
+fn is_listed(way: Way, declarations: &Declarations, e: &Expr) -> bool
+    ensures { result ≡ is_listed way (context_in declarations.now) (formula_of e.now) }
 {
     match e {
-        Expr::Item(name, list) => is_listed_element(declarations, name, list),
+        Expr::Item(name, list) => is_listed_element(way, declarations, name, list),
         _ => true,
     }
 }
 
-fn is_listed_element(declarations: &Declarations, name: &Name, list: &[Expr]) -> bool
-    ensures { result ≡ is_listed (context_in declarations.now) (Applied name.now (formulas_of list.now)) }
+/// Whether it is an element, or into what is none is read, which is another rule.
+fn is_listed_element(way: Way, declarations: &Declarations, name: &Name, list: &[Expr]) -> bool
+    ensures { result ≡ is_listed way (context_in declarations.now) (Applied name.now (formulas_of list.now)) }
 {
-    is_array(declarations, name) && are_subscripts(declarations, list)
-}
-
-fn is_entry(declarations: &Declarations, entry: &Entry) -> bool
-    ensures { result ≡ is_entry (context_in declarations.now) (entry_of entry.now) }
-{
-    match entry {
-        Entry::Item(e) => is_listed(declarations, e),
-        Entry::Many(_, _, _, _, _) => true,
+    match way {
+        Way::Writing => is_array(declarations, name) && are_subscripts(declarations, list),
+        Way::Reading => !is_array(declarations, name) || are_subscripts(declarations, list),
     }
 }
 
-fn are_entries(declarations: &Declarations, list: &[Entry]) -> bool
-    ensures { result ≡ are_entries (context_in declarations.now) (entries_of list.now) }
+#[cycle(are_entries)]
+fn is_entry(way: Way, declarations: &Declarations, entry: &Entry) -> bool
+    ensures { result ≡ is_entry way (context_in declarations.now) (entry_of entry.now) }
+{
+    match entry {
+        Entry::Item(e) => is_listed(way, declarations, e),
+        Entry::Many(list, variable, first, last, step) => {
+            are_counted(way, declarations, list, variable, first, last, step)
+        }
+    }
+}
+
+/// Whether the list of an implied DO has the types that it is to have, and its variable and parameters are integers.
+#[cycle(are_entries)]
+fn are_counted(
+    way: Way,
+    declarations: &Declarations,
+    list: &[Entry],
+    variable: &Name,
+    first: &Par,
+    last: &Par,
+    step: &Par,
+) -> bool
+    ensures { result
+        ≡ is_entry way (context_in declarations.now) (Many (entries_of list.now) variable.now (par_of first.now) (par_of last.now) (par_of step.now)) }
+{
+    are_entries(way, declarations, list) && counts(declarations, variable, first, last, step)
+}
+
+/// Whether the items of a READ or WRITE have the types that they are to have (section 7.1.3).
+#[cycle(are_entries)]
+fn are_entries(way: Way, declarations: &Declarations, list: &[Entry]) -> bool
+    ensures { result ≡ are_entries way (context_in declarations.now) (entries_of list.now) }
 {
     for entry in list {
-        if !is_entry(declarations, entry) {
+        if !is_entry(way, declarations, entry) {
             return false;
         }
     }

@@ -4,6 +4,7 @@
 mod built;
 mod classes;
 mod declarations;
+mod formats;
 mod kinds;
 mod name_form;
 mod name_rules;

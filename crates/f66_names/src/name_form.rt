@@ -24,7 +24,7 @@ pub enum Class {
     Function,
 }
 
-/// How a name stands: alone, with so many subscripts or arguments, or with them as the target of an assignment.
+/// How a name stands: alone, with so many subscripts or arguments, or with them where a place is asked for.
 #[derive(Clone, Copy, Debug, PartialEq, Eq)]
 pub enum Manner {
     Alone,

@@ -11,7 +11,8 @@ ghost use Rattle.f66_names.specs.Rules.{breaks_name, breaks_expression};
 ghost use Rattle.f66_names.specs.DeclarationViews.{context_in, acts_in};
 
 use crate::Saying;
-use crate::kinds::{clashes, counts_integers, has_kind};
+use crate::formats::has_bad_format;
+use crate::kinds::{clashes, counts, has_kind};
 use crate::name_rules::{
     has_long_name, has_long_use, has_misuse, has_other_type, has_other_use, has_wrong_count,
     has_wrong_use,
@@ -20,7 +21,7 @@ use crate::names::Names;
 use crate::repeats::redeclares;
 use crate::shapes::{has_shape, is_counting, stands};
 use crate::sorts::is_array;
-use crate::store_rules::{has_bad_constant, has_bad_format, has_large_array, stores_wrong};
+use crate::store_rules::{has_bad_constant, has_large_array, stores_wrong};
 use crate::uses::{Use, uses_of_counting, uses_of_expression, uses_of_statement};
 use f66_tree::{Expr, Name, Par, StmtKind};
 use ground::{FaultKind, Kind};
@@ -169,7 +170,7 @@ pub fn counting_rule(
     if has_other_use(&names.declarations, &uses) {
         return Ok(Some(FaultKind::OutOfProfileType));
     }
-    if !counts_integers(&names.declarations, variable, first, last, step) {
+    if !counts(&names.declarations, variable, first, last, step) {
         return Ok(Some(FaultKind::TypeClash));
     }
     if has_wrong_use(&names.declarations, &uses) {

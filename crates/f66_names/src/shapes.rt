@@ -1,11 +1,13 @@
 // Whether trees are those of statements of the grammar.
 ghost use Rattle.std.specs.Prelude.{◌≡◌, ◌&&◌, ◌||◌, map};
 ghost use Rattle.std.specs.List.{list_all};
-ghost use Rattle.f66_tree.specs.Views.{formula_of, formulas_of, par_of, declared_of, entry_of, entries_of, act_of};
+ghost use Rattle.f66_tree.specs.Views.{formula_of, formulas_of, par_of, declared_of, entry_of, entries_of, field_then, fields_of, act_of};
+ghost use Rattle.f66_tree.specs.Fields.{NoField};
+ghost use Rattle.f66_tree.specs.Forms.{Many};
 ghost use Rattle.f66_tree.specs.Built.{is_constant};
-ghost use Rattle.f66_names.specs.Shapes.{is_capital, is_digit, is_name, level, left_level, right_level, stands, stand_all, are_arguments, is_named, is_place, is_parameter, is_item, are_items, is_declared, are_declared, is_branch, is_stop, has_shape};
+ghost use Rattle.f66_names.specs.Shapes.{is_capital, is_digit, is_name, level, left_level, right_level, stands, stand_all, are_arguments, is_named, is_place, is_parameter, is_item, are_items, are_some_items, is_printed, are_printed, is_declared, are_declared, is_branch, is_stop, has_shape};
 
-use f66_tree::{Declared, Entry, Expr, Name, Operator, Par, StmtKind};
+use f66_tree::{Declared, Entry, Expr, Field, Name, Operator, Par, StmtKind};
 
 const GREATEST: i64 = 2_147_483_647;
 
@@ -22,7 +24,9 @@ pub fn has_shape(kind: &StmtKind) -> bool
             is_counting(variable, first, last, step)
         }
         StmtKind::Stop(number) => is_stop(*number),
+        StmtKind::Read(unit, _, list) => is_parameter(unit) && are_items(list),
         StmtKind::Write(unit, _, list) => is_parameter(unit) && are_items(list),
+        StmtKind::Format(fields) => are_printed(fields),
         StmtKind::Typed(_, list) => are_declared(list),
         StmtKind::Dimension(list) => are_declared(list),
         _ => true,
@@ -171,20 +175,76 @@ fn is_parameter(par: &Par) -> bool
     }
 }
 
+#[cycle(are_items)]
 fn is_item(entry: &Entry) -> bool
     ensures { result ≡ is_item (entry_of entry.now) }
 {
     match entry {
         Entry::Item(e) => is_place(e),
-        Entry::Many(_, _, _, _, _) => true,
+        Entry::Many(list, variable, first, last, step) => {
+            are_counted(list, variable, first, last, step)
+        }
     }
 }
 
+/// Whether an implied DO has an item or more, and its variable and parameters have their forms.
+#[cycle(are_items)]
+fn are_counted(list: &[Entry], variable: &Name, first: &Par, last: &Par, step: &Par) -> bool
+    ensures { result ≡ is_item (Many (entries_of list.now) variable.now (par_of first.now) (par_of last.now) (par_of step.now)) }
+{
+    are_some_items(list) && is_counting(variable, first, last, step)
+}
+
+#[cycle(are_items)]
+fn are_some_items(list: &[Entry]) -> bool
+    ensures { result ≡ are_some_items (entries_of list.now) }
+{
+    !list.is_empty() && are_items(list)
+}
+
+#[cycle(are_items)]
 fn are_items(list: &[Entry]) -> bool
     ensures { result ≡ are_items (entries_of list.now) }
 {
     for entry in list {
         if !is_item(entry) {
+            return false;
+        }
+    }
+    true
+}
+
+/// Whether a card may have this character.
+fn is_printed(c: u8) -> bool
+    ensures { result ≡ is_printed c }
+{
+    b' ' <= c && c <= b'~'
+}
+
+fn are_all_printed(text: &[u8]) -> bool
+    ensures { result ≡ list_all is_printed text.now }
+{
+    text.iter().all(|c| is_printed(*c))
+}
+
+#[cycle(are_printed)]
+fn is_printed_field(field: &Field) -> bool
+    ensures { result ≡ are_printed (field_then field.now NoField) }
+{
+    match field {
+        Field::Chars(text) => are_all_printed(text.as_bytes()),
+        Field::Group(_, inside) => are_printed(inside),
+        _ => true,
+    }
+}
+
+/// Whether the texts of a format have characters alone that a card may have.
+#[cycle(are_printed)]
+fn are_printed(fields: &[Field]) -> bool
+    ensures { result ≡ are_printed (fields_of fields.now) }
+{
+    for field in fields {
+        if !is_printed_field(field) {
             return false;
         }
     }

@@ -1,15 +1,15 @@
-// The rules of constants, formats, stores and sizes.
+// The rules of constants, stores and sizes.
 ghost use Rattle.std.specs.Prelude.{◌≡◌, ◌≤◌, ◌*◌, map, min};
 ghost use Rattle.std.specs.List.{list_any};
-ghost use Rattle.f66_tree.specs.Views.{formula_of, par_of, declared_of, fields_of, field_then, act_of};
-ghost use Rattle.f66_tree.specs.Fields.{NoField};
-ghost use Rattle.f66_names.specs.StoreRules.{is_bad_size, has_bad_size, has_bad_constant, one_field, has_bad_format, is_assignable, stores_wrong, is_large, has_large_array, capped_size};
+ghost use Rattle.f66_tree.specs.Views.{formula_of, par_of, declared_of, entry_of, entries_of, act_of};
+ghost use Rattle.f66_tree.specs.Forms.{Par as Bounded, Many};
+ghost use Rattle.f66_names.specs.StoreRules.{is_bad_size, has_bad_size, has_bad_constant, is_assignable, is_readable, stores_item, stores_entry, store_entries, stores_wrong, is_large, has_large_array, capped_size};
 ghost use Rattle.f66_names.specs.DeclarationViews.{context_in};
 
 use crate::declarations::Declarations;
 use crate::sorts::is_array;
 use crate::tables::declared_in;
-use f66_tree::{Declared, Expr, Field, Par, StmtKind};
+use f66_tree::{Declared, Entry, Expr, Name, Par, StmtKind, Way};
 
 /// Whether a dimension is zero, or a name (X3.9-1966, section 7.2.1.1).
 #[tactic(auto, using(rule_table::proofs::WordLemmas::list_any_map))]
@@ -47,38 +47,6 @@ fn are_some_bad(list: &[Declared]) -> bool
     list.iter().any(|d| has_bad_size(d))
 }
 
-/// Whether a format of one integer field has a count of zero, or a width that is zero or above 132 (section 7.2.3).
-pub fn has_bad_format(kind: &StmtKind) -> bool
-    ensures { result ≡ has_bad_format (act_of kind.now) }
-{
-    match kind {
-        StmtKind::Format(fields) => match one_field(fields) {
-            Some((count, width)) => count == 0 || !(1 <= width && width <= 132),
-            None => false,
-        },
-        _ => false,
-    }
-}
-
-/// The count and the width of a format of one integer field.
-pub fn one_field(fields: &[Field]) -> Option<(u16, u16)>
-    ensures { result ≡ one_field (fields_of fields.now) }
-{
-    match fields {
-        [field] => whole_field(field),
-        _ => None,
-    }
-}
-
-fn whole_field(field: &Field) -> Option<(u16, u16)>
-    ensures { result ≡ one_field (field_then field.now NoField) }
-{
-    match field {
-        Field::Whole(count, width) => Some((*count, *width)),
-        _ => None,
-    }
-}
-
 /// Whether a statement stores into a whole array, or into what is no variable and no element (section 7.1.1).
 pub fn stores_wrong(declarations: &Declarations, kind: &StmtKind) -> bool
     ensures { result ≡ stores_wrong (context_in declarations.now) (act_of kind.now) }
@@ -87,6 +55,8 @@ pub fn stores_wrong(declarations: &Declarations, kind: &StmtKind) -> bool
         StmtKind::Assign(target, _) => !is_assignable(declarations, target),
         StmtKind::Loop(_, variable, _, _, _) => is_array(declarations, variable),
         StmtKind::When(_, inner) => stores_wrong(declarations, inner),
+        StmtKind::Read(_, _, list) => !store_entries(Way::Reading, declarations, list),
+        StmtKind::Write(_, _, list) => !store_entries(Way::Writing, declarations, list),
         _ => false,
     }
 }
@@ -99,6 +69,55 @@ fn is_assignable(declarations: &Declarations, target: &Expr) -> bool
         Expr::Item(name, _) => is_array(declarations, name),
         _ => false,
     }
+}
+
+fn is_readable(declarations: &Declarations, e: &Expr) -> bool
+    ensures { result ≡ is_readable (context_in declarations.now) (formula_of e.now) }
+{
+    match e {
+        Expr::Item(name, _) => is_array(declarations, name),
+        _ => true,
+    }
+}
+
+fn stores_item(way: Way, declarations: &Declarations, e: &Expr) -> bool
+    ensures { result ≡ stores_item way (context_in declarations.now) (formula_of e.now) }
+{
+    match way {
+        Way::Reading => is_readable(declarations, e),
+        Way::Writing => true,
+    }
+}
+
+#[cycle(store_entries)]
+fn stores_entry(way: Way, declarations: &Declarations, entry: &Entry) -> bool
+    ensures { result ≡ stores_entry way (context_in declarations.now) (entry_of entry.now) }
+{
+    match entry {
+        Entry::Item(e) => stores_item(way, declarations, e),
+        Entry::Many(list, variable, _, _, _) => { store_counted(way, declarations, list, variable) }
+    }
+}
+
+/// Whether the list of an implied DO takes its stores, and the variable is no array.
+#[cycle(store_entries)]
+fn store_counted(way: Way, declarations: &Declarations, list: &[Entry], variable: &Name) -> bool
+    ensures { (a b c : Bounded) → result ≡ stores_entry way (context_in declarations.now) (Many (entries_of list.now) variable.now a b c) }
+{
+    store_entries(way, declarations, list) && !is_array(declarations, variable)
+}
+
+/// Whether each item of a READ takes a store, and no variable of an implied DO is an array (section 7.1.3).
+#[cycle(store_entries)]
+fn store_entries(way: Way, declarations: &Declarations, list: &[Entry]) -> bool
+    ensures { result ≡ store_entries way (context_in declarations.now) (entries_of list.now) }
+{
+    for entry in list {
+        if !stores_entry(way, declarations, entry) {
+            return false;
+        }
+    }
+    true
 }
 
 /// Whether an array has more than 32,767 places.

@@ -2,7 +2,7 @@
 ghost use Rattle.std.specs.Prelude.{◌≡◌, ◌++◌, ◌∷◌, [], map, OnOk, IfOk};
 ghost use Rattle.std.specs.List.{flat_map};
 ghost use Rattle.f66_tree.specs.Views.{formula_of, formulas_of, par_of, declared_of, entry_of, entries_of, act_of};
-ghost use Rattle.f66_names.specs.Uses.{usage, uses_of, uses_of_all, uses_of_target, uses_of_par, uses_of_entry, uses_of_entries, uses_of_sizes, uses_in};
+ghost use Rattle.f66_names.specs.Uses.{usage, uses_of, uses_of_all, uses_of_target, uses_of_par, uses_of_counting, uses_of_entry, uses_of_entries, uses_of_sizes, uses_in};
 ghost use Rattle.f66_names.specs.UseViews.{use_of};
 ghost use Rattle.f66_names.specs.ActViews.{act_said};
 
@@ -53,8 +53,7 @@ pub fn uses_of_counting<'a>(
     step: &'a Par,
 ) -> Result<Vec<Use<'a>>, AllocError>
     ensures { IfOk result
-        (λ v. map use_of v.items
-        ≡ usage variable.now Manner.Alone ∷ (uses_of_par (par_of first.now) ++ (uses_of_par (par_of last.now) ++ uses_of_par (par_of step.now)))) }
+        (λ v. map use_of v.items ≡ uses_of_counting variable.now (par_of first.now) (par_of last.now) (par_of step.now)) }
 {
     let mut uses = Vec::new(alloc);
     collect_counting(variable, first, last, step, &mut uses)?;
@@ -78,6 +77,10 @@ pub fn collect_in<'a>(kind: &'a StmtKind, uses: &mut Vec<Use<'a>>) -> Result<(),
         }
         StmtKind::Loop(_, variable, first, last, step) => {
             collect_counting(variable, first, last, step, uses)
+        }
+        StmtKind::Read(unit, _, list) => {
+            collect_par(unit, uses)?;
+            collect_entries(list, uses)
         }
         StmtKind::Write(unit, _, list) => {
             collect_par(unit, uses)?;
@@ -113,7 +116,7 @@ fn collect_counting<'a>(
 ) -> Result<(), AllocError>
     ensures { OnOk result
         (map use_of uses.new.items
-        ≡ map use_of uses.old.items ++ (usage variable.now Manner.Alone ∷ (uses_of_par (par_of first.now) ++ (uses_of_par (par_of last.now) ++ uses_of_par (par_of step.now))))) }
+        ≡ map use_of uses.old.items ++ uses_of_counting variable.now (par_of first.now) (par_of last.now) (par_of step.now)) }
 {
     add(variable, Manner::Alone, uses)?;
     collect_par(first, uses)?;
@@ -181,15 +184,20 @@ fn collect_par<'a>(par: &'a Par, uses: &mut Vec<Use<'a>>) -> Result<(), AllocErr
     }
 }
 
+#[cycle(collect_entries)]
 fn collect_entry<'a>(entry: &'a Entry, uses: &mut Vec<Use<'a>>) -> Result<(), AllocError>
     ensures { OnOk result (map use_of uses.new.items ≡ map use_of uses.old.items ++ uses_of_entry (entry_of entry.now)) }
 {
     match entry {
-        Entry::Item(e) => collect(e, uses),
-        Entry::Many(_, _, _, _, _) => Ok(()),
+        Entry::Item(e) => collect_target(e, uses),
+        Entry::Many(list, variable, first, last, step) => {
+            collect_entries(list, uses)?;
+            collect_counting(variable, first, last, step, uses)
+        }
     }
 }
 
+#[cycle(collect_entries)]
 fn collect_entries<'a>(list: &'a [Entry], uses: &mut Vec<Use<'a>>) -> Result<(), AllocError>
     ensures { OnOk result (map use_of uses.new.items ≡ map use_of uses.old.items ++ uses_of_entries (entries_of list.now)) }
 {

@@ -1,4 +1,4 @@
--- A main unit that is sound, and for each thing that is asked of a sound unit and matters here one that lacks it and goes wrong.
+-- Main units that are sound, and for each thing that is asked of a sound unit and matters here one that lacks it and goes wrong.
 use Rattle.std.proofs.Common.{◌≡◌, ℕ, zero, suc, true, false, List, [], ◌∷◌, Option, Some, None, slice_get, codes, refl, subst}
 use Rattle.std.specs.Prelude.{pos, ⊤}
 use Rattle.ground.specs.declared.fault.FaultKind.{FaultKind}
@@ -7,7 +7,7 @@ use Rattle.f66_tree.specs.declared.declaration.TypeWord.TheVariants.{Logical}
 use Rattle.f66_tree.specs.declared.expression.Operator.TheVariants.{Add, Lt}
 use Rattle.f66_tree.specs.declared.editing.EditKind.TheVariants as edits
 use Rattle.f66_tree.specs.Fields.{Takes, NoField, Single}
-use Rattle.f66_tree.specs.Forms.{Text, Formula, Number, Fact, Variable, Applied, Joined, Nought, Also, Constant, Named, One, NoEntry, AndEntry, Act, Assigns, Chooses, Loops, Invokes, Passes, Writes, Formats, Types, Dimensions, Line, bare, marked}
+use Rattle.f66_tree.specs.Forms.{Text, Formula, Number, Fact, Variable, Applied, Joined, Nought, Also, Constant, Named, One, Many, NoEntry, AndEntry, Act, Assigns, Chooses, Loops, Invokes, Passes, Reads, Writes, Formats, Types, Dimensions, Line, bare, marked}
 use Rattle.f66_tree.specs.World.{Wrong, Ended}
 use Rattle.f66_tree.specs.Units.{notes_of}
 use Rattle.f66_tree.specs.Execution.{nowhere}
@@ -47,7 +47,7 @@ array = Dimensions (record { name = k; sizes = Constant (pos 3) ∷ [] } ∷ [])
 abbrev logical : Act
 logical = Types Logical (record { name = l; sizes = [] } ∷ [])
 
--- ---- a sound unit ----
+-- ---- a sound unit with a DO loop ----
 
 --       DIMENSION K(3)
 --    10 FORMAT (I5)
@@ -63,9 +63,6 @@ loop =
     ∷ marked 20 nowhere (Chooses (Joined Lt (of_one k (Variable i)) (num 2)) (Writes (Constant (pos 6)) 10 (AndEntry (One (of_one k (Variable i))) NoEntry)))
     ∷ []
 
-abbrev acts : List Act
-acts = acts_of loop
-
 -- what holds of each statement by its number holds of the one that is looked up
 abbrev Each : (ℕ → Act → Type 0) → List Act → Type 0
 Each P [] = ⊤
@@ -76,45 +73,88 @@ each_at P [] h n a e = no_some _ e
 each_at P (b ∷ rest) h zero a e = subst (P 0) (some_same e) h.0
 each_at P (b ∷ rest) h (suc n) a e = each_at (λ m. P (suc m)) rest h.1 n a e
 
-abbrev Unbroken : ℕ → Act → Type 0
-Unbroken n a = (kind : FaultKind) → breaks_name (main_context loop) acts n a kind ≡ false
+abbrev Unbroken : List Line → ℕ → Act → Type 0
+Unbroken code n a = (kind : FaultKind) → breaks_name (main_context code) (acts_of code) n a kind ≡ false
 
-abbrev act_at : ℕ → Act
-act_at n = or_passes (slice_get acts n)
+abbrev act_at : List Line → ℕ → Act
+act_at code n = or_passes (slice_get (acts_of code) n)
   where
     or_passes : Option Act → Act
     or_passes None = Passes
     or_passes (Some a) = a
 
-first_unbroken : Unbroken 0 (act_at 0)
+first_unbroken : Unbroken loop 0 (act_at loop 0)
 first_unbroken Syntax = refl
 first_unbroken _ = refl
 
-second_unbroken : Unbroken 1 (act_at 1)
+second_unbroken : Unbroken loop 1 (act_at loop 1)
 second_unbroken Syntax = refl
 second_unbroken _ = refl
 
-third_unbroken : Unbroken 2 (act_at 2)
+third_unbroken : Unbroken loop 2 (act_at loop 2)
 third_unbroken Syntax = refl
 third_unbroken _ = refl
 
-fourth_unbroken : Unbroken 3 (act_at 3)
+fourth_unbroken : Unbroken loop 3 (act_at loop 3)
 fourth_unbroken Syntax = refl
 fourth_unbroken _ = refl
 
-fifth_unbroken : Unbroken 4 (act_at 4)
+fifth_unbroken : Unbroken loop 4 (act_at loop 4)
 fifth_unbroken Syntax = refl
 fifth_unbroken _ = refl
 
 loop_sound : IsSoundMain (main_context loop) loop
 loop_sound = record {
-  built = each_at (λ n a. is_built (main_context loop) a ≡ true) acts (refl, (refl, (refl, (refl, (refl, tt)))));
-  clean = each_at Unbroken acts (first_unbroken, (second_unbroken, (third_unbroken, (fourth_unbroken, (fifth_unbroken, tt)))));
-  formats = each_at (λ n a. finds_format (notes_of loop) a ≡ true) acts (refl, (refl, (refl, (refl, (refl, tt)))));
+  built = each_at (λ n a. is_built (main_context loop) a ≡ true) (acts_of loop) (refl, (refl, (refl, (refl, (refl, tt)))));
+  clean = each_at (Unbroken loop) (acts_of loop) (first_unbroken, (second_unbroken, (third_unbroken, (fourth_unbroken, (fifth_unbroken, tt)))));
+  formats = each_at (λ n a. finds_format (notes_of loop) a ≡ true) (acts_of loop) (refl, (refl, (refl, (refl, (refl, tt)))));
 }
 
 loop_rightly : RunsRightly loop
 loop_rightly = never_wrong loop loop_sound
+
+-- ---- a sound unit that reads an array, and writes by an implied DO ----
+
+abbrev format : Line
+format = marked 10 nowhere (Formats (Single 3 (Takes edits.Whole 5) NoField))
+
+--       DIMENSION K(3)
+--    10 FORMAT (3I5)
+--       READ (5, 10) K
+--       WRITE (6, 10) (K(I), I = 1, 3, 1)
+abbrev lists : List Line
+lists =
+    says array
+    ∷ format
+    ∷ says (Reads (Constant (pos 5)) 10 (AndEntry (One (Variable k)) NoEntry))
+    ∷ says (Writes (Constant (pos 6)) 10 (AndEntry (Many (AndEntry (One (of_one k (Variable i))) NoEntry) i (Constant (pos 1)) (Constant (pos 3)) (Constant (pos 1))) NoEntry))
+    ∷ []
+
+array_unbroken : Unbroken lists 0 (act_at lists 0)
+array_unbroken Syntax = refl
+array_unbroken _ = refl
+
+format_unbroken : Unbroken lists 1 (act_at lists 1)
+format_unbroken Syntax = refl
+format_unbroken _ = refl
+
+read_unbroken : Unbroken lists 2 (act_at lists 2)
+read_unbroken Syntax = refl
+read_unbroken _ = refl
+
+write_unbroken : Unbroken lists 3 (act_at lists 3)
+write_unbroken Syntax = refl
+write_unbroken _ = refl
+
+lists_sound : IsSoundMain (main_context lists) lists
+lists_sound = record {
+  built = each_at (λ n a. is_built (main_context lists) a ≡ true) (acts_of lists) (refl, (refl, (refl, (refl, tt))));
+  clean = each_at (Unbroken lists) (acts_of lists) (array_unbroken, (format_unbroken, (read_unbroken, (write_unbroken, tt))));
+  formats = each_at (λ n a. finds_format (notes_of lists) a ≡ true) (acts_of lists) (refl, (refl, (refl, (refl, tt))));
+}
+
+lists_rightly : RunsRightly lists
+lists_rightly = never_wrong lists lists_sound
 
 -- ---- units that are not sound ----
 
@@ -144,3 +184,11 @@ unbuilt = refl
 -- WRITE (6, 10) I, and no FORMAT
 no_format : goes_wrong (says (Assigns (Variable i) (num 1)) ∷ says (Writes (Constant (pos 6)) 10 (AndEntry (One (Variable i)) NoEntry)) ∷ [])
 no_format = refl
+
+-- WRITE (6, 10) 1
+no_place : goes_wrong (format ∷ says (Writes (Constant (pos 6)) 10 (AndEntry (One (num 1)) NoEntry)) ∷ [])
+no_place = refl
+
+-- READ (5, 10) MOD(1, 2), and a record
+not_readable : (executed (format ∷ says (Reads (Constant (pos 5)) 10 (AndEntry (One (of_two (codes "MOD") (num 1) (num 2))) NoEntry)) ∷ []) ([] ∷ []) 9).end ≡ Ended Wrong
+not_readable = refl

@@ -3,7 +3,8 @@ pub mod KindLemmas
 pub mod ContentLemmas
 pub mod ValueLemmas
 pub mod StatementLemmas
-pub mod WriteLemmas
+pub mod EditLemmas
+pub mod RecordLemmas
 pub mod RunLemmas
 pub mod SoundLemmas
 mod Examples

@@ -1,20 +1,23 @@
 -- A run of a main unit whose statements the rules let pass never ends Wrong, whatever its labels and its DO loops are.
 use Rattle.std.proofs.Common.{◌≡◌, ℕ, zero, suc, true, false, List, [], ◌∷◌, ◌++◌, length, Option, Some, None}
-use Rattle.std.specs.Prelude.{nat_eq, ⊤}
+use Rattle.std.specs.Prelude.{nat_eq, is_some, not, ◌&&◌, ⊤}
 use Rattle.std.proofs.lemmas.Bool.{and_parts, or_parts, not-false}
 use Rattle.ground.specs.declared.value.Kind.TheVariants.{Logical}
-use Rattle.f66_tree.specs.Forms.{Text, Formula, Act, Assigns, Goes, Selects, Signs, Chooses, Loops, Invokes, Passes, Stops, Returns, Reads, Writes, Formats, Types, Dimensions, Commons, Equivalences, Presets, Line}
+use Rattle.f66_tree.specs.declared.editing.Way.{Way}
+use Rattle.f66_tree.specs.declared.editing.Way.TheVariants.{Reading, Writing}
+use Rattle.f66_tree.specs.Forms.{Text, Formula, Par, Entries, Act, Assigns, Goes, Selects, Signs, Chooses, Loops, Invokes, Passes, Stops, Returns, Reads, Writes, Formats, Types, Dimensions, Commons, Equivalences, Presets, Line}
 use Rattle.f66_tree.specs.World.{World, Out, bind, take_one, take_from}
-use Rattle.f66_tree.specs.Units.{Note, Context, is_note, kind_of, sizes_of, Setting, Frame, moved_to}
+use Rattle.f66_tree.specs.Units.{Note, Context, is_note, kind_of, format_of, sizes_of, Setting, Frame, moved_to}
 use Rattle.f66_tree.specs.Evaluation.{sort_of, asks}
-use Rattle.f66_tree.specs.Statements.{Exit, Next, To, Back, loop_start, loop_turn, does}
+use Rattle.f66_tree.specs.Statements.{Exit, Next, To, Back, loop_start, loop_turn, record_by, does}
 use Rattle.f66_tree.specs.Execution.{runnable, has_label, from_label, Progress, begun, Stand, stand, Closer, closer_of, closers, closers_at, Onward, close, leads, perform, fetch, target, exec, nowhere, no_loops}
 use Rattle.f66_tree.specs.OneUnit.{one_unit}
-use Rattle.f66_names.specs.Uses.{uses_of, uses_of_par, uses_of_target, uses_in}
+use Rattle.f66_names.specs.Shapes.{stands, is_parameter, are_items, is_branch, has_shape}
+use Rattle.f66_names.specs.Uses.{uses_of, uses_of_par, uses_of_target, uses_of_entries, uses_in}
 use Rattle.f66_names.specs.Sorts.{is_integer}
 use Rattle.f66_names.specs.Kinds.{is_counting, are_entries, clashes}
 use Rattle.f66_names.specs.NameRules.{miscounts}
-use Rattle.f66_names.specs.StoreRules.{stores_wrong}
+use Rattle.f66_names.specs.StoreRules.{store_entries, stores_wrong}
 use Rattle.f66_names.specs.BuiltActs.{is_built_form}
 use Rattle.f66_sound.specs.Rightly.{NeverWrong}
 use Rattle.f66_sound.specs.SoundUnits.{in_main, finds_format}
@@ -22,11 +25,12 @@ use Rattle.f66_sound.proofs.RightlyLemmas.{bind_any, choose_rightly, if_both}
 use Rattle.f66_sound.proofs.KindLemmas.{is_kind_some, none_of_both}
 use Rattle.f66_sound.proofs.ValueLemmas.{FitSizes, Main, setting_of, FitCounts, asks_rightly}
 use Rattle.f66_sound.proofs.StatementLemmas.{assigns_rightly, selects_rightly, signs_rightly, start_rightly, turn_rightly}
-use Rattle.f66_sound.proofs.WriteLemmas.{record_rightly}
+use Rattle.f66_sound.proofs.RecordLemmas.{record_rightly}
 
 -- what a statement's run rests on
 pub record FitAct (c : Context) (notes : List Note) (a : Act) : Type 0 where
-  pub built : is_built_form c a ≡ true
+  pub built : is_built_form a ≡ true
+  pub shape : has_shape a ≡ true
   pub kinds : clashes c a ≡ false
   pub counts : FitCounts c (uses_in a)
   pub stores : stores_wrong c a ≡ false
@@ -40,6 +44,7 @@ FitLines c notes (s ∷ rest) = FitAct c notes s.act × FitLines c notes rest
 inner_fit : (c : Context) (notes : List Note) (e : Formula) (a : Act) → FitAct c notes (Chooses e a) → FitAct c notes a
 inner_fit c notes e a h = record {
   built = h.built;
+  shape = (and_parts (is_branch a) _ (and_parts (stands 0 e) _ h.shape).1).1;
   kinds = (or_parts _ _ h.kinds).1;
   counts = (none_of_both (miscounts c) (uses_of e) (uses_in a) h.counts).1;
   stores = h.stores;
@@ -82,6 +87,17 @@ module _ (m : Main) where
   abbrev c : Context
   c = m.context
 
+  listed_rightly : (f : Frame) (way : Way) (u : Par) (l : ℕ) (es : Entries) → (is_parameter u && are_items es) ≡ true → not (is_counting c u && are_entries way c es) ≡ false → not (store_entries way c es) ≡ false →
+      FitCounts c (uses_of_par u ++ uses_of_entries es) → is_some (format_of l m.notes) ≡ true → (w : World) → NeverWrong (record_by s f way u l es w)
+  listed_rightly f way u l es shape kinds stores counts there w =
+      let fit = and_parts (is_counting c u) (are_entries way c es) (not-false _ kinds) in
+      record_rightly m f way u l es fit.0 there (record {
+        shapes = (and_parts (is_parameter u) (are_items es) shape).1;
+        kinds = fit.1;
+        stores = not-false _ stores;
+        counts = (none_of_both (miscounts c) (uses_of_par u) (uses_of_entries es) counts).1;
+      }) w
+
   does_rightly : (f : Frame) (a : Act) → FitAct c m.notes a → (w : World) → NeverWrong (does s f a w)
   does_rightly f (Assigns x e) h w =
       let counts = none_of_both (miscounts c) (uses_of_target x) (uses_of e) h.counts in
@@ -96,10 +112,8 @@ module _ (m : Main) where
   does_rightly f (Stops None) h w = tt
   does_rightly f (Stops (Some n)) h w = tt
   does_rightly f Returns h w = tt
-  does_rightly f (Reads u l es) h w = let b = h.built in let q : ⊥ = cc in absurd q
-  does_rightly f (Writes u l es) h w =
-      let kinds = and_parts (is_counting c u) (are_entries c es) (not-false _ h.kinds) in
-      record_rightly m f u l es kinds.0 h.formats (and_parts _ _ h.built).1 kinds.1 (none_of_both (miscounts c) (uses_of_par u) _ h.counts).1 w
+  does_rightly f (Reads u l es) h w = listed_rightly f Reading u l es h.shape h.kinds h.stores h.counts h.formats w
+  does_rightly f (Writes u l es) h w = listed_rightly f Writing u l es h.shape h.kinds h.stores h.counts h.formats w
   does_rightly f _ h w = tt
 
   module _ (code : List Line) (fit : FitLines c m.notes code) (f : Frame) (go : Onward) (goes : (rest : List Line) → FitLines c m.notes rest → (pr : Progress) (w : World) → NeverWrong (go (stand rest pr) w)) where
@@ -167,6 +181,7 @@ module _ (notes : List Note) (c : Context) (kinds : (x : Text) → kind_of c x �
     sizes = sizes;
     call = λ v ps w. run n (record { unit = v; actuals = ps; place = nowhere }) (stand code no_loops) w;
     begin = take_one;
+    begins = begin_rightly;
     most = n;
     tick = λ k. k;
   }

@@ -3,8 +3,8 @@ use Rattle.std.proofs.Common.{◌≡◌, ◌≢◌, ℕ, zero, suc, Bool, true, 
 use Rattle.std.specs.Prelude.{if◌then◌else◌, ⊤}
 use Rattle.std.specs.List.{list_any}
 use Rattle.std.specs.Str.{bytes_eq}
-use Rattle.std.proofs.lemmas.Bool.{and_parts, or_parts}
-use Rattle.ground.specs.declared.fault.FaultKind.TheVariants.{TypeClash, WrongCount, BadConstant, NotAssignable}
+use Rattle.std.proofs.lemmas.Bool.{and_parts, or_parts, not-false}
+use Rattle.ground.specs.declared.fault.FaultKind.TheVariants.{Syntax, TypeClash, WrongCount, BadConstant, NotAssignable}
 use Rattle.f66_tree.specs.declared.declaration.TypeWord.{TypeWord}
 use Rattle.f66_tree.specs.Forms.{Text, Par, Declared, MainUnit, Act, Types, Dimensions, Commons, Line}
 use Rattle.f66_tree.specs.World.{Wrong, Ended, Out, Gives, Halts, shown}
@@ -33,18 +33,18 @@ in_fit x (d ∷ ds) others h k =
     let p = or_parts (has_bad_size d) _ h in
     if_both FitSizes (bytes_eq x d.name) (if_any d.sizes (sizes_in x ds others)) (sizes_in x ds others) (any_fit d.sizes (sizes_in x ds others) p.0 (in_fit x ds others p.1 k)) (in_fit x ds others p.1 k)
 
-by_fit : (c : Context) (x : Text) (a : Act) (others : List Par) → is_built_form c a ≡ true → has_bad_constant a ≡ false → FitSizes others → FitSizes (sizes_by x a others)
-by_fit c x (Types t ds) others built h k = in_fit x ds others h k
-by_fit c x (Dimensions ds) others built h k = in_fit x ds others h k
-by_fit c x (Commons areas) others built h k = let q : ⊥ = cc in absurd q
-by_fit c x _ others built h k = k
+by_fit : (x : Text) (a : Act) (others : List Par) → is_built_form a ≡ true → has_bad_constant a ≡ false → FitSizes others → FitSizes (sizes_by x a others)
+by_fit x (Types t ds) others built h k = in_fit x ds others h k
+by_fit x (Dimensions ds) others built h k = in_fit x ds others h k
+by_fit x (Commons areas) others built h k = let q : ⊥ = cc in absurd q
+by_fit x _ others built h k = k
 
-sizes_fit : (c : Context) (x : Text) (code : List Line) → ((i : ℕ) (a : Act) → slice_get (acts_of code) i ≡ Some a → (is_built_form c a ≡ true) × (has_bad_constant a ≡ false)) → FitSizes (sizes_of x (notes_of code))
-sizes_fit c x [] h = refl
-sizes_fit c x (s ∷ rest) h =
-    let behind = sizes_fit c x rest (λ i a e. h (suc i) a e) in
+sizes_fit : (x : Text) (code : List Line) → ((i : ℕ) (a : Act) → slice_get (acts_of code) i ≡ Some a → (is_built_form a ≡ true) × (has_bad_constant a ≡ false)) → FitSizes (sizes_of x (notes_of code))
+sizes_fit x [] h = refl
+sizes_fit x (s ∷ rest) h =
+    let behind = sizes_fit x rest (λ i a e. h (suc i) a e) in
     let here = h zero s.act refl in
-    if_both (λ notes. FitSizes (sizes_of x notes)) (is_note s.act) (record { label = s.label; act = s.act } ∷ notes_of rest) (notes_of rest) (by_fit c x s.act (sizes_of x (notes_of rest)) here.0 here.1 behind) behind
+    if_both (λ notes. FitSizes (sizes_of x notes)) (is_note s.act) (record { label = s.label; act = s.act } ∷ notes_of rest) (notes_of rest) (by_fit x s.act (sizes_of x (notes_of rest)) here.0 here.1 behind) behind
 
 -- ---- statements ----
 
@@ -55,6 +55,7 @@ lines_fit c notes (s ∷ rest) h = (h zero s.act refl, lines_fit c notes rest (�
 act_fit : (c : Context) (code : List Line) → IsSoundMain c code → (i : ℕ) (a : Act) → slice_get (acts_of code) i ≡ Some a → FitAct c (notes_of code) a
 act_fit c code h i a e = record {
   built = (and_parts _ _ (h.built i a e)).0;
+  shape = not-false _ (h.clean i a e Syntax);
   kinds = h.clean i a e TypeClash;
   counts = (or_parts _ _ (h.clean i a e WrongCount)).1;
   stores = h.clean i a e NotAssignable;
@@ -76,7 +77,7 @@ fit_runs_rightly c code kinds sorts sizes fit input n =
 
 runs_rightly : (c : Context) (code : List Line) → ((x : Text) → kind_of c x ≡ kind_of (main_context code) x) → ((x : Text) → sort_of c x ≡ sort_of (main_context code) x) → IsSoundMain c code → RunsRightly code
 runs_rightly c code kinds sorts h =
-    fit_runs_rightly c code kinds sorts (λ x. sizes_fit c x code (λ i a e. ((and_parts _ _ (h.built i a e)).0, h.clean i a e BadConstant)))
+    fit_runs_rightly c code kinds sorts (λ x. sizes_fit x code (λ i a e. ((and_parts _ _ (h.built i a e)).0, h.clean i a e BadConstant)))
     (lines_fit c (notes_of code) code (act_fit c code h))
 
 pub never_wrong : SoundNeverWrong

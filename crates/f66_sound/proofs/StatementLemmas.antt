@@ -70,7 +70,7 @@ module _ (m : Main) where
   abbrev c : Context
   c = m.context
 
-  store_rightly : (f : Frame) (p : Spot) (v : Content) (w : World) → NeverWrong (store_at s f p v w)
+  pub store_rightly : (f : Frame) (p : Spot) (v : Content) (w : World) → NeverWrong (store_at s f p v w)
   store_rightly f p v w =
       bind_any (λ _ _. ⊤) (settle f.place (stored s.linked p v w.state.store) w) _ (settle_rightly (λ _. ⊤) f.place (stored s.linked p v w.state.store) w (stored_rightly s.linked p v w.state.store)) (λ st w1. tt)
 

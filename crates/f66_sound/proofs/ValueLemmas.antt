@@ -60,6 +60,7 @@ pub record Main : Type 0 where
   pub sizes : (x : Text) → FitSizes (sizes_of x notes)
   pub call : ℕ → List Spot → World → Out ⊤
   pub begin : World → Out ⊤
+  pub begins : (w : World) → NeverWrong (begin w)
   pub most : ℕ
   pub tick : ℕ → ℕ
 

@@ -1,7 +1,7 @@
 -- Which main units the rules of names let pass, and the law of them: no run of one ends Wrong.
 use Rattle.std.specs.Prelude.{◌≡◌, ◌≢◌, ℕ, Bool, true, false, List, map, Some, is_some, slice_get}
 use Rattle.ground.specs.declared.fault.FaultKind.{FaultKind}
-use Rattle.f66_tree.specs.Forms.{MainUnit, Act, Chooses, Writes, Line}
+use Rattle.f66_tree.specs.Forms.{MainUnit, Act, Chooses, Reads, Writes, Line}
 use Rattle.f66_tree.specs.World.{Record, Wrong, Ended}
 use Rattle.f66_tree.specs.Units.{Note, Context, notes_of, format_of}
 use Rattle.f66_tree.specs.OneUnit.{executed}
@@ -20,14 +20,15 @@ in_main notes = record { header = MainUnit; notes = notes }
 abbrev pub main_context : List Line → Context
 main_context code = in_main (notes_of code)
 
--- the FORMAT of a WRITE is there
+-- the FORMAT of a READ or WRITE is there
 abbrev pub finds_format : List Note → Act → Bool
+finds_format notes (Reads u l es) = is_some (format_of l notes)
 finds_format notes (Writes u l es) = is_some (format_of l notes)
 finds_format notes (Chooses e a) = finds_format notes a
 finds_format notes _ = true
 
 -- Where names mean what the context says, each statement is built, and breaks no rule of names, types, counts, constants and
--- stores; and each WRITE finds its FORMAT. Nothing else is asked of labels, nor of the order of statements or of DO loops.
+-- stores; and each READ and WRITE finds its FORMAT. Nothing else is asked of labels, nor of the order of statements or of DO loops.
 pub record IsSoundMain (c : Context) (code : List Line) : Type 0 where
   pub built : (i : ℕ) (a : Act) → slice_get (acts_of code) i ≡ Some a → is_built c a ≡ true
   pub clean : (i : ℕ) (a : Act) → slice_get (acts_of code) i ≡ Some a → (k : FaultKind) → breaks_name c (acts_of code) i a k ≡ false

@@ -5,7 +5,7 @@ use Rattle.std.specs.List.{list_all}
 use Rattle.ground.specs.declared.fault.FaultKind.{FaultKind}
 use Rattle.ground.specs.declared.fault.FaultKind.TheVariants.{Syntax, BadLabel, BadBreak, DuplicateCase}
 use Rattle.rule_table.specs.FaultRules.{first_rule}
-use Rattle.f66_tree.specs.Forms.{Act, Assigns, Signs, Chooses, Loops, Writes}
+use Rattle.f66_tree.specs.Forms.{Act, Assigns, Signs, Chooses, Loops, Reads, Writes}
 use Rattle.f66_tree.specs.Units.{Context}
 use Rattle.f66_names.specs.BuiltActs.{is_built}
 use Rattle.f66_names.specs.Rules.{breaks_name}
@@ -77,8 +77,9 @@ abbrev pub is_own_label : Labels → Option ℕ → Bool
 is_own_label before None = true
 is_own_label before (Some l) = (nat_le 1 l && nat_le l 99999) && not (before l)
 
--- a jump reaches its labels, and a WRITE has a format
+-- a jump reaches its labels, and a READ or WRITE has a format
 abbrev pub finds_labels : Labels → Bool → Form → Bool
+finds_labels formats reached (Says (Reads u l es)) = formats l
 finds_labels formats reached (Says (Writes u l es)) = formats l
 finds_labels formats reached _ = reached
 

@@ -98,6 +98,7 @@ fn finds_labels(formats: &LabelSet, reached: bool, form: Form) -> bool
     ensures { result ≡ finds_labels (is_among formats.now) reached (form_of form.entry) }
 {
     match form {
+        Form::Says(StmtKind::Read(_, label, _)) => formats.contains(*label),
         Form::Says(StmtKind::Write(_, label, _)) => formats.contains(*label),
         _ => reached,
     }

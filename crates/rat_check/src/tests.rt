@@ -1,7 +1,7 @@
 // Small units with their first faults, worked out by hand.
 
 use crate::check;
-use f66_tree::{Declared, Expr, Field, Header, Name, Par, StmtKind, TypeWord};
+use f66_tree::{Declared, Entry, Expr, Field, Header, Name, Par, StmtKind, TypeWord};
 use ground::{FaultKind, Place, Refusal, Text};
 use rat_tree::{RatCase, RatKind, RatStmt, RatUnit};
 use std::alloc::{AllocError, Global};
@@ -56,11 +56,40 @@ fn typed(alloc: Global, word: TypeWord, text: &str, sizes: &[i64]) -> Result<Stm
     Ok(StmtKind::Typed(word, list))
 }
 
-/// `format(i133)`.
-fn wide(alloc: Global) -> Result<StmtKind, AllocError> {
+/// `format(iw)`, with so many parentheses more.
+fn format(alloc: Global, width: u16, deep: u8) -> Result<StmtKind, AllocError> {
     let mut fields = Vec::new(alloc);
-    fields.push(Field::Whole(1, 133))?;
+    fields.push(Field::Whole(1, width))?;
+    for _ in 0..deep {
+        let mut group = Vec::new(alloc);
+        group.push(Field::Group(1, fields))?;
+        fields = group;
+    }
     Ok(StmtKind::Format(fields))
+}
+
+/// `read(5,20) item`.
+fn read(alloc: Global, item: Expr) -> Result<StmtKind, AllocError> {
+    let mut list = Vec::new(alloc);
+    list.push(Entry::Item(item))?;
+    Ok(StmtKind::Read(Par::Number(5), 20, list))
+}
+
+/// `write(6,20) (item, variable=1,2)`.
+fn write(alloc: Global, item: Expr, variable: &str) -> Result<StmtKind, AllocError> {
+    let mut inner = Vec::new(alloc);
+    inner.push(Entry::Item(item))?;
+    let variable = name(alloc, variable)?;
+    let counted = Entry::Many(
+        inner,
+        variable,
+        Par::Number(1),
+        Par::Number(2),
+        Par::Number(1),
+    );
+    let mut list = Vec::new(alloc);
+    list.push(counted)?;
+    Ok(StmtKind::Write(Par::Number(6), 20, list))
 }
 
 /// A value by its word: `1`, `not 1`, a name with arguments or subscripts, or a variable.
@@ -91,7 +120,14 @@ fn plain(alloc: Global, word: &str) -> Result<StmtKind, AllocError> {
         "long" => typed(alloc, TypeWord::Integer, "IABCDEF", &[]),
         "longnone" => typed(alloc, TypeWord::Integer, "IABCDEF", &[0]),
         "longlarge" => typed(alloc, TypeWord::Integer, "IABCDEF", &[32768]),
-        "wide" => wide(alloc),
+        "format" => format(alloc, 5, 2),
+        "wide" => format(alloc, 133, 0),
+        "deep" => format(alloc, 5, 3),
+        "read" => read(alloc, variable(alloc, "K")?),
+        "readelement" => read(alloc, applied(alloc, "K", 1)?),
+        "write" => write(alloc, applied(alloc, "K", 1)?, "I"),
+        "writearray" => write(alloc, Expr::Int(1), "K"),
+        "writebyarray" => write(alloc, variable(alloc, "I")?, "K"),
         "stop" => Ok(StmtKind::Stop(Some(32768))),
         "goto" => Ok(StmtKind::Goto(10)),
         _ => Ok(StmtKind::Continue),
@@ -180,6 +216,8 @@ fn fault(alloc: Global, text: &str) -> Result<Option<(u32, FaultKind, u64)>, All
 fn accepted(rt: HostRuntime) -> Result<(), Fail> {
     let alloc = rt.alloc();
     assert_eq!(rt; fault(alloc, "; array logical 10 I=1 goto")?, None);
+    let lists = "array read 20 format readelement write";
+    assert_eq!(rt; fault(alloc, lists)?, None);
     Ok(())
 }
 
@@ -204,6 +242,12 @@ fn faults(rt: HostRuntime) -> Result<(), Fail> {
         ("I=1 switch", 1, FaultKind::DuplicateCase),
         ("none I=1", 0, FaultKind::BadConstant),
         ("wide I=1", 0, FaultKind::BadFormat),
+        ("I=1 deep", 1, FaultKind::BadFormat),
+        ("I=1 read", 1, FaultKind::BadLabel),
+        ("20 I=1 read", 1, FaultKind::BadLabel),
+        ("20 format readelement", 1, FaultKind::NotAssignable),
+        ("20 format write", 1, FaultKind::TypeClash),
+        ("array 20 format writebyarray", 2, FaultKind::NotAssignable),
         ("array K=1", 1, FaultKind::NotAssignable),
         ("I=1 if return", 2, FaultKind::Unbuilt),
         ("I=K(1,1) I=1", 0, FaultKind::Unbuilt),
@@ -265,6 +309,10 @@ fn two_rules(rt: HostRuntime) -> Result<(), Fail> {
         ("array 10 I=1 10 K=1", 2, BadLabel),
         ("10 logical 10 large", 1, BadLabel),
         ("arrays", 0, BadConstant),
+        ("I=1 writearray", 1, Syntax),
+        ("I=1 write", 1, TypeClash),
+        ("I=1 readelement", 1, BadLabel),
+        ("array writebyarray", 1, BadLabel),
     ];
     for (text, line, kind) in rows {
         assert_eq!(rt; fault(alloc, text)?, Some((line, kind, 0)), "{text}");

@@ -8,4 +8,4 @@ use Rattle.f66_names.proofs.kinds.is_listed.Goals as goal
 pub returns-in-Item : goal.returns-in-Item
 returns-in-Item c =
     c.is_listed_element.ensures
-    ∙ item_seen (is_listed (context_in c.args.declarations.now)) c.args.e.now c.in-Item.name c.in-Item.list c.deref.result.now c.in-Item.is c.deref.ensures.value
+    ∙ item_seen (is_listed c.args.way (context_in c.args.declarations.now)) c.args.e.now c.in-Item.name c.in-Item.list c.deref.result.now c.in-Item.is c.deref.ensures.value

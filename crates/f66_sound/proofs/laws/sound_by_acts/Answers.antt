@@ -1,3 +1,4 @@
+-- A sound unit judged without its labels never goes wrong.
 use Rattle.f66_sound.proofs.SoundLemmas as sound
 use Rattle.f66_sound.proofs.laws.sound_by_acts.Goals as goal
 

@@ -1,3 +1,4 @@
+-- A sound main unit never goes wrong.
 use Rattle.f66_sound.proofs.SoundLemmas as sound
 use Rattle.f66_sound.proofs.laws.sound_never_wrong.Goals as goal
 
