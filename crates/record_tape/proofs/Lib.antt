@@ -1,0 +1,4 @@
+pub mod Turning
+pub mod Ending
+pub mod Steps
+pub mod Contents

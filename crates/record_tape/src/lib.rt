@@ -1,0 +1,11 @@
+//! The records of a run, and the READ or WRITE in progress, equal to the definitions of the language.
+#![tactic(auto)]
+
+mod tape;
+
+pub use tape::{Break, Tape};
+
+#[cfg(test)]
+mod examples;
+#[cfg(test)]
+mod tests;
