@@ -8,11 +8,10 @@ use Rattle.std.proofs.lemmas.List.Folds.{list_any-append}
 use Rattle.std.proofs.lemmas.Slice.Eq.{bytes_eq-Decides}
 use Rattle.f66_tree.specs.Forms.{Text, Formula, Number, Fact, Letter, Variable, Applied, Grouped, Positive, Negative, Negated, Joined, Formulas, Nought, Also, Par, Constant, Named, Declared, Entry, One, Many, Entries, NoEntry, AndEntry, Act, Assigns, Selects, Signs, Chooses, Loops, Invokes, Reads, Writes, Types, Dimensions, Commons}
 use Rattle.f66_tree.specs.Units.{Context}
-use Rattle.f66_tree.specs.Built.{is_printer}
 use Rattle.f66_tree.specs.Uses.{Names, NamesOfAll, NameOfPar, NamesOfPars, NamesOfEntry, NamesOfEntries, NamesOfAct}
 use Rattle.f66_names.specs.Declaring.{declared_in}
-use Rattle.f66_names.specs.Uses.{Usage, uses_of, uses_of_all, uses_of_target, uses_of_par, uses_of_entry, uses_of_entries, uses_of_sizes, uses_in}
-use Rattle.f66_names.specs.BuiltActs.{is_one_entry, is_one_item, is_built_form, is_built}
+use Rattle.f66_names.specs.Uses.{Usage, uses_of, uses_of_all, uses_of_target, uses_of_par, uses_of_counting, uses_of_entry, uses_of_entries, uses_of_sizes, uses_in}
+use Rattle.f66_names.specs.BuiltActs.{is_built_form, is_built}
 use Rattle.rat_check.proofs.CleanLemmas.{and_true}
 use Rattle.rat_lower.specs.Checked.{NamesOfSizes, NamesOfNote}
 use Rattle.rat_lower.specs.Emitted.{named_in}
@@ -78,30 +77,38 @@ module _ (K : Text → Type 0) where
   par (Constant z) h = tt
   par (Named x) h = h.0
 
-  one_entry : (c : Context) (e : Entry) → is_one_entry c e ≡ true → AllUsed K (uses_of_entry e) → NamesOfEntry K e
-  one_entry c (One f) is h = names f h
-  one_entry c (Many es x i j m) is h = absurd (true≢false (sym is))
-
-  one_item : (c : Context) (es : Entries) → is_one_item c es ≡ true → AllUsed K (uses_of_entries es) → NamesOfEntries K es
-  one_item c NoEntry is h = tt
-  one_item c (AndEntry e NoEntry) is h = (one_entry c e is (used_split (uses_of_entry e) [] h).0, tt)
-  one_item c (AndEntry e (AndEntry f es)) is h = absurd (true≢false (sym is))
-
-  pub act_names : (c : Context) (a : Act) → is_built_form c a ≡ true → AllUsed K (uses_in a) → NamesOfAct K a
-  act_names c (Assigns x e) is h = let k = used_split (uses_of_target x) (uses_of e) h in (target x k.0, names e k.1)
-  act_names c (Selects ls x) is h = h.0
-  act_names c (Signs e l m n) is h = names e h
-  act_names c (Chooses e a) is h = let k = used_split (uses_of e) (uses_in a) h in (names e k.0, act_names c a is k.1)
-  act_names c (Loops l x i j m) is h =
+  -- the variable and the parameters of a DO
+  counted : (x : Text) (i j m : Par) → AllUsed K (uses_of_counting x i j m) → K x × NameOfPar K i × NameOfPar K j × NameOfPar K m
+  counted x i j m h =
       let k = used_split (uses_of_par i) (uses_of_par j ++ uses_of_par m) h.1 in
       let q = used_split (uses_of_par j) (uses_of_par m) k.1 in
       (h.0, par i k.0, par j q.0, par m q.1)
-  act_names c (Invokes x es) is h = absurd (true≢false (sym is))
-  act_names c (Reads u l es) is h = absurd (true≢false (sym is))
-  act_names c (Writes u l es) is h =
-      let k = used_split (uses_of_par u) (uses_of_entries es) h in
-      (par u k.0, one_item c es (and_true (is_printer u) (is_one_item c es) is).1 k.1)
-  act_names c _ is h = tt
+
+  mutual
+    entry : (e : Entry) → AllUsed K (uses_of_entry e) → NamesOfEntry K e
+    entry (One f) h = target f h
+    entry (Many es x i j m) h =
+        let k = used_split (uses_of_entries es) (uses_of_counting x i j m) h in
+        let q = counted x i j m k.1 in
+        (entries es k.0, q.0, q.1, q.2, q.3)
+
+    entries : (es : Entries) → AllUsed K (uses_of_entries es) → NamesOfEntries K es
+    entries NoEntry h = tt
+    entries (AndEntry e es) h = let k = used_split (uses_of_entry e) (uses_of_entries es) h in (entry e k.0, entries es k.1)
+
+  listed : (u : Par) (es : Entries) → AllUsed K (uses_of_par u ++ uses_of_entries es) → NameOfPar K u × NamesOfEntries K es
+  listed u es h = let k = used_split (uses_of_par u) (uses_of_entries es) h in (par u k.0, entries es k.1)
+
+  pub act_names : (a : Act) → is_built_form a ≡ true → AllUsed K (uses_in a) → NamesOfAct K a
+  act_names (Assigns x e) is h = let k = used_split (uses_of_target x) (uses_of e) h in (target x k.0, names e k.1)
+  act_names (Selects ls x) is h = h.0
+  act_names (Signs e l m n) is h = names e h
+  act_names (Chooses e a) is h = let k = used_split (uses_of e) (uses_in a) h in (names e k.0, act_names a is k.1)
+  act_names (Loops l x i j m) is h = counted x i j m h
+  act_names (Invokes x es) is h = absurd (true≢false (sym is))
+  act_names (Reads u l es) is h = listed u es h
+  act_names (Writes u l es) is h = listed u es h
+  act_names _ is h = tt
 
   pars : (ns : List Par) → AllUsed K (flat_map uses_of_par ns) → NamesOfPars K ns
   pars [] h = tt
@@ -111,11 +118,11 @@ module _ (K : Text → Type 0) where
   sizes [] h = tt
   sizes (d ∷ ds) h = let k = used_split (flat_map uses_of_par d.sizes) (uses_of_sizes ds) h in (pars d.sizes k.0, sizes ds k.1)
 
-  pub note_names : (c : Context) (a : Act) → is_built_form c a ≡ true → AllUsed K (uses_in a) → NamesOfNote K a
-  note_names c (Types t ds) is h = sizes ds h
-  note_names c (Dimensions ds) is h = sizes ds h
-  note_names c (Commons areas) is h = absurd (true≢false (sym is))
-  note_names c _ is h = tt
+  pub note_names : (a : Act) → is_built_form a ≡ true → AllUsed K (uses_in a) → NamesOfNote K a
+  note_names (Types t ds) is h = sizes ds h
+  note_names (Dimensions ds) is h = sizes ds h
+  note_names (Commons areas) is h = absurd (true≢false (sym is))
+  note_names _ is h = tt
 
 -- ---- a name that is not there ----
 
@@ -150,7 +157,7 @@ module _ (q : Text) where
 
 -- what is built and lacks a name names others
 pub built_names : (c : Context) (q : Text) (a : Act) → (is_built c a ≡ true) × Lacking q a → NamesOfAct (λ x. x ≢ q) a
-built_names c q a h = act_names (λ x. x ≢ q) c a (and_true (is_built_form c a) _ h.0).0 (lacking_parts q a h.1).1
+built_names c q a h = act_names (λ x. x ≢ q) a (and_true (is_built_form a) _ h.0).0 (lacking_parts q a h.1).1
 
 pub built_note_names : (c : Context) (q : Text) (a : Act) → (is_built c a ≡ true) × Lacking q a → NamesOfNote (λ x. x ≢ q) a
-built_note_names c q a h = note_names (λ x. x ≢ q) c a (and_true (is_built_form c a) _ h.0).0 (lacking_parts q a h.1).1
+built_note_names c q a h = note_names (λ x. x ≢ q) a (and_true (is_built_form a) _ h.0).0 (lacking_parts q a h.1).1

@@ -7,16 +7,17 @@ use Rattle.ground.specs.declared.value.Kind.TheVariants.{Integer, Logical}
 use Rattle.ground.specs.declared.fault.FaultKind.{FaultKind}
 use Rattle.ground.specs.declared.fault.FaultKind.TheVariants.{Syntax, NameTooLong, OutOfProfileType, TypeClash, WrongCount, DuplicateName, BadConstant, BadFormat, NotAssignable, Limit}
 use Rattle.rule_table.specs.Words.{is_some_and}
-use Rattle.f66_tree.specs.Forms.{Text, Formula, Number, Fact, Letter, Variable, Applied, Grouped, Positive, Negative, Negated, Joined, Formulas, Nought, Also, Par, Constant, Named, Declared, Entry, One, Many, Entries, NoEntry, AndEntry, Act, Assigns, Selects, Signs, Chooses, Loops, Writes}
+use Rattle.f66_tree.specs.declared.editing.Way.{Way}
+use Rattle.f66_tree.specs.declared.editing.Way.TheVariants.{Reading, Writing}
+use Rattle.f66_tree.specs.Forms.{Text, Formula, Number, Fact, Letter, Variable, Applied, Grouped, Positive, Negative, Negated, Joined, Formulas, Nought, Also, Par, Constant, Named, Declared, Entry, One, Many, Entries, NoEntry, AndEntry, Act, Assigns, Selects, Signs, Chooses, Loops, Reads, Writes}
 use Rattle.f66_tree.specs.Units.{Context, kind_by, kind_of}
-use Rattle.f66_tree.specs.Built.{is_printer}
 use Rattle.f66_names.specs.Declaring.{declared_in}
 use Rattle.f66_names.specs.Sorts.{form_of, type_of, is_array_form, is_array, is_integer, is_counter}
-use Rattle.f66_names.specs.Uses.{Usage, uses_of, uses_of_all, uses_of_target, uses_of_par, uses_of_entry, uses_of_entries, uses_in}
-use Rattle.f66_names.specs.Kinds.{is_number, is_index, is_times, is_plus_or_minus, is_multiple, is_shifted, is_subscript, are_subscripts, same_kind, is_kind, operand, outcome, when, kind_applied, kind_in, are_integers, takes_kind, is_counting, is_listed, is_entry, are_entries, clashes}
-use Rattle.f66_names.specs.StoreRules.{is_assignable, stores_wrong}
+use Rattle.f66_names.specs.Uses.{Usage, uses_of, uses_of_all, uses_of_target, uses_of_par, uses_of_counting, uses_of_entry, uses_of_entries, uses_in}
+use Rattle.f66_names.specs.Kinds.{is_number, is_index, is_times, is_plus_or_minus, is_multiple, is_shifted, is_subscript, are_subscripts, same_kind, is_kind, operand, outcome, when, kind_applied, kind_in, are_integers, takes_kind, is_counting, is_listed, counts, is_entry, are_entries, clashes}
+use Rattle.f66_names.specs.StoreRules.{is_assignable, stores_item, stores_entry, store_entries, stores_wrong}
 use Rattle.f66_names.specs.NameRules.{is_other, gives_other, has_other_type, has_wrong_sizes, miscounts_by, miscounts, has_wrong_count, class_by, class_used, is_duplicate}
-use Rattle.f66_names.specs.BuiltActs.{is_one_place, is_one_entry, is_last, is_one_item, is_function_by, is_function, is_built_form, is_built}
+use Rattle.f66_names.specs.BuiltActs.{is_function_by, is_function, is_built_form, is_built}
 use Rattle.f66_names.specs.Rules.{breaks_name}
 use Rattle.rat_lower.proofs.ActNames.{AllUsed, AllDeclared, used_split}
 
@@ -113,19 +114,38 @@ module _ (c d : Context) (K : Text → Type 0) (forms : (x : Text) → K x → f
   counting (Constant z) h = refl
   counting (Named x) h = counters x h.0
 
-  listed : (e : Formula) → AllUsed K (uses_of e) → is_listed d e ≡ is_listed c e
-  listed (Applied x es) h = ap (λ b. b && are_subscripts d es) (arrays x h.0) ∙ ap (λ b. is_array c x && b) (subscripts es h.1)
-  listed _ h = refl
+  counted : (x : Text) (p q r : Par) → AllUsed K (uses_of_counting x p q r) → counts d x p q r ≡ counts c x p q r
+  counted x p q r h =
+      let k = used_split K (uses_of_par p) (uses_of_par q ++ uses_of_par r) h.1 in
+      let m = used_split K (uses_of_par q) (uses_of_par r) k.1 in
+      ap (λ t. is_integer t && (is_counting d p && (is_counting d q && is_counting d r))) (kinds x h.0)
+      ∙ ap (λ b. is_integer (kind_of c x) && (b && (is_counting d q && is_counting d r))) (counting p k.0)
+      ∙ ap (λ b. is_integer (kind_of c x) && (is_counting c p && (b && is_counting d r))) (counting q m.0)
+      ∙ ap (λ b. is_integer (kind_of c x) && (is_counting c p && (is_counting c q && b))) (counting r m.1)
 
-  entry : (e : Entry) → AllUsed K (uses_of_entry e) → is_entry d e ≡ is_entry c e
-  entry (One e) h = listed e h
-  entry (Many es x p q r) h = refl
+  listed : (way : Way) (e : Formula) → AllUsed K (uses_of_target e) → is_listed way d e ≡ is_listed way c e
+  listed way (Variable x) h = refl
+  listed Reading (Applied x es) h = ap (λ b. not b || are_subscripts d es) (arrays x h.0) ∙ ap (λ b. not (is_array c x) || b) (subscripts es h.1)
+  listed Writing (Applied x es) h = ap (λ b. b && are_subscripts d es) (arrays x h.0) ∙ ap (λ b. is_array c x && b) (subscripts es h.1)
+  listed way _ h = refl
 
-  entries : (es : Entries) → AllUsed K (uses_of_entries es) → are_entries d es ≡ are_entries c es
-  entries NoEntry h = refl
-  entries (AndEntry e es) h =
-      let k = used_split K (uses_of_entry e) (uses_of_entries es) h in
-      ap (λ b. b && are_entries d es) (entry e k.0) ∙ ap (λ b. is_entry c e && b) (entries es k.1)
+  mutual
+    entry : (way : Way) (e : Entry) → AllUsed K (uses_of_entry e) → is_entry way d e ≡ is_entry way c e
+    entry way (One e) h = listed way e h
+    entry way (Many es x p q r) h =
+        let k = used_split K (uses_of_entries es) (uses_of_counting x p q r) h in
+        ap (λ b. b && counts d x p q r) (entries way es k.0) ∙ ap (λ b. are_entries way c es && b) (counted x p q r k.1)
+
+    entries : (way : Way) (es : Entries) → AllUsed K (uses_of_entries es) → are_entries way d es ≡ are_entries way c es
+    entries way NoEntry h = refl
+    entries way (AndEntry e es) h =
+        let k = used_split K (uses_of_entry e) (uses_of_entries es) h in
+        ap (λ b. b && are_entries way d es) (entry way e k.0) ∙ ap (λ b. is_entry way c e && b) (entries way es k.1)
+
+  transferred : (way : Way) (u : Par) (es : Entries) → AllUsed K (uses_of_par u ++ uses_of_entries es) → not (is_counting d u && are_entries way d es) ≡ not (is_counting c u && are_entries way c es)
+  transferred way u es h =
+      let k = used_split K (uses_of_par u) (uses_of_entries es) h in
+      ap (λ b. not (b && are_entries way d es)) (counting u k.0) ∙ ap (λ b. not (is_counting c u && b)) (entries way es k.1)
 
   clashed : (a : Act) → AllUsed K (uses_in a) → clashes d a ≡ clashes c a
   clashed (Assigns x e) h =
@@ -136,16 +156,9 @@ module _ (c d : Context) (K : Text → Type 0) (forms : (x : Text) → K x → f
   clashed (Chooses e a) h =
       let k = used_split K (uses_of e) (uses_in a) h in
       ap (λ o. not (is_kind Logical o) || clashes d a) (kinded e k.0) ∙ ap (λ b. not (is_kind Logical (kind_in c e)) || b) (clashed a k.1)
-  clashed (Loops l x p q r) h =
-      let k = used_split K (uses_of_par p) (uses_of_par q ++ uses_of_par r) h.1 in
-      let m = used_split K (uses_of_par q) (uses_of_par r) k.1 in
-      ap (λ t. not (is_integer t && (is_counting d p && (is_counting d q && is_counting d r)))) (kinds x h.0)
-      ∙ ap (λ b. not (is_integer (kind_of c x) && (b && (is_counting d q && is_counting d r)))) (counting p k.0)
-      ∙ ap (λ b. not (is_integer (kind_of c x) && (is_counting c p && (b && is_counting d r)))) (counting q m.0)
-      ∙ ap (λ b. not (is_integer (kind_of c x) && (is_counting c p && (is_counting c q && b)))) (counting r m.1)
-  clashed (Writes u l es) h =
-      let k = used_split K (uses_of_par u) (uses_of_entries es) h in
-      ap (λ b. not (b && are_entries d es)) (counting u k.0) ∙ ap (λ b. not (is_counting c u && b)) (entries es k.1)
+  clashed (Loops l x p q r) h = ap not (counted x p q r h)
+  clashed (Reads u l es) h = transferred Reading u es h
+  clashed (Writes u l es) h = transferred Writing u es h
   clashed _ h = refl
 
   assigned : (x : Formula) → AllUsed K (uses_of_target x) → is_assignable d x ≡ is_assignable c x
@@ -153,10 +166,30 @@ module _ (c d : Context) (K : Text → Type 0) (forms : (x : Text) → K x → f
   assigned (Applied x es) h = arrays x h.0
   assigned _ h = refl
 
+  items_stored : (way : Way) (e : Formula) → AllUsed K (uses_of_target e) → stores_item way d e ≡ stores_item way c e
+  items_stored Reading (Applied x es) h = arrays x h.0
+  items_stored Reading _ h = refl
+  items_stored Writing e h = refl
+
+  mutual
+    entry_stored : (way : Way) (e : Entry) → AllUsed K (uses_of_entry e) → stores_entry way d e ≡ stores_entry way c e
+    entry_stored way (One e) h = items_stored way e h
+    entry_stored way (Many es x p q r) h =
+        let k = used_split K (uses_of_entries es) (uses_of_counting x p q r) h in
+        ap (λ b. b && not (is_array d x)) (entries_stored way es k.0) ∙ ap (λ b. store_entries way c es && not b) (arrays x k.1.0)
+
+    entries_stored : (way : Way) (es : Entries) → AllUsed K (uses_of_entries es) → store_entries way d es ≡ store_entries way c es
+    entries_stored way NoEntry h = refl
+    entries_stored way (AndEntry e es) h =
+        let k = used_split K (uses_of_entry e) (uses_of_entries es) h in
+        ap (λ b. b && store_entries way d es) (entry_stored way e k.0) ∙ ap (λ b. stores_entry way c e && b) (entries_stored way es k.1)
+
   stored : (a : Act) → AllUsed K (uses_in a) → stores_wrong d a ≡ stores_wrong c a
   stored (Assigns x e) h = ap not (assigned x (used_split K (uses_of_target x) (uses_of e) h).0)
   stored (Loops l x p q r) h = arrays x h.0
   stored (Chooses e a) h = stored a (used_split K (uses_of e) (uses_in a) h).1
+  stored (Reads u l es) h = ap not (entries_stored Reading es (used_split K (uses_of_par u) (uses_of_entries es) h).1)
+  stored (Writes u l es) h = ap not (entries_stored Writing es (used_split K (uses_of_par u) (uses_of_entries es) h).1)
   stored _ h = refl
 
   typed : (a : Act) → AllUsed K (uses_in a) → AllDeclared K (declared_in a) → has_other_type d a ≡ has_other_type c a
@@ -164,8 +197,8 @@ module _ (c d : Context) (K : Text → Type 0) (forms : (x : Text) → K x → f
       ap (λ b. gives_other a || (b || list_any (λ (u : Usage). is_other (type_of d u.name)) (uses_in a))) (any_declared (λ x. is_other (type_of d x.name)) (λ x. is_other (type_of c x.name)) (λ x e. ap is_other (types x.name e)) (declared_in a) k)
       ∙ ap (λ b. gives_other a || (list_any (λ (x : Declared). is_other (type_of c x.name)) (declared_in a) || b)) (any_use (λ u. is_other (type_of d u.name)) (λ u. is_other (type_of c u.name)) (λ u e. ap is_other (types u.name e)) (uses_in a) h)
 
-  counted : (a : Act) → AllUsed K (uses_in a) → has_wrong_count d a ≡ has_wrong_count c a
-  counted a h = ap (λ b. has_wrong_sizes a || b) (any_use (miscounts d) (miscounts c) miscounted (uses_in a) h)
+  measured : (a : Act) → AllUsed K (uses_in a) → has_wrong_count d a ≡ has_wrong_count c a
+  measured a h = ap (λ b. has_wrong_sizes a || b) (any_use (miscounts d) (miscounts c) miscounted (uses_in a) h)
 
   -- what breaks no rule breaks none in the other unit, where it declares nothing again and uses each name in its class
   pub clean_alike : (acts said : List Act) (i j : ℕ) (a : Act) → AllUsed K (uses_in a) → AllDeclared K (declared_in a) → ((k : FaultKind) → breaks_name c said i a k ≡ false) → is_duplicate d acts j a ≡ false →
@@ -174,7 +207,7 @@ module _ (c d : Context) (K : Text → Type 0) (forms : (x : Text) → K x → f
   clean_alike acts said i j a h g clean once NameTooLong = clean NameTooLong
   clean_alike acts said i j a h g clean once OutOfProfileType = typed a h g ∙ clean OutOfProfileType
   clean_alike acts said i j a h g clean once TypeClash = clashed a h ∙ clean TypeClash
-  clean_alike acts said i j a h g clean once WrongCount = counted a h ∙ clean WrongCount
+  clean_alike acts said i j a h g clean once WrongCount = measured a h ∙ clean WrongCount
   clean_alike acts said i j a h g clean once DuplicateName = once
   clean_alike acts said i j a h g clean once BadConstant = clean BadConstant
   clean_alike acts said i j a h g clean once BadFormat = clean BadFormat
@@ -184,22 +217,5 @@ module _ (c d : Context) (K : Text → Type 0) (forms : (x : Text) → K x → f
 
   -- ---- what is built ----
 
-  placed : (e : Formula) → AllUsed K (uses_of e) → is_one_place d e ≡ is_one_place c e
-  placed (Variable x) h = ap not (arrays x h.0)
-  placed _ h = refl
-
-  one_entry : (e : Entry) → AllUsed K (uses_of_entry e) → is_one_entry d e ≡ is_one_entry c e
-  one_entry (One e) h = placed e h
-  one_entry (Many es x p q r) h = refl
-
-  one_item : (es : Entries) → AllUsed K (uses_of_entries es) → is_one_item d es ≡ is_one_item c es
-  one_item NoEntry h = refl
-  one_item (AndEntry e es) h = ap (λ b. is_last es && b) (one_entry e (used_split K (uses_of_entry e) (uses_of_entries es) h).0)
-
-  formed : (a : Act) → AllUsed K (uses_in a) → is_built_form d a ≡ is_built_form c a
-  formed (Writes u l es) h = ap (λ b. is_printer u && b) (one_item es (used_split K (uses_of_par u) (uses_of_entries es) h).1)
-  formed (Chooses e a) h = formed a (used_split K (uses_of e) (uses_in a) h).1
-  formed _ h = refl
-
   pub built_alike : (a : Act) → AllUsed K (uses_in a) → is_built d a ≡ is_built c a
-  built_alike a h = ap (λ b. b && not (list_any (is_function d) (uses_in a))) (formed a h) ∙ ap (λ b. is_built_form c a && not b) (any_use (is_function d) (is_function c) functions (uses_in a) h)
+  built_alike a h = ap (λ b. is_built_form a && not b) (any_use (is_function d) (is_function c) functions (uses_in a) h)

@@ -71,7 +71,7 @@ module _ (ss : Commands) (accepted : fault_of_parts (unit_parts ss) ≡ None) wh
   formatted : AllSayGood (IsFormatted (notes_of_unit ss)) ss
   formatted =
       all_good (IsFormatted (notes_of_unit ss)) u ss 0 (with_labels ss no_label)
-      (both_good (IsFormatted (notes_of_unit ss)) u vs fine (parts_formatted u (notes_of_unit ss) (has_format u ss fine) u.context vs fine (said_so (λ a. is_built u.context a ≡ true) vs all_built)))
+      (both_good (IsFormatted (notes_of_unit ss)) u vs fine (parts_formatted u (notes_of_unit ss) (has_format u ss fine) vs fine))
 
   module _ (few : length (names_of ss) < 99999) where
     abbrev spare : Text

@@ -114,18 +114,18 @@ sizes_without : (q : Text) (ds : List Declared) (others : List Par) → AllDecla
 sizes_without q [] others h = refl
 sizes_without q (d ∷ ds) others h = ap (λ b. if b then if_any d.sizes (sizes_in q ds others) else sizes_in q ds others) (never_itself q d.name (λ e. h.0 (sym e))) ∙ sizes_without q ds others h.1
 
-act_without : (c : Context) (q : Text) (a : Act) (others : List Par) → is_built_form c a ≡ true → AllDeclared (λ x. x ≢ q) (declared_in a) → sizes_by q a others ≡ others
-act_without c q (Types t ds) others is h = sizes_without q ds others h
-act_without c q (Dimensions ds) others is h = sizes_without q ds others h
-act_without c q (Commons areas) others is h = absurd (true≢false (sym is))
-act_without c q _ others is h = refl
+act_without : (q : Text) (a : Act) (others : List Par) → is_built_form a ≡ true → AllDeclared (λ x. x ≢ q) (declared_in a) → sizes_by q a others ≡ others
+act_without q (Types t ds) others is h = sizes_without q ds others h
+act_without q (Dimensions ds) others is h = sizes_without q ds others h
+act_without q (Commons areas) others is h = absurd (true≢false (sym is))
+act_without q _ others is h = refl
 
 none_sized : (c : Context) (q : Text) (acts : List Act) → AllOf (λ a. (is_built c a ≡ true) × Lacking q a) acts → sizes_of q (noted acts) ≡ []
 none_sized c q [] h = refl
 none_sized c q (a ∷ rest) h = by (is_note a) (none_sized c q rest h.1)
   where
     by : (v : Bool) → sizes_of q (noted rest) ≡ [] → sizes_of q (if v then (record { label = None; act = a } ∷ noted rest) else noted rest) ≡ []
-    by true e = act_without c q a (sizes_of q (noted rest)) (and_true (is_built_form c a) _ h.0.0).0 (lacking_parts q a h.0.1).0 ∙ e
+    by true e = act_without q a (sizes_of q (noted rest)) (and_true (is_built_form a) _ h.0.0).0 (lacking_parts q a h.0.1).0 ∙ e
     by false e = e
 
 no_array : (es : List (Text × Intrinsic)) (q : Text) → is_array_form (form_by (known es q)) ≡ false

@@ -6,7 +6,7 @@ use Rattle.ground.specs.Content.{Content, Nothing, Whole, Truth}
 use Rattle.f66_tree.specs.declared.editing.Way.{Way}
 use Rattle.f66_tree.specs.declared.editing.Way.TheVariants.{Reading, Writing}
 use Rattle.f66_tree.specs.Forms.{Text, Formula, Par, Entries, Act, Assigns, Goes, Selects, Signs, Chooses, Loops, Invokes, Passes, Stops, Returns, Reads, Writes, Formats, Types, Dimensions, Commons, Equivalences, Presets}
-use Rattle.f66_tree.specs.World.{World, counted, Ended, GoesOn, Lost, Out, Gives, Halts, bind, Try, Yields, Traps, Fails, IfYields, settle, choose, taping, holding}
+use Rattle.f66_tree.specs.World.{World, counted, Ended, GoesOn, Lost, Out, Gives, Halts, bind, Try, Yields, Traps, Fails, IfYields, Move, Moves, Breaks, Misses, settle, moving, choose, taping, holding}
 use Rattle.f66_tree.specs.Units.{is_main, Spot, Linkage, Setting, Frame, format_of, around}
 use Rattle.f66_tree.specs.Evaluation.{stored, store_at, par_in, spots_of, ticked, value_of, locate, asks, variable_in, asked, held}
 use Rattle.f66_tree.specs.Statements.{Exit, Next, To, Back, Loop, loop_start, loop_turn, taped, items, item_turns, on_unit, opened_by, record_by, nth, label_at, by_sign_of, returned, invoked, does}
@@ -43,6 +43,11 @@ pub fine_settle : {A : Type 0} (p : Place) (o : Try A) (w : World) → Fine What
 fine_settle p (Yields a) w = tt
 fine_settle p (Traps t) w = tt
 fine_settle p Fails w = tt
+
+fine_moving : (p : Place) (m : Move) (w : World) → Fine Whatever (moving p m w)
+fine_moving p (Moves t) w = tt
+fine_moving p (Breaks e t) w = tt
+fine_moving p Misses w = tt
 
 -- a linkage in which nothing can be called
 module _ (l : Linkage) (alone : (x : Text) → l.find x ≡ None) (call : ℕ → List Spot → World → Out ⊤) (most : ℕ) (tick : ℕ → ℕ) where
@@ -83,7 +88,7 @@ module _ (l : Linkage) (alone : (x : Text) → l.find x ≡ None) (call : ℕ �
     binds = λ {A} {B} {P} {m1} {m2} {g1} {g2} h post k w. fine_bind P Whatever (m2 w) (λ a w1. g2 a w1) (fine_both P (m2 w) (h w) (post w)) (λ a ok w1. k a ok w1);
     loads = λ f ok k p fair w. fine_settle f.there (asked k (held l p w.state.store)) w;
     stores = λ f ok p fair c w. stores_fine f.there p c w;
-    tapes = λ f ok h step w. fine_bind Whatever Whatever (settle f.there (h w.state.tape) w) (λ t w1. Gives tt (taping t w1)) (fine_settle f.there (h w.state.tape) w) (λ a _ w1. tt);
+    tapes = λ f ok h step w. fine_moving f.there (h w.state.tape) w;
     takes = λ f ok h step w. fine_bind Whatever Whatever (settle f.there (h w.state.tape) w) (λ r w1. Gives r.0 (taping r.1 w1)) (fine_settle f.there (h w.state.tape) w) (λ a _ w1. tt);
     ticks = λ h w. h (ticked S w);
     calls = λ u x v ps used e fair. absurd (none_found e (alone x));

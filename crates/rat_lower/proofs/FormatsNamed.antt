@@ -6,9 +6,8 @@ use Rattle.std.proofs.lemmas.Bool.{or_from}
 use Rattle.rule_table.specs.Words.{is_some_and}
 use Rattle.f66_tree.specs.Fields.{Fields}
 use Rattle.f66_tree.specs.Forms.{Text, Act, Chooses, Reads, Writes, Formats, Line}
-use Rattle.f66_tree.specs.Units.{is_note, Note, Context, notes_of, format_by, format_of}
+use Rattle.f66_tree.specs.Units.{is_note, Note, notes_of, format_by, format_of}
 use Rattle.f66_tree.specs.Execution.{has_label}
-use Rattle.f66_names.specs.BuiltActs.{is_built}
 use Rattle.f66_flow.specs.Acts.{is_format, formats_named}
 use Rattle.f66_flow.specs.Ranges.{named}
 use Rattle.f66_flow.specs.FlowRules.{names_no_format}
@@ -95,25 +94,25 @@ module _ (code : List Line) (unique : AreUnique code) where
 -- ---- the source ----
 
 module _ (u : Whole) (notes : List Note) (has : (m : ℕ) → u.formats m ≡ true → is_some (format_of m notes) ≡ true) where
-  -- a plain statement of Ratfor that is built
-  act_formatted : (c : Context) (a : Act) (reached : Bool) → is_plain a ≡ true → is_built c a ≡ true → finds_labels u.formats reached (Says a) ≡ true → IsFormatted notes a
-  act_formatted c (Writes p l es) reached plain built found = ap (λ b. b && true) (has l found)
-  act_formatted c (Reads p l es) reached plain built found = absurd (true≢false (sym built))
-  act_formatted c (Chooses e a) reached plain built found = absurd (true≢false (sym plain))
-  act_formatted c _ reached plain built found = refl
+  -- a plain statement of Ratfor
+  act_formatted : (a : Act) (reached : Bool) → is_plain a ≡ true → finds_labels u.formats reached (Says a) ≡ true → IsFormatted notes a
+  act_formatted (Reads p l es) reached plain found = ap (λ b. b && true) (has l found)
+  act_formatted (Writes p l es) reached plain found = ap (λ b. b && true) (has l found)
+  act_formatted (Chooses e a) reached plain found = absurd (true≢false (sym plain))
+  act_formatted _ reached plain found = refl
 
-  form_formatted : (c : Context) (form : Form) (reached : Bool) → is_ratfor form ≡ true → AllOf (λ a. is_built c a ≡ true) (said_by form) → finds_labels u.formats reached form ≡ true → AllOf (IsFormatted notes) (said_by form)
-  form_formatted c (Says a) reached is built found = (act_formatted c a reached is built.0 found, tt)
-  form_formatted c Rests reached is built found = tt
-  form_formatted c Repeating reached is built found = tt
-  form_formatted c (Asks e) reached is built found = (refl, tt)
-  form_formatted c (Takes e) reached is built found = (refl, tt)
-  form_formatted c (Compares es second) reached is built found = values_so (IsFormatted notes) (λ e. refl) es
-  form_formatted c (Prepares a e b) reached is built found = prepared_so (IsFormatted notes) (λ x f. refl) (λ f. refl) a e b is
-  form_formatted c (Counting x a b d) reached is built found = (refl, tt)
-  form_formatted c (Leaving n) reached is built found = tt
-  form_formatted c Returning reached is built found = tt
+  form_formatted : (form : Form) (reached : Bool) → is_ratfor form ≡ true → finds_labels u.formats reached form ≡ true → AllOf (IsFormatted notes) (said_by form)
+  form_formatted (Says a) reached is found = (act_formatted a reached is found, tt)
+  form_formatted Rests reached is found = tt
+  form_formatted Repeating reached is found = tt
+  form_formatted (Asks e) reached is found = (refl, tt)
+  form_formatted (Takes e) reached is found = (refl, tt)
+  form_formatted (Compares es second) reached is found = values_so (IsFormatted notes) (λ e. refl) es
+  form_formatted (Prepares a e b) reached is found = prepared_so (IsFormatted notes) (λ x f. refl) (λ f. refl) a e b is
+  form_formatted (Counting x a b d) reached is found = (refl, tt)
+  form_formatted (Leaving n) reached is found = tt
+  form_formatted Returning reached is found = tt
 
-  pub parts_formatted : (c : Context) (vs : List Part) → AllFine u vs → AllParts (SaysSo (λ a. is_built c a ≡ true)) vs → AllParts (SaysSo (IsFormatted notes)) vs
-  parts_formatted c [] h k = tt
-  parts_formatted c (v ∷ vs) h k = (form_formatted c v.form v.reached h.0.ratfor k.0 h.0.found, parts_formatted c vs h.1 k.1)
+  pub parts_formatted : (vs : List Part) → AllFine u vs → AllParts (SaysSo (IsFormatted notes)) vs
+  parts_formatted [] h = tt
+  parts_formatted (v ∷ vs) h = (form_formatted v.form v.reached h.0.ratfor h.0.found, parts_formatted vs h.1)

@@ -11,7 +11,7 @@ use Rattle.ground.specs.Content.{Content}
 use Rattle.f66_tree.specs.declared.expression.Operator.TheVariants.{Eq}
 use Rattle.f66_tree.specs.Forms.{Text, Act, Formula, Par}
 use Rattle.f66_tree.specs.Uses.{Names, NameOfPar, NamesOfAct}
-use Rattle.f66_tree.specs.World.{put_in, State, Tape, World, counted, taping, Finish, Trapped, Wrong, Ended, GoesOn, Lost, Out, Gives, Halts, bind, Try, Yields, Traps, Fails, settle, holding, take_one, choose}
+use Rattle.f66_tree.specs.World.{put_in, State, Tape, World, counted, taping, Finish, Trapped, Wrong, Ended, GoesOn, Lost, Out, Gives, Halts, bind, Try, Yields, Traps, Fails, Move, Moves, Breaks, Misses, settle, moving, holding, take_one, choose}
 use Rattle.f66_tree.specs.Units.{Spot, Held, Lent, Setting}
 use Rattle.f66_tree.specs.Evaluation.{asked, held, store_at, load, operate, truth_in, value_of, asks}
 use Rattle.f66_tree.specs.Statements.{Exit, Loop, loop_start, loop_turn, taped, took, item_turns, does}
@@ -136,10 +136,10 @@ module _ (g : Lowering) (I : Type 0) (bound : I → ℕ) (b turns_most : ℕ) (t
   put f ok (Lent d) fair a v w x le =
       halts_now I bound g.spot (Trapped ValueArgument f.there) w le (λ i k c. ap (λ q. Halts (Ended (Trapped ValueArgument q)) (near g.spot v w.state k c)) ok.places)
 
-  taped_tracks : (p : Place) (h : Tape → Try Tape) (o : Try Tape) (v : Content) (w : World) (x : ℕ) → h w.state.tape ≡ o → x ≤ 32 * w.count → Tracks I bound g.spot {A = ⊤} b v w.state x (λ i. taped p h) (bind (settle p o w) (λ t w2. Gives tt (taping t w2)))
-  taped_tracks p h (Yields a) v w x e le = gives_now I bound g.spot tt (taping a w) le (λ i k c. ap (λ o. bind (settle p o (near g.spot v w.state k c)) (λ t w2. Gives tt (taping t w2))) e)
-  taped_tracks p h (Traps t) v w x e le = halts_now I bound g.spot (Trapped t p) w le (λ i k c. ap (λ o. bind (settle p o (near g.spot v w.state k c)) (λ t w2. Gives tt (taping t w2))) e)
-  taped_tracks p h Fails v w x e le = halts_now I bound g.spot Wrong w le (λ i k c. ap (λ o. bind (settle p o (near g.spot v w.state k c)) (λ t w2. Gives tt (taping t w2))) e)
+  taped_tracks : (p : Place) (h : Tape → Move) (m : Move) (v : Content) (w : World) (x : ℕ) → h w.state.tape ≡ m → x ≤ 32 * w.count → Tracks I bound g.spot b v w.state x (λ i. taped p h) (moving p m w)
+  taped_tracks p h (Moves t) v w x e le = gives_now I bound g.spot tt (taping t w) le (λ i k c. ap (λ q. moving p q (near g.spot v w.state k c)) e)
+  taped_tracks p h (Breaks trap t) v w x e le = halts_now I bound g.spot (Trapped trap p) (taping t w) le (λ i k c. ap (λ q. moving p q (near g.spot v w.state k c)) e)
+  taped_tracks p h Misses v w x e le = halts_now I bound g.spot Wrong w le (λ i k c. ap (λ q. moving p q (near g.spot v w.state k c)) e)
 
   took_tracks : (p : Place) (h : Tape → Try (Content × Tape)) (o : Try (Content × Tape)) (v : Content) (w : World) (x : ℕ) → h w.state.tape ≡ o → x ≤ 32 * w.count → Tracks I bound g.spot {A = Content} b v w.state x (λ i. took p h) (bind (settle p o w) (λ r w2. Gives r.0 (taping r.1 w2)))
   took_tracks p h (Yields a) v w x e le = gives_now I bound g.spot a.0 (taping a.1 w) le (λ i k c. ap (λ o. bind (settle p o (near g.spot v w.state k c)) (λ r w2. Gives r.0 (taping r.1 w2))) e)

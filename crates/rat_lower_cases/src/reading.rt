@@ -12,7 +12,8 @@
 //! | `+ - * / ^ < > = \| &` `~` `?` `"` | an operator behind its two operands; a sign; NOT; parentheses |
 //! | `k(5)J` `k(5)P` `k(5)H` | integer k(5); logical k(5); dimension k(5) |
 //! | `k1:` | k = 1 |
-//! | `k!` `9@2T` | write(6,9) k; 9 format(i2) |
+//! | `k!` `k'` `9@2T` | write(6,9) k; read(5,9) k; 9 format(i2) |
+//! | `k(i)i1 3 1Y!` | write(6,9) (k(i), i = 1, 3, 1) |
 //! | `9@` | the label of the next statement |
 //! | `.` `#` `7Q` `V` | continue; stop; stop 7; return |
 //! | `9G` `8 9kC` | goto 9; goto (8,9), k |
@@ -50,6 +51,8 @@ struct Reading {
     stack: Vec<Expr>,
     /// The first and last parts of a `for`.
     parts: Vec<Option<StmtKind>>,
+    /// The implied DO that stands before its READ or WRITE.
+    implied: Option<Entry>,
     label: Option<u32>,
     line: u32,
     /// Whether the last byte is a digit.
@@ -102,6 +105,7 @@ pub fn read(alloc: Global, text: &[u8]) -> Result<List<RatStmt>, AllocError> {
         alloc,
         stack: Vec::new(alloc),
         parts: Vec::new(alloc),
+        implied: None,
         label: None,
         line: 0,
         within_number: false,
@@ -253,11 +257,26 @@ impl Reading {
         Ok(list)
     }
 
-    fn write(&mut self) -> Result<StmtKind, AllocError> {
-        let item = self.value();
+    /// The list of a READ or WRITE: an implied DO, or one item.
+    fn entries(&mut self) -> Result<List<Entry>, AllocError> {
+        let entry = match self.implied.take() {
+            Some(entry) => entry,
+            None => Entry::Item(self.value()),
+        };
         let mut entries = Vec::new(self.alloc);
-        entries.push(Entry::Item(item))?;
-        Ok(StmtKind::Write(Par::Number(6), 9, entries))
+        entries.push(entry)?;
+        Ok(entries)
+    }
+
+    /// An implied DO over what stands before its variable.
+    fn implies(&mut self) -> Result<(), AllocError> {
+        let step = self.par();
+        let last = self.par();
+        let first = self.par();
+        let name = self.named()?;
+        let entries = self.entries()?;
+        self.implied = Some(Entry::Many(entries, name, first, last, step));
+        Ok(())
     }
 
     fn format(&mut self) -> Result<StmtKind, AllocError> {
@@ -466,9 +485,14 @@ impl Reading {
                 self.says_plain(kind)
             }
             b'!' => {
-                let kind = self.write()?;
-                self.says_plain(kind)
+                let entries = self.entries()?;
+                self.says_plain(StmtKind::Write(Par::Number(6), 9, entries))
             }
+            b'\'' => {
+                let entries = self.entries()?;
+                self.says_plain(StmtKind::Read(Par::Number(5), 9, entries))
+            }
+            b'Y' => self.implies(),
             b'T' => {
                 let kind = self.format()?;
                 self.says_plain(kind)

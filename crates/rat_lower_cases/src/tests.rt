@@ -3,6 +3,7 @@
 use crate::reading::{at, read};
 use f66_tree::{Header, Name, StmtKind, Unit};
 use ground::{Fault, List, Refusal, Text};
+use ports::Whole;
 use rat_lower::lower;
 use rat_tree::{RatProgram, RatStmt, RatUnit};
 use std::alloc::{AllocError, Global};
@@ -61,10 +62,11 @@ fn main_program(alloc: Global, text: &str) -> Result<RatProgram, AllocError> {
     Ok(program_of(units))
 }
 
-/// The run of a program's first unit, or the program's fault.
+/// The run of a program's first unit over two records, 7 and 8, or the program's fault.
 fn run_of(alloc: Global, program: &RatProgram, limit: u64) -> Result<Result<Walked, Fault>, Fail> {
+    let input = Whole::new(b" 7\n 8\n".to_vec(alloc)?);
     match lower(alloc, program) {
-        Ok(units) => match walk(alloc, units.first().ok_or("no unit")?, limit) {
+        Ok(units) => match walk(alloc, units.first().ok_or("no unit")?, input, limit) {
             Ok(walked) => Ok(Ok(walked)),
             Err(_) => Err("memory")?,
         },
@@ -247,7 +249,7 @@ fn traps(rt: HostRuntime) -> Result<(), Fail> {
 // The first fault, with its line.
 #[test]
 fn refusals(rt: HostRuntime) -> Result<(), Fail> {
-    let rows: [(&str, &str); 30] = [
+    let rows: [(&str, &str); 31] = [
         ("1X", "BadBreak at 1"),
         ("1N", "BadBreak at 1"),
         ("k1<{2X}W", "BadBreak at 2"),
@@ -276,9 +278,10 @@ fn refusals(rt: HostRuntime) -> Result<(), Fail> {
         ("9@0T", "BadFormat at 1"),
         ("V", "Unbuilt at 1"),
         ("x1: 1X {V}B", "Unbuilt at 4"),
-        // A function that is no intrinsic one, and a whole array in a list.
+        ("k'", "BadLabel at 1"),
+        ("9@. k'", "BadLabel at 2"),
+        // A function that is no intrinsic one.
         ("1X kx(1):", "Unbuilt at 2"),
-        ("k(2)J k!", "Unbuilt at 2"),
     ];
     expect_all(&rt, rt.alloc(), &rows)
 }
@@ -373,6 +376,43 @@ fn functions(rt: HostRuntime) -> Result<(), Fail> {
         ("9@2T A5: kA: k!", " 5/done"),
         ("A(2)J 9@2T A(1)5: A(1)!", " 5/done"),
         ("9@2T kM(1,1 0/): k!", "Division at 2"),
+    ];
+    expect_all(&rt, rt.alloc(), &rows)
+}
+
+// Lists of READ and WRITE, each item with a record of its own.
+#[test]
+fn transfers(rt: HostRuntime) -> Result<(), Fail> {
+    let rows: [(&str, &str); 9] = [
+        ("9@2T k' k!", " 7/done"),
+        ("9@2T k' i' i! k!", " 8/ 7/done"),
+        ("9@2T k' k' k' k!", "EndOfInput at 4"),
+        ("k(2)J 9@2T k' k!", " 7/ 8/done"),
+        ("k(3)J 9@2T k' k!", "EndOfInput at 3"),
+        ("k(3)J 9@2T k(i)i1 2 1Y' k(2)! k(1)!", " 8/ 7/done"),
+        ("k(3)J 9@2T i1 3 1{k(i)i:}D k(i)i1 3 2Y!", " 1/ 3/done"),
+        ("9@2T ii1 3 1Y! i!", " 1/ 2/ 3/Undefined at 3"),
+        ("9@2T ii2 1 1Y!", "BadDo at 2"),
+    ];
+    expect_all(&rt, rt.alloc(), &rows)
+}
+
+// Lists of READ and WRITE that break a rule.
+#[test]
+fn lists(rt: HostRuntime) -> Result<(), Fail> {
+    let rows: [(&str, &str); 11] = [
+        ("9@2T 1'", "Syntax at 2"),
+        ("9@2T 1!", "Syntax at 2"),
+        ("9@2T L'", "NameTooLong at 2"),
+        ("9@2T x'", "OutOfProfileType at 2"),
+        ("k(3)J 9@2T k(i)i1 x 1Y!", "OutOfProfileType at 3"),
+        ("9@2T M(1,2)!", "TypeClash at 2"),
+        ("aP 9@2T ka1 2 1Y!", "TypeClash at 3"),
+        ("k(3)J 9@2T k(i i*)i1 3 1Y'", "TypeClash at 3"),
+        ("k(3)J 9@2T k(i,j)i1 3 1Yj1 3 1Y'", "WrongCount at 3"),
+        // Nothing can be stored into a function's value, nor can a whole array count.
+        ("9@2T M(1,2)'", "NotAssignable at 2"),
+        ("k(3)J 9@2T ik1 3 1Y!", "NotAssignable at 3"),
     ];
     expect_all(&rt, rt.alloc(), &rows)
 }

@@ -1,3 +1,4 @@
+-- The labels of a statement are those of its parts, and one more of each clause of a switch.
 use Rattle.std.proofs.Common.{◌≡◌, ◌+◌, min, arith, ap, sym, ◌∙◌}
 use Rattle.rat_tree.specs.declared.program.RatCase.{out-RatCase}
 use Rattle.rat_tree.specs.Views.{commands}

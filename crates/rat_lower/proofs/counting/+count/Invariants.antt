@@ -1,3 +1,4 @@
+-- Each call goes to a smaller part; so far the labels of the statements and the clauses before are counted.
 use Rattle.std.proofs.Common.{drop, ◌+◌, ◌*◌}
 use Rattle.rat_tree.specs.Views.{command, commands, clauses}
 use Rattle.rat_lower.specs.Code.{all_labels, clause_labels}

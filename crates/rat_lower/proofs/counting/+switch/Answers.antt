@@ -1,3 +1,4 @@
+-- A block has a switch where its list has one.
 use Rattle.std.proofs.Common.{arith, sym, ◌∙◌}
 use Rattle.rat_lower.proofs.Blocks.{member_size}
 use Rattle.rat_lower.proofs.Members.{block_size, block_has}

@@ -1,3 +1,4 @@
+-- Each call goes to a smaller part; those left say whether a switch stands in the list.
 use Rattle.std.proofs.Common.{◌≡◌, drop, ◌+◌, ◌*◌}
 use Rattle.rat_tree.specs.Views.{command, commands}
 use Rattle.rat_lower.specs.Code.{have_switch}

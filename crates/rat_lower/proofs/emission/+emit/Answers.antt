@@ -1,3 +1,4 @@
+-- The code of a statement is that of its parts, in their order.
 use Rattle.std.proofs.Common.{◌+◌, arith, ap, sym, subst, length, drop}
 use Rattle.f66_tree.specs.Views.{formulas_of, lines_of}
 use Rattle.rat_tree.specs.declared.program.RatCase.{out-RatCase}

@@ -1,3 +1,4 @@
+-- Each call goes to a smaller part; so far the statements and the clauses before are emitted.
 use Rattle.std.proofs.Common.{drop, ◌+◌, ◌*◌}
 use Rattle.f66_tree.specs.Views.{lines_of}
 use Rattle.rat_tree.specs.Views.{command, commands, clauses}

@@ -1,3 +1,4 @@
+-- One test more is put.
 use Rattle.rat_lower.proofs.Blocks.{next_formulas, more_tests}
 use Rattle.rat_lower.proofs.lines.put_cases.Goals as goal
 

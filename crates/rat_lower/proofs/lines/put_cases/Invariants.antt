@@ -1,3 +1,4 @@
+-- So far the tests of the expressions before are put.
 use Rattle.std.proofs.Common.{◌≡◌, List, ◌++◌, drop}
 use Rattle.f66_tree.specs.Forms.{Line}
 use Rattle.f66_tree.specs.Views.{formulas_of, lines_of}

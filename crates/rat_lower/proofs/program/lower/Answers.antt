@@ -1,3 +1,4 @@
+-- A unit more without a fault is made, and serves.
 use Rattle.std.proofs.Common.{rules, arith, ◌≡◌, ◌+◌, ◌<◌, ℕ, List, [], ◌∷◌, ◌++◌, length, get_or, take, map, sym, ◌∙◌, subst}
 use Rattle.f66_tree.specs.declared.unit.Unit.{Unit as AUnit}
 use Rattle.rat_tree.specs.declared.program.RatUnit.{RatUnit}

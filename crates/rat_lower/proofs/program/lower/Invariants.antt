@@ -1,3 +1,4 @@
+-- The units before have no fault, and serve.
 use Rattle.std.proofs.Common.{◌≡◌, take, drop, map}
 use Rattle.rat_tree.specs.Views.{routine_of}
 use Rattle.rat_lower.specs.Lowered.{first_lower_fault}

@@ -1,3 +1,4 @@
+-- Those left say how the whole ends.
 use Rattle.std.proofs.Common.{◌≡◌, drop, false}
 use Rattle.f66_tree.specs.Views.{lines_of}
 use Rattle.rat_lower.specs.Code.{ends_so}

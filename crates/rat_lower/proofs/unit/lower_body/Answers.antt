@@ -1,3 +1,4 @@
+-- The statements of a unit are those that its commands become, and they end in a STOP.
 use Rattle.std.proofs.Common.{ap, subst, ◌∙◌}
 use Rattle.f66_tree.specs.Views.{lines_of}
 use Rattle.rat_tree.specs.Views.{commands}

@@ -1,3 +1,4 @@
+-- The next label is the one that the order of labels gives, and the order stays.
 use Rattle.rat_lower.proofs.MadeLabels.{order_kept, label_made}
 use Rattle.rat_lower.proofs.maker.Maker.fresh_label.Goals as goal
 

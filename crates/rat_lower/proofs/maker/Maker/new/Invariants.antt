@@ -1,3 +1,4 @@
+-- The labels before are kept.
 use Rattle.std.proofs.Common.{drop}
 use Rattle.rat_lower.proofs.MadeLabels.{Kept}
 use Rattle.rat_lower.proofs.maker.Maker.new.Given as goal
