@@ -2,7 +2,7 @@
 use Rattle.std.proofs.Common.{◌≡◌, ℕ, ◌+◌, ◌<◌, Bool, List, [], ◌∷◌, drop, length, get_or, Result, Err, sym, ◌∙◌, ap, subst}
 use Rattle.ground.specs.declared.place.Place.{Place}
 use Rattle.f66_tree.specs.Forms.{Line}
-use Rattle.f66_tree.specs.World.{Record, bind, settle, choose}
+use Rattle.f66_tree.specs.World.{bind, settle, choose}
 use Rattle.f66_tree.specs.Units.{Setting, notes_of}
 use Rattle.f66_tree.specs.Statements.{Loop, loop_turn}
 use Rattle.f66_tree.specs.Execution.{stand}
@@ -12,16 +12,16 @@ use Rattle.unit_walk.specs.declared.do_loop.Lead.TheVariants.{At, Over}
 use Rattle.unit_walk.specs.declared.stuck.Stuck.{Stuck}
 use Rattle.unit_walk.specs.declared.stuck.Stuck.TheVariants.{Trapped, Wrong}
 use Rattle.unit_walk.specs.Contents.{Values, tried}
-use Rattle.unit_walk.specs.Walking.{main_at, around_main}
+use Rattle.unit_walk.specs.Walking.{main_at, around_main, Alters}
 use Rattle.unit_walk.specs.Loops.{loop_of, Turns}
 use Rattle.unit_walk.specs.Running.{Part, Leads}
 use Rattle.unit_walk.specs.Leaving.{end_of_stuck}
 use Rattle.unit_walk.specs.Closing.{closing, Closes, ClosedTo}
-use Rattle.unit_walk.proofs.ComesLemmas.{comes_at_once, comes_then, comes_bound, comes_as}
+use Rattle.unit_walk.proofs.ComesLemmas.{comes_at_once, comes_on, comes_bound, comes_as, alters_none}
 
 module _ (passes : List Pass) (closings : List Closing) (next : ℕ) (p : Place) (values : Values) where
   pub close_begins : ClosedTo passes closings next p values 0 values
-  close_begins code size records = record { is = λ n run go pr loops w holds. comes_at_once (closing code closings next p (around_main (notes_of code) code n run) go pr) w values records holds }
+  close_begins code size = record { is = λ n run go pr loops w holds. comes_at_once (closing code closings next p (around_main (notes_of code) code n run) go pr) w (Alters w values) (alters_none w values holds) }
 
   -- what a turn leads to
   abbrev turned_to : List Line → Closing → List Closing → Result Bool Stuck → Part
@@ -29,25 +29,25 @@ module _ (passes : List Pass) (closings : List Closing) (next : ℕ) (p : Place)
 
   pub close_turns : (k : ℕ) (now : Values) (e : Closing) (pass : Pass) (r : Result Bool Stuck) (new : Values) → drop k closings ≡ e ∷ drop (k + 1) closings → e.index < length passes → pass ≡ get_or passes e.index pass
       → Turns e.variable.now pass now r new → ClosedTo passes closings next p values k now
-      → (code : List Line) → length code ≡ length passes → (records : List Record) → Leads code passes (closing code closings next p) (turned_to code e (drop (k + 1) closings) r) values records new records
-  close_turns k now e pass r new split within here turns so_far code size records = record {
+      → (code : List Line) → length code ≡ length passes → Leads code passes (closing code closings next p) (turned_to code e (drop (k + 1) closings) r) values new
+  close_turns k now e pass r new split within here turns so_far code size = record {
     is = λ n run go pr loops w holds.
         let s : Setting = around_main (notes_of code) code n run in
         let key : pr (length (drop (e.index + 1) code)) ≡ loop_of pass = loops e.index pass (subst (λ (m : ℕ). e.index < m) (sym size) within) here in
-        comes_then (closing code closings next p s go pr w) (closing code (drop k closings) next p s go pr) (turned_to code e (drop (k + 1) closings) r s go pr) w now records new records
-        ((so_far code size records).is n run go pr loops w holds)
+        comes_on (closing code closings next p s go pr w) (closing code (drop k closings) next p s go pr) (turned_to code e (drop (k + 1) closings) r s go pr) w now new
+        ((so_far code size).is n run go pr loops w holds)
         (λ w1 holds1. comes_as (closing code (drop k closings) next p s go pr w1)
         (bind (loop_turn s (main_at p) e.variable.now (loop_of pass) w1) (λ goes_on w2. choose goes_on (go (stand (drop (e.index + 1) code) pr) w2) (closing code (drop (k + 1) closings) next p s go pr w2)))
-        (turned_to code e (drop (k + 1) closings) r s go pr) w1 new records
+        (turned_to code e (drop (k + 1) closings) r s go pr) (Alters w1 new)
         (ap (λ (es : List Closing). closing code es next p s go pr w1) split
         ∙ ap (λ (l : Loop). bind (loop_turn s (main_at p) e.variable.now l w1) (λ goes_on w2. choose goes_on (go (stand (drop (e.index + 1) code) pr) w2) (closing code (drop (k + 1) closings) next p s go pr w2))) key)
-        (comes_bound (loop_turn s (main_at p) e.variable.now (loop_of pass) w1) (settle p (tried r)) (λ goes_on w2. choose goes_on (go (stand (drop (e.index + 1) code) pr) w2) (closing code (drop (k + 1) closings) next p s go pr w2)) w1 new records
-        (turns.is code n run p records w1 holds1)));
+        (comes_bound (loop_turn s (main_at p) e.variable.now (loop_of pass) w1) (settle p (tried r)) (λ goes_on w2. choose goes_on (go (stand (drop (e.index + 1) code) pr) w2) (closing code (drop (k + 1) closings) next p s go pr w2)) (Alters w1 new)
+        (turns.is code n run p w1 holds1)));
   }
 
   pub close_ends : (k : ℕ) (new : Values) → drop k closings ≡ [] → ClosedTo passes closings next p values k new → Closes passes closings next p values (At next) new
-  close_ends k new split so_far code size records =
-      subst (λ (es : List Closing). Leads code passes (closing code closings next p) (closing code es next p) values records new records) split (so_far code size records)
+  close_ends k new split so_far code size =
+      subst (λ (es : List Closing). Leads code passes (closing code closings next p) (closing code es next p) values new) split (so_far code size)
 
   -- a loop that is stuck ends the run
   pub close_stuck : (k : ℕ) (now : Values) (e : Closing) (pass : Pass) (s : Stuck) (new : Values) → drop k closings ≡ e ∷ drop (k + 1) closings → e.index < length passes → pass ≡ get_or passes e.index pass

@@ -1,3 +1,4 @@
+-- The lemmas of unit_walk.
 mod Spots
 mod ContentLemmas
 mod ComesLemmas
@@ -9,8 +10,13 @@ mod ValueLemmas
 mod StatementLemmas
 mod LoopLemmas
 mod ClosingLemmas
-mod WriteLemmas
 mod RunLemmas
+mod FormatLemmas
+mod TransferLemmas
+mod ItemLemmas
+mod TurnLemmas
+mod RecordLemmas
+mod RecordedLemmas
 mod WholeLemmas
 pub mod SoundUnits
 mod NameLemmas

@@ -8,7 +8,7 @@ use Rattle.ground.specs.declared.value.Value.{Value}
 use Rattle.ground.specs.declared.value.Value.TheVariants.{Int, Log}
 use Rattle.ground.specs.Content.{Content, Nothing, Whole}
 use Rattle.f66_tree.specs.Forms.{Text, Par, Line}
-use Rattle.f66_tree.specs.World.{Record, put_in, World, Out, Gives, Try, Yields, Traps, bind, settle, holding}
+use Rattle.f66_tree.specs.World.{put_in, World, Out, Gives, Try, Yields, Traps, bind, settle, holding}
 use Rattle.f66_tree.specs.Units.{Frame, Held, notes_of}
 use Rattle.f66_tree.specs.Evaluation.{par_in, store_at, asked}
 use Rattle.f66_tree.specs.Statements.{Loop, fit_loop_in, loop_start, turn_of, loop_turn}
@@ -20,10 +20,11 @@ use Rattle.unit_walk.specs.declared.stuck.Stuck.TheVariants.{Trapped, Wrong}
 use Rattle.unit_walk.specs.Contents.{Values, Sets, content, content_of, contents, tried, loaded, ◌then◌}
 use Rattle.unit_walk.specs.Meaning.{number_in, par_value}
 use Rattle.unit_walk.specs.Loops.{loop_of, fitted, fitted_in, counted, begun_loop, begun_with, next_value, Begins, Turns}
-use Rattle.unit_walk.specs.Walking.{Holds, main_at, around_main}
+use Rattle.unit_walk.specs.Walking.{HoldsValues, main_at, around_main}
 use Rattle.unit_walk.specs.Declarations.{context_of}
 use Rattle.unit_walk.proofs.ValueLemmas.{asked_is, par_is}
-use Rattle.unit_walk.proofs.StatementLemmas.{put_holds, same_counts}
+use Rattle.unit_walk.proofs.StatementLemmas.{put_holds}
+use Rattle.unit_walk.proofs.ComesLemmas.{alters_none}
 
 -- the end, or the store of the first value
 abbrev pub started : Place → Text → World → Result (ℤ × Pass) Stuck → Out Loop
@@ -60,15 +61,15 @@ module _ (code : List Line) (n : ℕ) (run : Frame → Stand → World → Out �
   after_par x (Err (Trapped t)) go next is = refl
   after_par x (Err Wrong) go next is = refl
 
-  module _ (records : List Record) (holds : Holds values records w) where
+  module _ (holds : HoldsValues values w.state.store) where
     starts : (x : Text) (a b c : Par) → loop_start (around_main (notes_of code) code n run) (main_at p) x a b c w ≡ started p x w (begun_loop (context_of code) values a b c)
     starts x a b c =
-        ap (λ (o : Out Content). bind o (λ va w2. bind (par_in (around_main (notes_of code) code n run) (main_at p) b w2) (λ vb w3. bind (par_in (around_main (notes_of code) code n run) (main_at p) c w3) (last_part x va vb)))) (par_is (notes_of code) code n run values p w holds.store a)
+        ap (λ (o : Out Content). bind o (λ va w2. bind (par_in (around_main (notes_of code) code n run) (main_at p) b w2) (λ vb w3. bind (par_in (around_main (notes_of code) code n run) (main_at p) c w3) (last_part x va vb)))) (par_is (notes_of code) code n run values p w holds a)
         ∙ after_par x (par_value (context_of code) values a) (λ va w2. bind (par_in (around_main (notes_of code) code n run) (main_at p) b w2) (λ vb w3. bind (par_in (around_main (notes_of code) code n run) (main_at p) c w3) (last_part x va vb)))
         (λ i. par_value (context_of code) values b then λ j. par_value (context_of code) values c then λ k. fitted_in i j k)
-        (λ i. ap (λ (o : Out Content). bind o (λ vb w3. bind (par_in (around_main (notes_of code) code n run) (main_at p) c w3) (last_part x (content i) vb))) (par_is (notes_of code) code n run values p w holds.store b)
+        (λ i. ap (λ (o : Out Content). bind o (λ vb w3. bind (par_in (around_main (notes_of code) code n run) (main_at p) c w3) (last_part x (content i) vb))) (par_is (notes_of code) code n run values p w holds b)
         ∙ after_par x (par_value (context_of code) values b) (λ vb w3. bind (par_in (around_main (notes_of code) code n run) (main_at p) c w3) (last_part x (content i) vb)) (λ j. par_value (context_of code) values c then λ k. fitted_in i j k)
-        (λ j. ap (λ (o : Out Content). bind o (last_part x (content i) (content j))) (par_is (notes_of code) code n run values p w holds.store c)
+        (λ j. ap (λ (o : Out Content). bind o (last_part x (content i) (content j))) (par_is (notes_of code) code n run values p w holds c)
         ∙ after_par x (par_value (context_of code) values c) (last_part x (content i) (content j)) (λ k. fitted_in i j k) (λ k. fits_in x i j k)))
 
     -- ---- turns ----
@@ -83,7 +84,7 @@ module _ (code : List Line) (n : ℕ) (run : Frame → Stand → World → Out �
     turned : (x : Text) (k : Loop) → loop_turn (around_main (notes_of code) code n run) (main_at p) x k w
         ≡ bind (settle p (tried (counted (values x 0))) w) (λ z w1. turn_of (around_main (notes_of code) code n run) (main_at p) (Held 0 x 0) k (Whole z) w1)
     turned x k =
-        ap (λ (c : Content). bind (settle p (asked AnInteger c) w) (λ v w1. turn_of (around_main (notes_of code) code n run) (main_at p) (Held 0 x 0) k v w1)) (holds.store.at x 0)
+        ap (λ (c : Content). bind (settle p (asked AnInteger c) w) (λ v w1. turn_of (around_main (notes_of code) code n run) (main_at p) (Held 0 x 0) k v w1)) (holds.at x 0)
         ∙ ap (λ (t : Try Content). bind (settle p t w) (λ v w1. turn_of (around_main (notes_of code) code n run) (main_at p) (Held 0 x 0) k v w1)) (asked_is AnInteger (values x 0))
         ∙ turns_by x k (loaded AnInteger (values x 0))
 
@@ -98,17 +99,16 @@ module _ (code : List Line) (n : ℕ) (run : Frame → Stand → World → Out �
 
 pub begins : (code : List Line) (values new : Values) (x : Text) (a b c : Par) (v : ℤ × Pass) → Sets values x 0 (Some (Int v.0)) new → Ok v ≡ begun_loop (context_of code) values a b c → Begins code x a b c values (Ok v.1) new
 begins code values new x a b c v sets is = record {
-  is = λ n run p records w holds. record {
+  is = λ n run p w holds. record {
     after = holding (put_in (list_number (0 ∷ x)) (Whole v.0) w.state.store) w;
-    is = starts code n run values p w records holds x a b c ∙ ap (started p x w) (sym is);
-    holds = record { store = put_holds values new w.state.store x 0 (Some (Int v.0)) sets holds.store; written = holds.written };
-    same = record { left = refl; count = refl };
+    is = starts code n run values p w holds x a b c ∙ ap (started p x w) (sym is);
+    holds = record { store = put_holds values new w.state.store x 0 (Some (Int v.0)) sets holds; tape = refl; left = refl; count = refl };
   };
 }
 
 pub begins_stuck : (code : List Line) (values : Values) (x : Text) (a b c : Par) (s : Stuck) → Err s ≡ begun_loop (context_of code) values a b c → Begins code x a b c values (Err s) values
 begins_stuck code values x a b c s is = record {
-  is = λ n run p records w holds. record { after = w; is = starts code n run values p w records holds x a b c ∙ ap (started p x w) (sym is) ∙ same_end s p w; holds = holds; same = same_counts w };
+  is = λ n run p w holds. record { after = w; is = starts code n run values p w holds x a b c ∙ ap (started p x w) (sym is) ∙ same_end s p w; holds = alters_none w values holds };
 }
   where
     same_end : (q : Stuck) (p : Place) (w : World) → settle p (tried {A = Loop} (Err q)) w ≡ settle p (tried (begun_with (Err q))) w
@@ -117,28 +117,26 @@ begins_stuck code values x a b c s is = record {
 
 pub turns_now : (values new : Values) (x : Text) (k : Pass) (z : ℤ) (o : Option ℤ) → Ok z ≡ counted (values x 0) → o ≡ next_value (loop_of k) z → Sets values x 0 (option_map Int o) new → Turns x k values (Ok (is_some o)) new
 turns_now values new x k z o is next sets = record {
-  is = λ code n run p records w holds. record {
+  is = λ code n run p w holds. record {
     after = holding (put_in (list_number (0 ∷ x)) (content_of (option_map Int o)) w.state.store) w;
     is =
-        turned code n run values p w records holds x (loop_of k)
+        turned code n run values p w holds x (loop_of k)
         ∙ ap (λ (r : Result ℤ Stuck). bind (settle p (tried r) w) (λ y w1. turn_of (around_main (notes_of code) code n run) (main_at p) (Held 0 x 0) (loop_of k) (Whole y) w1)) (sym is)
-        ∙ turns_to code n run values p w records holds x (loop_of k) z
+        ∙ turns_to code n run values p w holds x (loop_of k) z
         ∙ ap (λ (q : Option ℤ). Gives (is_some q) (holding (put_in (list_number (0 ∷ x)) (content_of (option_map Int q)) w.state.store) w)) (sym next);
-    holds = record { store = put_holds values new w.state.store x 0 (option_map Int o) sets holds.store; written = holds.written };
-    same = record { left = refl; count = refl };
+    holds = record { store = put_holds values new w.state.store x 0 (option_map Int o) sets holds; tape = refl; left = refl; count = refl };
   };
 }
 
 pub turn_stuck : (values : Values) (x : Text) (k : Pass) (s : Stuck) → Err s ≡ counted (values x 0) → Turns x k values (Err s) values
 turn_stuck values x k s is = record {
-  is = λ code n run p records w holds. record {
+  is = λ code n run p w holds. record {
     after = w;
     is =
-        turned code n run values p w records holds x (loop_of k)
+        turned code n run values p w holds x (loop_of k)
         ∙ ap (λ (r : Result ℤ Stuck). bind (settle p (tried r) w) (λ y w1. turn_of (around_main (notes_of code) code n run) (main_at p) (Held 0 x 0) (loop_of k) (Whole y) w1)) (sym is)
         ∙ same_end s (λ z w1. turn_of (around_main (notes_of code) code n run) (main_at p) (Held 0 x 0) (loop_of k) (Whole z) w1) p w;
-    holds = holds;
-    same = same_counts w;
+    holds = alters_none w values holds;
   };
 }
   where

@@ -10,18 +10,13 @@ use Rattle.ground.specs.declared.value.Value.{Value}
 use Rattle.f66_tree.specs.declared.declaration.Par.{Par}
 use Rattle.f66_tree.specs.declared.expression.Expr.{Expr}
 use Rattle.f66_tree.specs.declared.expression.Expr.TheVariants.{Item}
-use Rattle.f66_tree.specs.declared.format.Field.{Field}
-use Rattle.f66_tree.specs.declared.format.Field as f
-use Rattle.f66_tree.specs.declared.statement.Entry.{Entry}
-use Rattle.f66_tree.specs.declared.editing.EditKind.TheVariants as edits
-use Rattle.f66_tree.specs.Fields.{Fields, NoField, Single, Takes}
 use Rattle.f66_tree.specs.Forms as forms
-use Rattle.f66_tree.specs.Forms.{Text, Formulas, Applied, Also, One, Many, Entries, NoEntry, AndEntry}
+use Rattle.f66_tree.specs.Forms.{Text, Formulas, Applied, Also}
 use Rattle.f66_tree.specs.Units.{Note, Context, sizes_of, places_of}
 use Rattle.f66_tree.specs.Evaluation.{Sort, AnArray, AnIntrinsic, AFunction, known, intrinsics, array_or}
 use Rattle.f66_tree.specs.Evaluation as meaning
-use Rattle.f66_tree.specs.Views.{par_of, formula_of, formulas_of, field_then, fields_of, entry_of, entries_of}
-use Rattle.f66_tree.specs.Built.{is_par, is_one_field}
+use Rattle.f66_tree.specs.Views.{par_of, formula_of, formulas_of}
+use Rattle.f66_tree.specs.Built.{is_par}
 use Rattle.f66_tree.proofs.Rows.{item_formula}
 use Rattle.unit_walk.specs.declared.stuck.Stuck.{Stuck}
 use Rattle.unit_walk.specs.declared.stuck.Stuck.TheVariants.{Wrong}
@@ -30,8 +25,8 @@ use Rattle.unit_walk.specs.declared.operate.Intrinsic.TheVariants.{Iabs, Mod, Is
 use Rattle.unit_walk.specs.Contents.{Values, ◌then◌}
 use Rattle.unit_walk.specs.Meaning.{value, values_of, par_value, par_values}
 use Rattle.unit_walk.specs.Sorts.{meant, takes_few}
-use Rattle.unit_walk.specs.Steps.{is_one_entry, element}
-use Rattle.unit_walk.specs.Walked.{are_few, is_count, is_formula, are_formulas, are_pars, are_dimensions}
+use Rattle.unit_walk.specs.Steps.{element}
+use Rattle.unit_walk.specs.Walked.{are_few, is_count, is_formula, are_formulas, are_pars, are_sizes, are_dimensions}
 
 -- ---- names with arguments ----
 
@@ -118,39 +113,7 @@ module _ (c : Context) (values : Values) where
       ∙ ap (λ (r : Result Value Stuck). (r then (λ u. par_values c values (map par_of (drop (i + 1) all)) then (λ vs. Ok (u ∷ vs)))) then (λ vs. Ok (take i kept ++ vs))) (sym is)
       ∙ kept_more (par_values c values (map par_of (drop (i + 1) all))) i kept v inside
 
--- ---- formats and lists of one item ----
-
-whole_then : (n w : ℕ) (b : Field) (rest : Fields) → is_one_field (Single n (Takes edits.Whole w) (field_then b rest)) ≡ true → ⊥
-whole_then n w (f.Whole m v) rest is = cc is
-whole_then n w (f.Truth m v) rest is = cc is
-whole_then n w (f.Letter m) rest is = cc is
-whole_then n w (f.Skip m) rest is = cc is
-whole_then n w (f.Chars text) rest is = cc is
-whole_then n w f.Slash rest is = cc is
-whole_then n w (f.Group' m shape inside) rest is = cc is
-
-two_fields : (a b : Field) (rest : Fields) → is_one_field (field_then a (field_then b rest)) ≡ true → ⊥
-two_fields (f.Whole n w) b rest is = whole_then n w b rest is
-two_fields (f.Truth n w) b rest is = cc is
-two_fields (f.Letter n) b rest is = cc is
-two_fields (f.Skip n) b rest is = cc is
-two_fields (f.Chars text) b rest is = cc is
-two_fields f.Slash b rest is = cc is
-two_fields (f.Group' n shape inside) b rest is = cc is
-
-pub one_of : (all : List Field) (x : Field) → is_one_field (fields_of all) ≡ true → x ≡ get_or all 0 x → fields_of all ≡ field_then x NoField
-one_of [] x built is = cc built
-one_of (a ∷ []) x built is = ap (λ (e : Field). field_then e NoField) (sym is)
-one_of (a ∷ b ∷ rest) x built is = absurd (two_fields a b (fields_of rest) built)
-
-two_entries : (a b : forms.Entry) (rest : Entries) → is_one_entry (AndEntry a (AndEntry b rest)) ≡ true → ⊥
-two_entries (One e) b rest is = cc is
-two_entries (Many es x d e g) b rest is = cc is
-
-pub one_entry : (all : List Entry) (x : Entry) → is_one_entry (entries_of all) ≡ true → x ≡ get_or all 0 x → entries_of all ≡ AndEntry (entry_of x) NoEntry
-one_entry [] x one is = cc one
-one_entry (a ∷ []) x one is = ap (λ (e : Entry). AndEntry (entry_of e) NoEntry) (sym is)
-one_entry (a ∷ b ∷ rest) x one is = absurd (two_entries (entry_of a) (entry_of b) (entries_of rest) one)
+-- ---- arrays ----
 
 -- an element of an array that a unit declares
 pub array_arguments : (notes : List Note) (x : Text) (list : List Expr) (sizes : List Par) → 0 < length sizes → map par_of sizes ≡ sizes_of x notes → is_formula notes (Applied x (formulas_of list)) ≡ true → length list ≤ 3
@@ -160,16 +123,18 @@ array_arguments notes x list sizes full same walked =
 
 pub record Fits (sizes : List Par) : Type 0 where
   pub pars : are_pars (map par_of sizes) ≡ true
+  pub constants : are_sizes (map par_of sizes) ≡ true
   pub few : length sizes ≤ 3
   pub places : places_of (map par_of sizes) ≤ 32767
 
 pub dimensions_fit : (sizes : List Par) → are_dimensions (map par_of sizes) ≡ true → Fits sizes
 dimensions_fit sizes fit =
-    let bounds : nat_le (length (map par_of sizes)) 3 && nat_le (places_of (map par_of sizes)) 32767 ≡ true = (and_parts (are_pars (map par_of sizes)) (nat_le (length (map par_of sizes)) 3 && nat_le (places_of (map par_of sizes)) 32767) fit).1 in
-    let short : nat_le (length (map par_of sizes)) 3 ≡ true = (and_parts (nat_le (length (map par_of sizes)) 3) (nat_le (places_of (map par_of sizes)) 32767) bounds).0 in
-    let small : nat_le (places_of (map par_of sizes)) 32767 ≡ true = (and_parts (nat_le (length (map par_of sizes)) 3) (nat_le (places_of (map par_of sizes)) 32767) bounds).1 in
+    let first = and_parts (are_pars (map par_of sizes)) (are_sizes (map par_of sizes) && (nat_le (length (map par_of sizes)) 3 && nat_le (places_of (map par_of sizes)) 32767)) fit in
+    let second = and_parts (are_sizes (map par_of sizes)) (nat_le (length (map par_of sizes)) 3 && nat_le (places_of (map par_of sizes)) 32767) first.1 in
+    let short : nat_le (length (map par_of sizes)) 3 ≡ true = (and_parts (nat_le (length (map par_of sizes)) 3) (nat_le (places_of (map par_of sizes)) 32767) second.1).0 in
+    let small : nat_le (places_of (map par_of sizes)) 32767 ≡ true = (and_parts (nat_le (length (map par_of sizes)) 3) (nat_le (places_of (map par_of sizes)) 32767) second.1).1 in
     let long : length (map par_of sizes) ≡ length sizes = length-map sizes par_of in
-    record { pars = (and_parts (are_pars (map par_of sizes)) (nat_le (length (map par_of sizes)) 3 && nat_le (places_of (map par_of sizes)) 32767) fit).0; few = grind (arith, nat_tests); places = grind (arith, nat_tests) }
+    record { pars = first.0; constants = second.0; few = grind (arith, nat_tests); places = grind (arith, nat_tests) }
 
 known_is : (table : List (Text × meaning.Intrinsic)) (x : Text) (ns : List forms.Par) → known table x ≡ AnArray ns → ⊥
 known_is [] x ns is = cc is

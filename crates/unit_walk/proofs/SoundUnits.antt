@@ -1,27 +1,28 @@
 -- A sound unit is one that is walked.
-use Rattle.std.proofs.Common.{◌≡◌, ◌≤◌, ℕ, zero, suc, Bool, true, false, ◌||◌, nat_le, nat_lt, nat_eq, List, [], ◌∷◌, length, Some, slice_get, refl, ap, ap₂, subst, arith}
-use Rattle.std.specs.Prelude.{not, ⊤}
+use Rattle.std.proofs.Common.{◌≡◌, ◌≤◌, ℕ, zero, suc, Bool, true, false, ◌||◌, nat_le, nat_lt, List, [], ◌∷◌, length, Some, slice_get, refl, ap, ap₂, subst, arith}
+use Rattle.std.specs.Prelude.{pos, negsuc, ⊤}
 use Rattle.std.specs.List.{list_any, list_all}
 use Rattle.std.specs.Str.{bytes_eq}
 use Rattle.std.proofs.lemmas.Bool.{and_parts, and_from, or_parts, not-false, eqb-true, leb-true, le-leb, ltb-false}
-use Rattle.ground.specs.declared.fault.FaultKind.TheVariants.{Syntax, WrongCount, BadFormat, NotAssignable, Limit}
-use Rattle.f66_tree.specs.declared.editing.EditKind.TheVariants as edits
-use Rattle.f66_tree.specs.Fields.{Takes, Fields, NoField, Single}
-use Rattle.f66_tree.specs.Forms.{Text, Formula, Number, Fact, Letter, Variable, Applied, Grouped, Positive, Negative, Negated, Joined, Formulas, Nought, Also, Par, Constant, Named, Declared, MainUnit, One, Many, Entries, NoEntry, AndEntry, Act, Assigns, Goes, Selects, Signs, Chooses, Loops, Invokes, Passes, Stops, Returns, Reads, Writes, Formats, Types, Dimensions, Commons, Equivalences, Presets, Line, Routine}
+use Rattle.ground.specs.declared.fault.FaultKind.TheVariants.{Syntax, TypeClash, WrongCount, BadConstant, BadFormat, NotAssignable, Limit}
+use Rattle.f66_tree.specs.declared.editing.Way.{Way}
+use Rattle.f66_tree.specs.declared.editing.Way.TheVariants.{Reading, Writing}
+use Rattle.f66_tree.specs.Fields.{Fields, NoField, Single, Group}
+use Rattle.f66_tree.specs.Forms.{Text, Formula, Number, Fact, Letter, Variable, Applied, Grouped, Positive, Negative, Negated, Joined, Formulas, Nought, Also, Par, Constant, Named, Declared, MainUnit, Entry, One, Many, Entries, NoEntry, AndEntry, Act, Assigns, Goes, Selects, Signs, Chooses, Loops, Invokes, Passes, Stops, Returns, Reads, Writes, Formats, Types, Dimensions, Commons, Equivalences, Presets, Line, Routine}
 use Rattle.f66_tree.specs.Units.{Note, Context, is_note, notes_of, if_any, sizes_in, sizes_by, sizes_of, places_of}
 use Rattle.f66_tree.specs.Evaluation.{Sort, AnArray, AnIntrinsic, AFunction, Intrinsic, Iabs, Mod, Isign, Idim, Max0, Min0, known, intrinsics, array_or, sort_of}
-use Rattle.f66_tree.specs.Built.{is_par, is_printer, is_one_field, is_scalar}
+use Rattle.f66_tree.specs.Built.{is_par}
 use Rattle.f66_names.specs.Declaring.{context_by}
 use Rattle.f66_names.specs.Shapes as shapes
 use Rattle.f66_names.specs.Shapes.{stands, stand_all, are_arguments, is_named, is_place, is_parameter, is_branch, has_shape}
-use Rattle.f66_names.specs.Sorts.{form_by, form_of, is_array_form, takes}
+use Rattle.f66_names.specs.Sorts.{form_by, form_of, is_array, takes}
+use Rattle.f66_names.specs.Kinds as kind_rules
+use Rattle.f66_names.specs.Kinds.{is_listed, clashes}
 use Rattle.f66_names.specs.declared.name_form.Manner.TheVariants.{With, Stored}
-use Rattle.f66_names.specs.Uses.{usage, many, uses_of, uses_of_all, uses_of_target, uses_of_par, uses_of_entries, uses_in}
+use Rattle.f66_names.specs.Uses.{usage, many, uses_of, uses_of_all, uses_of_target, uses_of_par, uses_of_entry, uses_of_entries, uses_in}
 use Rattle.f66_names.specs.NameRules.{has_many_sizes, has_wrong_sizes, miscounts}
-use Rattle.f66_names.specs.StoreRules.{one_field, is_bad_field, is_assignable, stores_wrong, is_large, has_bad_format, has_large_array}
-use Rattle.f66_names.specs.BuiltActs as names
-use Rattle.f66_names.specs.BuiltActs.{is_one_place, is_built_form}
-use Rattle.rule_table.specs.Words.{is_some_and}
+use Rattle.f66_names.specs.StoreRules.{is_bad_size, has_bad_size, has_bad_constant, is_between, is_fit_edit, are_fit, is_assignable, stores_item, stores_entry, store_entries, stores_wrong, is_large, has_bad_format, has_large_array}
+use Rattle.f66_names.specs.BuiltActs.{is_built_form}
 use Rattle.f66_sound.specs.SoundUnits.{acts_of, IsSoundMain}
 use Rattle.f66_sound.proofs.RightlyLemmas.{if_both}
 use Rattle.f66_sound.proofs.KindLemmas.{none_of_both}
@@ -30,17 +31,19 @@ use Rattle.f66_sound.proofs.StatementLemmas.{stored_takes}
 use Rattle.f66_sound.proofs.SoundLemmas.{sizes_same}
 use Rattle.f66_check.specs.Answers.{IsSound}
 use Rattle.f66_check.proofs.SoundLemmas.{sound_main}
-use Rattle.unit_walk.specs.Walked.{are_few, is_count, are_pars, are_dimensions, are_declared, is_formula, are_formulas, is_item, is_one_item, is_plain, is_walked, are_walked, is_walked_unit}
+use Rattle.unit_walk.specs.Walked.{are_few, is_count, are_pars, are_dimensions, are_declared, is_size, are_sizes, is_shallow, is_formula, are_formulas, is_entry, are_entries, is_plain, is_walked, are_walked, is_walked_unit}
 
 -- what the rules say of one statement
 pub record Fits (c : Context) (a : Act) : Type 0 where
   pub shape : has_shape a ≡ true
+  pub kinds : clashes c a ≡ false
   pub counts : FitCounts c (uses_in a)
   pub sizes : has_wrong_sizes a ≡ false
   pub places : has_large_array a ≡ false
+  pub constants : has_bad_constant a ≡ false
   pub format : has_bad_format a ≡ false
   pub stores : stores_wrong c a ≡ false
-  pub built : is_built_form c a ≡ true
+  pub built : is_built_form a ≡ true
 
 -- ---- dimensions ----
 
@@ -90,15 +93,26 @@ pars_walked : (ns : List Par) → list_all is_parameter ns ≡ true → are_pars
 pars_walked [] h = refl
 pars_walked (n ∷ ns) h = let p = and_parts (is_parameter n) _ h in and_from _ _ (par_walked n p.0) (pars_walked ns p.1)
 
-declared_walked : (ds : List Declared) → list_all shapes.is_declared ds ≡ true → list_any has_many_sizes ds ≡ false → list_any is_large ds ≡ false → are_declared ds ≡ true
-declared_walked [] h i j = refl
-declared_walked (d ∷ ds) h i j =
+size_walked : (n : Par) → is_bad_size n ≡ false → is_size n ≡ true
+size_walked (Constant (pos zero)) h = cc h
+size_walked (Constant (pos (suc n))) h = le-leb 1 (suc n) (omega arith)
+size_walked (Constant (negsuc n)) h = cc h
+size_walked (Named x) h = cc h
+
+sizes_walked : (ns : List Par) → list_any is_bad_size ns ≡ false → are_sizes ns ≡ true
+sizes_walked [] h = refl
+sizes_walked (n ∷ ns) h = let p = or_parts (is_bad_size n) _ h in and_from _ _ (size_walked n p.0) (sizes_walked ns p.1)
+
+declared_walked : (ds : List Declared) → list_all shapes.is_declared ds ≡ true → list_any has_many_sizes ds ≡ false → list_any is_large ds ≡ false → list_any has_bad_size ds ≡ false → are_declared ds ≡ true
+declared_walked [] h i j k = refl
+declared_walked (d ∷ ds) h i j k =
     let p = and_parts (shapes.is_declared d) _ h in
     let q = or_parts (has_many_sizes d) _ i in
     let r = or_parts (is_large d) _ j in
+    let t = or_parts (has_bad_size d) _ k in
     and_from (are_dimensions d.sizes) _
-    (and_from _ _ (pars_walked d.sizes (and_parts _ _ p.0).1) (and_from _ _ (not_above 3 (length d.sizes) q.0) (not_above 32767 (places_of d.sizes) r.0)))
-    (declared_walked ds p.1 q.1 r.1)
+    (and_from _ _ (pars_walked d.sizes (and_parts _ _ p.0).1) (and_from _ _ (sizes_walked d.sizes t.0) (and_from _ _ (not_above 3 (length d.sizes) q.0) (not_above 32767 (places_of d.sizes) r.0))))
+    (declared_walked ds p.1 q.1 r.1 t.1)
 
 some_declared : (ds : List Declared) → shapes.are_declared ds ≡ true → list_all shapes.is_declared ds ≡ true
 some_declared [] h = refl
@@ -139,9 +153,13 @@ arguments_stand : (es : Formulas) → are_arguments es ≡ true → stand_all es
 arguments_stand Nought h = refl
 arguments_stand (Also e es) h = h
 
-one_field_walked : (f : Fields) → is_some_and (λ field. nat_eq field.0 1) (one_field f) ≡ true → is_some_and is_bad_field (one_field f) ≡ false → is_one_field f ≡ true
-one_field_walked (Single n (Takes edits.Whole w) NoField) h i = and_from _ _ h (and_parts (nat_le 1 w) _ (not-false _ (or_parts (nat_eq n 0) _ i).1)).0
-one_field_walked _ h i = cc h
+format_walked : (n : ℕ) (fs : Fields) → are_fit n fs ≡ true → is_shallow n fs ≡ true
+format_walked n NoField h = refl
+format_walked n (Single m t fs) h = format_walked n fs (and_parts (is_fit_edit m t) _ h).1
+format_walked zero (Group m inside fs) h = cc h
+format_walked (suc n) (Group m inside fs) h =
+    let p = and_parts (are_fit n inside) _ (and_parts (is_between 1 999 m) _ h).1 in
+    and_from _ _ (format_walked n inside p.0) (format_walked (suc n) fs p.1)
 
 -- neither a DO nor a logical IF
 abbrev is_single : Act → Bool
@@ -155,12 +173,12 @@ branch_single (Loops l x a b d) h = cc h
 branch_single _ h = refl
 
 -- no declaration and no FORMAT stands under a logical IF
-branch_fits : (c : Context) (a : Act) → is_branch a ≡ true → has_shape a ≡ true → FitCounts c (uses_in a) → stores_wrong c a ≡ false → is_built_form c a ≡ true → Fits c a
-branch_fits c (Types t ds) h shape counts stores built = let q : ⊥ = cc h in absurd q
-branch_fits c (Dimensions ds) h shape counts stores built = let q : ⊥ = cc h in absurd q
-branch_fits c (Commons areas) h shape counts stores built = let q : ⊥ = cc h in absurd q
-branch_fits c (Formats f) h shape counts stores built = let q : ⊥ = cc h in absurd q
-branch_fits c _ h shape counts stores built = record { shape = shape; counts = counts; sizes = refl; places = refl; format = refl; stores = stores; built = built }
+branch_fits : (c : Context) (a : Act) → is_branch a ≡ true → has_shape a ≡ true → clashes c a ≡ false → FitCounts c (uses_in a) → stores_wrong c a ≡ false → is_built_form a ≡ true → Fits c a
+branch_fits c (Types t ds) h shape kinds counts stores built = let q : ⊥ = cc h in absurd q
+branch_fits c (Dimensions ds) h shape kinds counts stores built = let q : ⊥ = cc h in absurd q
+branch_fits c (Commons areas) h shape kinds counts stores built = let q : ⊥ = cc h in absurd q
+branch_fits c (Formats f) h shape kinds counts stores built = let q : ⊥ = cc h in absurd q
+branch_fits c _ h shape kinds counts stores built = record { shape = shape; kinds = kinds; counts = counts; sizes = refl; places = refl; constants = refl; format = refl; stores = stores; built = built }
 
 -- ---- statements ----
 
@@ -200,20 +218,39 @@ module _ (c : Context) (notes : List Note) (sorts : (x : Text) → sort_of c x �
       and_from _ _ (takes_walked x es (stored_takes (form_of c x) (many es) i p.0)) (formulas_walked es (arguments_stand es (and_parts _ (are_arguments es) h).1) p.1)
   target_walked _ h i k = cc h
 
-  item_walked : (e : Formula) → is_place e ≡ true → is_one_place c e ≡ true → FitCounts c (uses_of e) → is_item notes e ≡ true
-  item_walked (Variable x) h i k = no_dimensions (sizes_of x notes) (subst (λ o. not (is_array_form (form_by o)) ≡ true) (sorts x) i)
-    where
-      no_dimensions : (ns : List Par) → not (is_array_form (form_by (array_or ns x))) ≡ true → is_scalar ns ≡ true
-      no_dimensions [] j = refl
-      no_dimensions (n ∷ ns) j = cc j
-  item_walked (Applied x es) h i k = formula_walked 7 (Applied x es) (and_parts (is_named (Applied x es)) _ h).1 k
-  item_walked _ h i k = cc h
+  -- an item with parentheses is an element
+  element_listed : (way : Way) (x : Text) (es : Formulas) → is_listed way c (Applied x es) ≡ true → stores_item way c (Applied x es) ≡ true → is_array c x ≡ true
+  element_listed Writing x es h i = (and_parts (is_array c x) _ h).0
+  element_listed Reading x es h i = i
 
-  items_walked : (es : Entries) → shapes.are_items es ≡ true → names.is_one_item c es ≡ true → FitCounts c (uses_of_entries es) → is_one_item notes es ≡ true
-  items_walked (AndEntry (One e) NoEntry) h i k = item_walked e (and_parts (is_place e) _ h).0 i (none_of_both (miscounts c) (uses_of e) [] k).0
-  items_walked (AndEntry (One e) (AndEntry d es)) h i k = cc i
-  items_walked (AndEntry (Many list x a b d) es) h i k = (and_parts (names.is_last es) false i).1
-  items_walked NoEntry h i k = cc i
+  item_walked : (way : Way) (e : Formula) → is_place e ≡ true → is_listed way c e ≡ true → stores_item way c e ≡ true → FitCounts c (uses_of_target e) → is_formula notes e ≡ true
+  item_walked way (Variable x) h i j k = refl
+  item_walked way (Applied x es) h i j k = target_walked (Applied x es) h (element_listed way x es i j) k
+  item_walked way _ h i j k = cc h
+
+  some_items : (es : Entries) → shapes.are_some_items es ≡ true → shapes.are_items es ≡ true
+  some_items NoEntry h = cc h
+  some_items (AndEntry e es) h = h
+
+  mutual
+    entry_walked : (way : Way) (e : Entry) → shapes.is_item e ≡ true → kind_rules.is_entry way c e ≡ true → stores_entry way c e ≡ true → FitCounts c (uses_of_entry e) → is_entry notes e ≡ true
+    entry_walked way (One e) h i j k = item_walked way e h i j k
+    entry_walked way (Many es x a b d) h i j k =
+        let p = and_parts (shapes.are_some_items es) _ h in
+        let q = and_parts (is_parameter a) _ (and_parts (shapes.is_name x) _ p.1).1 in
+        let r = and_parts (is_parameter b) (is_parameter d) q.1 in
+        and_from _ _
+        (entries_walked way es (some_items es p.0) (and_parts (kind_rules.are_entries way c es) _ i).0 (and_parts (store_entries way c es) _ j).0 (none_of_both (miscounts c) (uses_of_entries es) _ k).0)
+        (and_from _ _ (par_walked a q.0) (and_from _ _ (par_walked b r.0) (par_walked d r.1)))
+
+    entries_walked : (way : Way) (es : Entries) → shapes.are_items es ≡ true → kind_rules.are_entries way c es ≡ true → store_entries way c es ≡ true → FitCounts c (uses_of_entries es) → are_entries notes es ≡ true
+    entries_walked way NoEntry h i j k = refl
+    entries_walked way (AndEntry e es) h i j k =
+        let p = and_parts (shapes.is_item e) _ h in
+        let q = and_parts (kind_rules.is_entry way c e) _ i in
+        let r = and_parts (stores_entry way c e) _ j in
+        let t = none_of_both (miscounts c) (uses_of_entry e) (uses_of_entries es) k in
+        and_from _ _ (entry_walked way e p.0 q.0 r.0 t.0) (entries_walked way es p.1 q.1 r.1 t.1)
 
   plain_walked : (a : Act) → is_single a ≡ true → Fits c a → is_plain notes a ≡ true
   plain_walked (Assigns x e) h f =
@@ -229,13 +266,17 @@ module _ (c : Context) (notes : List Note) (sorts : (x : Text) → sort_of c x �
   plain_walked Passes h f = refl
   plain_walked (Stops n) h f = refl
   plain_walked Returns h f = refl
-  plain_walked (Reads u l es) h f = f.built
+  plain_walked (Reads u l es) h f =
+      let p = and_parts (is_parameter u) _ f.shape in
+      let q = and_parts (kind_rules.is_counting c u) _ (not-false _ f.kinds) in
+      and_from _ _ (par_walked u p.0) (entries_walked Reading es p.1 q.1 (not-false _ f.stores) (none_of_both (miscounts c) (uses_of_par u) _ f.counts).1)
   plain_walked (Writes u l es) h f =
-      let p = and_parts (is_printer u) _ f.built in
-      and_from _ _ p.0 (items_walked es (and_parts (is_parameter u) _ f.shape).1 p.1 (none_of_both (miscounts c) (uses_of_par u) _ f.counts).1)
-  plain_walked (Formats fs) h f = one_field_walked fs f.built f.format
-  plain_walked (Types t ds) h f = declared_walked ds (some_declared ds f.shape) f.sizes f.places
-  plain_walked (Dimensions ds) h f = declared_walked ds (some_declared ds f.shape) (dimensions_few ds f.sizes) f.places
+      let p = and_parts (is_parameter u) _ f.shape in
+      let q = and_parts (kind_rules.is_counting c u) _ (not-false _ f.kinds) in
+      and_from _ _ (par_walked u p.0) (entries_walked Writing es p.1 q.1 (not-false _ f.stores) (none_of_both (miscounts c) (uses_of_par u) _ f.counts).1)
+  plain_walked (Formats fs) h f = format_walked 2 fs (not-false _ f.format)
+  plain_walked (Types t ds) h f = declared_walked ds (some_declared ds f.shape) f.sizes f.places f.constants
+  plain_walked (Dimensions ds) h f = declared_walked ds (some_declared ds f.shape) (dimensions_few ds f.sizes) f.places f.constants
   plain_walked (Commons areas) h f = f.built
   plain_walked (Equivalences es) h f = f.built
   plain_walked (Presets ps) h f = f.built
@@ -245,7 +286,7 @@ module _ (c : Context) (notes : List Note) (sorts : (x : Text) → sort_of c x �
       let p = and_parts (stands 0 e) _ f.shape in
       let q = and_parts (is_branch a) _ p.1 in
       let r = none_of_both (miscounts c) (uses_of e) (uses_in a) f.counts in
-      and_from _ _ (formula_walked 0 e p.0 r.0) (plain_walked a (branch_single a q.0) (branch_fits c a q.0 q.1 r.1 f.stores f.built))
+      and_from _ _ (formula_walked 0 e p.0 r.0) (plain_walked a (branch_single a q.0) (branch_fits c a q.0 q.1 (or_parts _ _ f.kinds).1 r.1 f.stores f.built))
   act_walked (Loops l x a b d) f =
       let p = and_parts (is_parameter a) _ (and_parts (shapes.is_name x) _ f.shape).1 in
       let q = and_parts (is_parameter b) (is_parameter d) p.1 in
@@ -277,9 +318,11 @@ act_fits : (c : Context) (code : List Line) → IsSoundMain c code → (i : ℕ)
 act_fits c code h i a e =
     let counts = or_parts (has_wrong_sizes a) _ (h.clean i a e WrongCount) in record {
       shape = not-false _ (h.clean i a e Syntax);
+      kinds = h.clean i a e TypeClash;
       counts = counts.1;
       sizes = counts.0;
       places = h.clean i a e Limit;
+      constants = h.clean i a e BadConstant;
       format = h.clean i a e BadFormat;
       stores = h.clean i a e NotAssignable;
       built = (and_parts _ _ (h.built i a e)).0;

@@ -8,7 +8,7 @@ use Rattle.ground.specs.declared.value.Value.{Value}
 use Rattle.ground.specs.declared.value.Value.TheVariants.{Int, Log}
 use Rattle.ground.specs.Content.{Content}
 use Rattle.f66_tree.specs.Forms.{Text, Formula, Number, Fact, Letter, Variable, Applied, Grouped, Positive, Negative, Negated, Joined, Act, Assigns, Selects, Signs, Line}
-use Rattle.f66_tree.specs.World.{Record, Store, put_in, World, Out, Gives, Try, bind, settle, holding}
+use Rattle.f66_tree.specs.World.{Store, put_in, World, Out, Gives, Try, bind, settle, holding}
 use Rattle.f66_tree.specs.Units.{Frame, Spot, Held, notes_of}
 use Rattle.f66_tree.specs.Evaluation as meaning
 use Rattle.f66_tree.specs.Evaluation.{Sort, AnArray, AnIntrinsic, AFunction, sort_of, store_at, place_by, locate, truth_in, asks, variable_in}
@@ -22,9 +22,10 @@ use Rattle.unit_walk.specs.Contents.{Values, Sets, content, content_of, viewed, 
 use Rattle.unit_walk.specs.Meaning.{number_in, fact_in, offset, read, value, values_of}
 use Rattle.unit_walk.specs.Steps.{nth_label, label_at, label_by_sign, element, place, assigning, selecting, selecting_by_sign, condition}
 use Rattle.unit_walk.specs.Declarations.{context_of}
-use Rattle.unit_walk.specs.Walking.{HoldsValues, main_at, around_main, SameCounts}
+use Rattle.unit_walk.specs.Walking.{HoldsValues, main_at, around_main}
 use Rattle.unit_walk.specs.Leaving.{leaves, jumped, end_of_stuck, Does}
 use Rattle.unit_walk.specs.declared.statement.Exit.TheVariants.{Next, Ends}
+use Rattle.unit_walk.proofs.ComesLemmas.{alters_none}
 use Rattle.unit_walk.proofs.Spots.{same_unit}
 use Rattle.unit_walk.proofs.ValueLemmas.{then_viewed, load_is, element_is, value_is, values_are}
 
@@ -34,9 +35,6 @@ put_holds values new store name o v sets holds = record { at = λ q i. put_is q 
     put_is : (q : Text) (i : ℕ) (here : Bool) → here ≡ bytes_eq name q && nat_eq o i → (if here then content_of v else store (list_number (i ∷ q))) ≡ content_of (new q i)
     put_is q i true is = sym (ap content_of (sets q i ∙ ap (λ (b : Bool). if b then v else values q i) (sym is)))
     put_is q i false is = holds.at q i ∙ sym (ap content_of (sets q i ∙ ap (λ (b : Bool). if b then v else values q i) (sym is)))
-
-pub same_counts : (w : World) → SameCounts w w
-same_counts w = record { left = refl; count = refl }
 
 -- ---- labels ----
 
@@ -164,21 +162,20 @@ module _ (code : List Line) (n : ℕ) (run : Frame → Stand → World → Out �
       ap (λ (o : Out Spot). bind o (λ q w1. bind (meaning.value_of (around_main (notes_of code) code n run) (main_at p) e w1) (λ v w2. bind (store_at (around_main (notes_of code) code n run) (main_at p) q v w2) (λ _ w3. Gives meant.Next w3)))) (located x)
       ∙ placed_is e (place (context_of code) values x)
 
-pub jumps : (code : List Line) (p : Place) (a : Act) (values : Values) (records : List Record) (r : Result ℕ Stuck)
-    → ((n : ℕ) (run : Frame → Stand → World → Out ⊤) (w : World) → HoldsValues values w.state.store → does (around_main (notes_of code) code n run) (main_at p) a w ≡ leaves (jumped r p) w) → Does code p a values records (jumped r p) values records
-jumps code p a values records r is = record { is = λ n run w holds. record { after = w; is = is n run w holds.store; holds = holds; same = same_counts w } }
+pub jumps : (code : List Line) (p : Place) (a : Act) (values : Values) (r : Result ℕ Stuck)
+    → ((n : ℕ) (run : Frame → Stand → World → Out ⊤) (w : World) → HoldsValues values w.state.store → does (around_main (notes_of code) code n run) (main_at p) a w ≡ leaves (jumped r p) w) → Does code p a values (jumped r p) values
+jumps code p a values r is = record { is = λ n run w holds. record { after = w; is = is n run w holds; holds = alters_none w values holds } }
 
-pub assigns : (code : List Line) (p : Place) (x e : Formula) (values new : Values) (records : List Record) (t : Text × ℕ × Value) → Ok t ≡ assigning (context_of code) values x e → Sets values t.0 t.1 (Some t.2) new → Does code p (Assigns x e) values records Next new records
-assigns code p x e values new records t is sets = record {
+pub assigns : (code : List Line) (p : Place) (x e : Formula) (values new : Values) (t : Text × ℕ × Value) → Ok t ≡ assigning (context_of code) values x e → Sets values t.0 t.1 (Some t.2) new → Does code p (Assigns x e) values Next new
+assigns code p x e values new t is sets = record {
   is = λ n run w holds. record {
     after = holding (put_in (list_number (t.1 ∷ t.0)) (content t.2) w.state.store) w;
-    is = assigns_is code n run values p w holds.store x e ∙ ap (stores values p w) (sym is);
-    holds = record { store = put_holds values new w.state.store t.0 t.1 (Some t.2) sets holds.store; written = holds.written };
-    same = record { left = refl; count = refl };
+    is = assigns_is code n run values p w holds x e ∙ ap (stores values p w) (sym is);
+    holds = record { store = put_holds values new w.state.store t.0 t.1 (Some t.2) sets holds; tape = refl; left = refl; count = refl };
   };
 }
 
-pub assign_stuck : (code : List Line) (p : Place) (x e : Formula) (values : Values) (records : List Record) (s : Stuck) → Err s ≡ assigning (context_of code) values x e → Does code p (Assigns x e) values records (Ends (end_of_stuck s p)) values records
-assign_stuck code p x e values records s is = record {
-  is = λ n run w holds. record { after = w; is = assigns_is code n run values p w holds.store x e ∙ ap (stores values p w) (sym is); holds = holds; same = same_counts w };
+pub assign_stuck : (code : List Line) (p : Place) (x e : Formula) (values : Values) (s : Stuck) → Err s ≡ assigning (context_of code) values x e → Does code p (Assigns x e) values (Ends (end_of_stuck s p)) values
+assign_stuck code p x e values s is = record {
+  is = λ n run w holds. record { after = w; is = assigns_is code n run values p w holds x e ∙ ap (stores values p w) (sym is); holds = alters_none w values holds };
 }

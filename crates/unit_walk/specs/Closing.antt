@@ -2,7 +2,6 @@
 use Rattle.std.specs.Prelude.{◌≡◌, ℕ, List, drop, length, map}
 use Rattle.ground.specs.declared.place.Place.{Place}
 use Rattle.f66_tree.specs.Forms.{Line}
-use Rattle.f66_tree.specs.World.{Record}
 use Rattle.f66_tree.specs.Execution.{close}
 use Rattle.unit_walk.specs.declared.do_loop.Pass.{Pass}
 use Rattle.unit_walk.specs.declared.do_loop.Closing.{Closing}
@@ -18,9 +17,9 @@ closing code closings next p s go pr w = close s (main_at p) (map (closer_at cod
 -- in each unit with as many lines
 abbrev pub Closes : List Pass → List Closing → ℕ → Place → Values → Lead → Values → Type 0
 Closes passes closings next p values lead new =
-    (code : List Line) → length code ≡ length passes → (records : List Record) → Leads code passes (closing code closings next p) (led_to code lead) values records new records
+    (code : List Line) → length code ≡ length passes → Leads code passes (closing code closings next p) (led_to code lead) values new
 
 -- so many of the loops have had their turn, and are done
 abbrev pub ClosedTo : List Pass → List Closing → ℕ → Place → Values → ℕ → Values → Type 0
 ClosedTo passes closings next p values k new =
-    (code : List Line) → length code ≡ length passes → (records : List Record) → Leads code passes (closing code closings next p) (closing code (drop k closings) next p) values records new records
+    (code : List Line) → length code ≡ length passes → Leads code passes (closing code closings next p) (closing code (drop k closings) next p) values new

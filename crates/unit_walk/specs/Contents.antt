@@ -8,8 +8,8 @@ use Rattle.ground.specs.declared.value.Kind.{Kind}
 use Rattle.ground.specs.declared.value.Kind.TheVariants.{Integer, Logical}
 use Rattle.ground.specs.declared.value.Value.{Value}
 use Rattle.ground.specs.declared.value.Value.TheVariants.{Int, Log}
-use Rattle.ground.specs.Arithmetic.{IsInRange}
-use Rattle.ground.specs.Content.{Content, Nothing, Whole, Truth}
+use Rattle.ground.specs.Content.{Content, Nothing}
+use Rattle.record_tape.specs.Reels as reels
 use Rattle.f66_tree.specs.Forms.{Text}
 use Rattle.f66_tree.specs.World.{Try, Yields, Traps, Fails}
 use Rattle.unit_walk.specs.declared.stuck.Stuck.{Stuck}
@@ -22,8 +22,7 @@ Values = Text → ℕ → Option Value
 -- ---- as the definition has them ----
 
 abbrev pub content : Value → Content
-content (Int z) = Whole z
-content (Log b) = Truth b
+content v = reels.content v
 
 abbrev pub content_of : Option Value → Content
 content_of None = Nothing
@@ -57,8 +56,7 @@ loaded _ _ = Err (stuck.Trapped Undefined)
 -- ---- integers in range ----
 
 abbrev pub IsSmall : Value → Type 0
-IsSmall (Int z) = IsInRange z
-IsSmall (Log b) = Unit {0}
+IsSmall v = reels.IsSmall v
 
 pub record AllInRange (values : Values) : Type 0 where
   pub at : (name : Text) (o : ℕ) (v : Value) → values name o ≡ Some v → IsSmall v

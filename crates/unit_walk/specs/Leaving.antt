@@ -2,12 +2,12 @@
 use Rattle.std.specs.Prelude.{ℕ, List, Result, Ok, Err, ⊤}
 use Rattle.ground.specs.declared.place.Place.{Place}
 use Rattle.f66_tree.specs.Forms.{Act, Line}
-use Rattle.f66_tree.specs.World.{Record, World, Done, Stopped, Trapped, Wrong, End, Ended, GoesOn, Out, Gives, Halts}
+use Rattle.f66_tree.specs.World.{World, Done, Stopped, Trapped, Wrong, End, Ended, GoesOn, Out, Gives, Halts}
 use Rattle.f66_tree.specs.Units.{Frame, notes_of}
 use Rattle.f66_tree.specs.Statements as meant
 use Rattle.f66_tree.specs.Execution.{Stand}
 use Rattle.unit_walk.specs.Contents.{Values}
-use Rattle.unit_walk.specs.Walking.{Holds, main_at, around_main, Comes}
+use Rattle.unit_walk.specs.Walking.{HoldsValues, main_at, around_main, Comes, Alters}
 use Rattle.unit_walk.specs.declared.stuck.Stuck.{Stuck}
 use Rattle.unit_walk.specs.declared.stuck.Stuck.TheVariants as stuck
 use Rattle.unit_walk.specs.declared.statement.RunEnd.{RunEnd}
@@ -44,6 +44,6 @@ leaves Next w = Gives meant.Next w
 leaves (To l) w = Gives (meant.To l) w
 leaves (Ends h) w = Halts (halted h) w
 
--- a plain statement of a unit is left so, with these values and records
-pub record Does (code : List Line) (p : Place) (a : Act) (values : Values) (records : List Record) (exit : Exit) (new : Values) (more : List Record) : Type 0 where
-  pub is : (n : ℕ) (run : Frame → Stand → World → Out ⊤) (w : World) → Holds values records w → Comes (meant.does (around_main (notes_of code) code n run) (main_at p) a w) (leaves exit) w new more
+-- a plain statement of a unit that reads and writes no records is left so, with these values
+pub record Does (code : List Line) (p : Place) (a : Act) (values : Values) (exit : Exit) (new : Values) : Type 0 where
+  pub is : (n : ℕ) (run : Frame → Stand → World → Out ⊤) (w : World) → HoldsValues values w.state.store → Comes (meant.does (around_main (notes_of code) code n run) (main_at p) a w) (leaves exit) (Alters w new)

@@ -1,3 +1,4 @@
+-- The definitions that the contracts of unit_walk cite.
 pub mod Contents
 pub mod Sorts
 pub mod Meaning
@@ -12,5 +13,6 @@ pub mod Loops
 pub mod Running
 pub mod Closing
 pub mod Standing
+pub mod Transfers
 pub mod Shows
 pub mod Prepared

@@ -6,7 +6,7 @@ use Rattle.ground.specs.declared.value.Kind.TheVariants.{Integer}
 use Rattle.ground.specs.declared.value.Value.{Value}
 use Rattle.ground.specs.Arithmetic.{IsInRange}
 use Rattle.f66_tree.specs.Forms.{Text, Par, Line}
-use Rattle.f66_tree.specs.World.{Record, World, Out, settle}
+use Rattle.f66_tree.specs.World.{World, Out, settle}
 use Rattle.f66_tree.specs.Units.{Context, Frame, notes_of}
 use Rattle.f66_tree.specs.Statements.{Loop, loop_start, loop_turn}
 use Rattle.f66_tree.specs.Execution.{Stand}
@@ -15,7 +15,7 @@ use Rattle.unit_walk.specs.declared.stuck.Stuck.{Stuck}
 use Rattle.unit_walk.specs.declared.stuck.Stuck.TheVariants.{Trapped}
 use Rattle.unit_walk.specs.Contents.{Values, loaded, tried, ◌then◌}
 use Rattle.unit_walk.specs.Meaning.{number_in, par_value}
-use Rattle.unit_walk.specs.Walking.{Holds, main_at, around_main, Comes}
+use Rattle.unit_walk.specs.Walking.{HoldsValues, main_at, around_main, Comes, Alters}
 
 abbrev pub loop_of : Pass → Loop
 loop_of k = record { limit = k.limit; step = k.step }
@@ -53,10 +53,10 @@ begun_with (Err s) = Err s
 
 -- a DO begins so
 pub record Begins (code : List Line) (x : Text) (a b c : Par) (values : Values) (begun : Result Pass Stuck) (new : Values) : Type 0 where
-  pub is : (n : ℕ) (run : Frame → Stand → World → Out ⊤) (p : Place) (records : List Record) (w : World) → Holds values records w
-      → Comes (loop_start (around_main (notes_of code) code n run) (main_at p) x a b c w) (settle p (tried (begun_with begun))) w new records
+  pub is : (n : ℕ) (run : Frame → Stand → World → Out ⊤) (p : Place) (w : World) → HoldsValues values w.state.store
+      → Comes (loop_start (around_main (notes_of code) code n run) (main_at p) x a b c w) (settle p (tried (begun_with begun))) (Alters w new)
 
 -- after a turn of a DO it goes on, or not
 pub record Turns (x : Text) (k : Pass) (values : Values) (goes_on : Result Bool Stuck) (new : Values) : Type 0 where
-  pub is : (code : List Line) (n : ℕ) (run : Frame → Stand → World → Out ⊤) (p : Place) (records : List Record) (w : World) → Holds values records w
-      → Comes (loop_turn (around_main (notes_of code) code n run) (main_at p) x (loop_of k) w) (settle p (tried goes_on)) w new records
+  pub is : (code : List Line) (n : ℕ) (run : Frame → Stand → World → Out ⊤) (p : Place) (w : World) → HoldsValues values w.state.store
+      → Comes (loop_turn (around_main (notes_of code) code n run) (main_at p) x (loop_of k) w) (settle p (tried goes_on)) (Alters w new)

@@ -1,7 +1,7 @@
 -- Where a run of a main unit stands, by an index, and where a statement leads.
 use Rattle.std.specs.Prelude.{◌≡◌, ℕ, ◌+◌, ◌<◌, List, drop, length, slice_index_or as get_or, ⊤}
 use Rattle.f66_tree.specs.Forms.{Line}
-use Rattle.f66_tree.specs.World.{Record, World, Out, Halts}
+use Rattle.f66_tree.specs.World.{World, Out, Halts}
 use Rattle.f66_tree.specs.Units.{Frame, Setting, notes_of}
 use Rattle.f66_tree.specs.Execution.{Progress, Stand, stand, Closer, Onward}
 use Rattle.unit_walk.specs.declared.do_loop.Pass.{Pass}
@@ -9,7 +9,7 @@ use Rattle.unit_walk.specs.declared.do_loop.Closing.{Closing}
 use Rattle.unit_walk.specs.declared.do_loop.Lead.{Lead}
 use Rattle.unit_walk.specs.declared.do_loop.Lead.TheVariants.{At, Over}
 use Rattle.unit_walk.specs.Contents.{Values}
-use Rattle.unit_walk.specs.Walking.{Holds, around_main, Comes}
+use Rattle.unit_walk.specs.Walking.{HoldsValues, around_main, Comes, Alters}
 use Rattle.unit_walk.specs.Loops.{loop_of}
 use Rattle.unit_walk.specs.Leaving.{halted}
 
@@ -28,7 +28,7 @@ abbrev pub led_to : List Line → Lead → Part
 led_to code (At j) s go pr w = go (stand (drop j code) pr) w
 led_to code (Over h) s go pr w = Halts (halted h) w
 
--- from these values and records a part comes to another with those
-pub record Leads (code : List Line) (passes : List Pass) (o onward : Part) (values : Values) (records : List Record) (new : Values) (more : List Record) : Type 0 where
-  pub is : (n : ℕ) (run : Frame → Stand → World → Out ⊤) (go : Onward) (pr : Progress) → LoopsAre code passes pr → (w : World) → Holds values records w
-      → Comes (o (around_main (notes_of code) code n run) go pr w) (onward (around_main (notes_of code) code n run) go pr) w new more
+-- from these values a part that reads and writes no records comes to another with those
+pub record Leads (code : List Line) (passes : List Pass) (o onward : Part) (values new : Values) : Type 0 where
+  pub is : (n : ℕ) (run : Frame → Stand → World → Out ⊤) (go : Onward) (pr : Progress) → LoopsAre code passes pr → (w : World) → HoldsValues values w.state.store
+      → Comes (o (around_main (notes_of code) code n run) go pr w) (onward (around_main (notes_of code) code n run) go pr) (Alters w new)

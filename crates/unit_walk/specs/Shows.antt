@@ -1,7 +1,7 @@
 -- What a walk shows.
 use Rattle.std.specs.Prelude.{◌≡◌, ℕ, List, [], None}
 use Rattle.f66_tree.specs.Forms.{Line, Text}
-use Rattle.f66_tree.specs.World.{Shown}
+use Rattle.f66_tree.specs.World.{Record, Shown}
 use Rattle.f66_tree.specs.Execution.{no_loops}
 use Rattle.unit_walk.specs.declared.run.Run.{Run}
 use Rattle.unit_walk.specs.declared.walked.Walked.{Walked}
@@ -13,8 +13,9 @@ abbrev pub shown_of : Walked → Shown
 shown_of w = record { records = w.records.items; end = end_of w.end; work = w.begun }
 
 -- nothing has been done yet
-pub record IsFirst (code : List Line) (run : Run) : Type 0 where
+pub record IsFirst (code : List Line) (input : List Record) (run : Run) : Type 0 where
   pub values : (name : Text) (o : ℕ) → values_in run.places.cells name o ≡ None
-  pub records : run.records.items ≡ []
+  pub unread : run.tape.unread ≡ input
+  pub written : run.tape.written ≡ []
   pub begun : run.begun ≡ 0
   pub loops : LoopsAre code run.passes.items no_loops

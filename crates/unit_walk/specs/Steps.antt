@@ -1,16 +1,26 @@
 -- What plain statements come to, by what the places hold (X3.9-1966, section 7.1).
-use Rattle.std.specs.Prelude.{ℕ, zero, suc, ℤ, pos, negsuc, nat_le, Bool, true, false, List, [], ◌∷◌, Option, Some, None, Result, Ok, Err, if◌then◌else◌}
-use Rattle.ground.specs.declared.trap.Trap.TheVariants.{BadBranch, FormatMismatch, LongRecord}
-use Rattle.ground.specs.declared.value.Kind.{Kind}
-use Rattle.ground.specs.declared.value.Kind.TheVariants.{Integer, Logical}
+use Rattle.std.specs.Prelude.{ℕ, zero, suc, ℤ, pos, negsuc, int_le, ◌&&◌, ⊤, if◌then◌else◌, Bool, true, false, List, [], ◌∷◌, Result, Ok, Err}
+use Rattle.ground.specs.declared.trap.Trap.TheVariants.{BadBranch, BadUnit}
 use Rattle.ground.specs.declared.value.Value.{Value}
-use Rattle.f66_tree.specs.Forms.{Text, Formula, Variable, Applied, One, Entries, NoEntry, AndEntry}
-use Rattle.f66_tree.specs.Units.{Context, kind_of}
+use Rattle.f66_tree.specs.Forms.{Text, Formula, Variable, Applied, Act, Reads, Writes}
+use Rattle.f66_tree.specs.declared.editing.Way.{Way}
+use Rattle.f66_tree.specs.Statements.{unit_for}
+use Rattle.f66_tree.specs.Units.{Context}
 use Rattle.f66_tree.specs.Evaluation.{Sort, AnArray, sort_of}
 use Rattle.unit_walk.specs.declared.stuck.Stuck.{Stuck}
 use Rattle.unit_walk.specs.declared.stuck.Stuck.TheVariants.{Trapped, Wrong}
-use Rattle.unit_walk.specs.Contents.{Values, loaded, ◌then◌}
+use Rattle.unit_walk.specs.Contents.{Values, ◌then◌}
 use Rattle.unit_walk.specs.Meaning.{number_in, fact_in, offset, read, value, values_of}
+
+-- a statement that reads and writes no records
+abbrev pub is_still : Act → Bool
+is_still (Reads u l es) = false
+is_still (Writes u l es) = false
+is_still _ = true
+
+-- READ is on unit 5, WRITE on unit 6
+abbrev pub unit_tested : Way → ℤ → Result ⊤ Stuck
+unit_tested way z = if int_le z (unit_for way) && int_le (unit_for way) z then Ok tt else Err (Trapped BadUnit)
 
 abbrev pub nth_label : List ℕ → ℕ → Result ℕ Stuck
 nth_label [] n = Err (Trapped BadBranch)
@@ -28,19 +38,6 @@ abbrev pub label_by_sign : ℕ → ℕ → ℕ → ℤ → ℕ
 label_by_sign n m k (negsuc z) = n
 label_by_sign n m k (pos zero) = m
 label_by_sign n m k (pos (suc z)) = k
-
--- what an integer field takes from a place
-abbrev pub written_number : Kind → Option Value → Result ℤ Stuck
-written_number Integer o = loaded Integer o then λ v. number_in v
-written_number Logical o = Err (Trapped FormatMismatch)
-
--- a field of a record, which has at most 132 characters
-abbrev pub fitted_field : ℕ → ℤ → Result (ℕ × ℤ) Stuck
-fitted_field width z = if nat_le width 132 then Ok (width, z) else Err (Trapped LongRecord)
-
-abbrev pub is_one_entry : Entries → Bool
-is_one_entry (AndEntry (One e) NoEntry) = true
-is_one_entry _ = false
 
 module _ (c : Context) (values : Values) where
   abbrev pub element : Text → Sort → Result (List Value) Stuck → Result ℕ Stuck
@@ -66,8 +63,3 @@ module _ (c : Context) (values : Values) where
   -- a condition
   abbrev pub condition : Formula → Result Bool Stuck
   condition e = value c values e then λ v. fact_in v
-
-  -- a WRITE by the format of one field with this width, if it is there
-  abbrev pub writing : Option ℕ → Formula → Result (ℕ × ℤ) Stuck
-  writing None e = Err Wrong
-  writing (Some width) e = place e then λ t. written_number (kind_of c t.0) (values t.0 t.1) then λ z. fitted_field width z

@@ -1,22 +1,43 @@
 -- What a walk keeps of a run: what the places hold, the records, and where the run stands.
-use Rattle.std.specs.Prelude.{◌≡◌, ℕ, List, [], ◌∷◌, ⊤}
+use Rattle.std.specs.Prelude.{◌≡◌, ◌+◌, ℕ, List, [], ◌∷◌, ⊤}
 use Rattle.ground.specs.declared.place.Place.{Place}
-use Rattle.f66_tree.specs.declared.editing.EditKind.TheVariants as edits
-use Rattle.f66_tree.specs.Fields.{Takes, Fields, NoField, Single}
 use Rattle.f66_tree.specs.Forms.{Text, Line}
-use Rattle.f66_tree.specs.World.{Record, Store, World, Out}
+use Rattle.f66_tree.specs.Fields.{Fields}
+use Rattle.f66_tree.specs.World.{Store, files_of, World, Out}
+use Rattle.f66_tree.specs.Editing.{Files}
 use Rattle.f66_tree.specs.Units.{Note, Frame, Setting}
 use Rattle.f66_tree.specs.Execution.{target, Stand}
 use Rattle.f66_tree.specs.OneUnit.{list_number, one_unit}
-use Rattle.unit_walk.specs.Contents.{Values, content_of}
+use Rattle.record_tape.specs.Reels.{Reel, seen}
+use Rattle.unit_walk.specs.declared.run.Run.{Run}
+use Rattle.unit_walk.specs.Contents.{Values, content_of, values_in}
 
 -- the store holds these values, and nothing at any other place
 pub record HoldsValues (values : Values) (store : Store) : Type 0 where
   pub at : (name : Text) (o : ℕ) → store (list_number (o ∷ name)) ≡ content_of (values name o)
 
-pub record Holds (values : Values) (records : List Record) (w : World) : Type 0 where
-  pub store : HoldsValues values w.state.store
-  pub written : w.state.tape.written ≡ records
+-- the records of a run
+abbrev pub files_in : Reel → Files
+files_in r = record { unread = r.unread; written = r.written }
+
+-- between two statements a world is as a run has it, of whose statements at most so many begin
+pub record Holds (limit : ℕ) (run : Run) (w : World) : Type 0 where
+  pub store : HoldsValues (values_in run.places.cells) w.state.store
+  pub files : files_of w.state.tape ≡ files_in run.tape
+  pub count : w.count ≡ run.begun
+  pub left : w.left + run.begun ≡ limit
+
+-- within a READ or a WRITE by this format
+pub record Inside (limit : ℕ) (fs : Fields) (run : Run) (w : World) : Type 0 where
+  pub store : HoldsValues (values_in run.places.cells) w.state.store
+  pub tape : w.state.tape ≡ seen fs run.tape
+  pub count : w.count ≡ run.begun
+  pub left : w.left + run.begun ≡ limit
+
+-- where a run is over: what it wrote, and how many statements had begun
+pub record Shows (run : Run) (w : World) : Type 0 where
+  pub written : w.state.tape.written ≡ run.tape.written
+  pub count : w.count ≡ run.begun
 
 -- a main unit at the statement of this place
 abbrev pub main_at : Place → Frame
@@ -26,18 +47,15 @@ main_at p = record { unit = 0; actuals = []; place = p }
 abbrev pub around_main : List Note → List Line → ℕ → (Frame → Stand → World → Out ⊤) → Setting
 around_main notes code n run = target (one_unit notes) (λ u. code) n run
 
--- no statement has begun meanwhile
-pub record SameCounts (w w1 : World) : Type 0 where
-  pub left : w1.left ≡ w.left
-  pub count : w1.count ≡ w.count
-
--- a part of a run that began at w has led there, with these values and records
-pub record Comes {A : Type 0} (o : Out A) (leads : World → Out A) (w : World) (values : Values) (records : List Record) : Type 0 where
+-- a part of a run has led to a world of which this holds
+pub record Comes {A : Type 0} (o : Out A) (leads : World → Out A) (Held : World → Type 0) : Type 0 where
   pub after : World
   pub is : o ≡ leads after
-  pub holds : Holds values records after
-  pub same : SameCounts w after
+  pub holds : Held after
 
--- a format of one integer field of this width
-abbrev pub one_field : ℕ → Fields
-one_field width = Single 1 (Takes edits.Whole width) NoField
+-- a world after another that has these values, with the same records, and where no statement has begun meanwhile
+pub record Alters (w : World) (values : Values) (after : World) : Type 0 where
+  pub store : HoldsValues values after.state.store
+  pub tape : after.state.tape ≡ w.state.tape
+  pub left : after.left ≡ w.left
+  pub count : after.count ≡ w.count

@@ -100,7 +100,7 @@ fn parameters(
 }
 
 /// After a turn of a DO its variable goes on by the step, where that is within the limit, and has no value where it is not.
-fn turn<'a>(
+pub(crate) fn turn<'a>(
     alloc: Global,
     places: &mut Places<'a>,
     variable: &'a Name,

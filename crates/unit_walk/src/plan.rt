@@ -10,19 +10,20 @@ ghost use Rattle.unit_walk.specs.Standing.{IsPlan, ClosesAt, LabelsAre};
 ghost use Rattle.unit_walk.specs.Prepared.{ClosesLines, AreNoted, noted, noted_at, closer_by};
 
 use crate::do_loop::Closing;
-use crate::formats::widths_of;
+use crate::formats::formats_of;
 use crate::names::Names;
 use f66_tree::{Name, Stmt, StmtKind};
+use ground::Memory;
 use std::alloc::{AllocError, Global};
 use std::collections::{BTreeMap, HashMap};
 
 /// A unit's statements, with the DO loops that end at each, innermost first.
-#[derive(Debug, Drop)]
+#[derive(Drop)]
 pub(crate) struct Plan<'a> {
     pub code: &'a [Stmt],
     pub names: Names<'a>,
-    /// The width of the one field of each FORMAT, by its label.
-    pub widths: HashMap<u32, u16>,
+    /// The formats by their labels.
+    pub formats: HashMap<u32, format_io::Plan>,
     pub closings: Vec<Vec<Closing<'a>>>,
     /// The index of the first line with each label.
     pub lines: BTreeMap<u32, usize>,
@@ -32,20 +33,20 @@ pub(crate) struct Plan<'a> {
 
 impl<'a> Plan<'a> {
     /// Prepares a unit of which at most `limit` statements may begin.
-    pub(crate) fn new(alloc: Global, code: &'a [Stmt], limit: u64) -> Result<Plan<'a>, AllocError>
+    pub(crate) fn new(alloc: Global, code: &'a [Stmt], limit: u64) -> Result<Plan<'a>, Memory>
         requires { is_walked_unit (lines_of code.now) ≡ true }
         ensures plan { IfOk result IsPlan }
         ensures code { IfOk result (λ plan. plan.code.now ≡ code.now) }
         ensures limit { IfOk result (λ plan. plan.limit ≡ limit) }
     {
         let names = Names::new(alloc, code)?;
-        let widths = widths_of(alloc, code)?;
+        let formats = formats_of(alloc, code)?;
         let closings = closings_of(alloc, code)?;
         let lines = lines_by_label(alloc, code)?;
         Ok(Plan {
             code,
             names,
-            widths,
+            formats,
             closings,
             lines,
             limit,

@@ -6,41 +6,46 @@ ghost use Rattle.f66_tree.specs.World.{World};
 ghost use Rattle.f66_tree.specs.Units.{is_note, notes_of};
 ghost use Rattle.f66_tree.specs.Execution.{Progress};
 ghost use Rattle.f66_tree.specs.Statements.{Next};
-ghost use Rattle.f66_tree.specs.Views.{formula_of, act_of, line_of, lines_of};
-ghost use Rattle.unit_walk.specs.Walked.{is_formula, is_plain, is_walked};
+ghost use Rattle.f66_tree.specs.Views.{formula_of, par_of, entries_of, act_of, line_of, lines_of};
+ghost use Rattle.f66_tree.specs.Built.{is_par};
+ghost use Rattle.unit_walk.specs.Walked.{is_formula, are_entries, is_plain, is_walked};
 ghost use Rattle.unit_walk.specs.Contents.{values_in, AllInRange};
 ghost use Rattle.unit_walk.specs.Declarations.{context_of};
-ghost use Rattle.unit_walk.specs.Steps.{condition as tested};
+ghost use Rattle.unit_walk.specs.Steps.{condition as tested, is_still};
+ghost use Rattle.unit_walk.specs.Transfers.{recording};
 ghost use Rattle.unit_walk.specs.Running.{led_to, Leads};
 ghost use Rattle.unit_walk.specs.Shows.{IsFirst};
-ghost use Rattle.unit_walk.specs.Standing.{IsPlan, IsSound, plainly, onward, branch_line, runs, performs, Stands, LeadsTo, Rises};
+ghost use Rattle.unit_walk.specs.Standing.{IsPlan, IsSound, plainly, onward, branch_line, runs, performs, Stands, LeadsTo, PlainLeads, Rises};
 
 use crate::do_loop::{Lead, Pass, begin, close};
 use crate::evaluate::evaluate;
 use crate::operate::fact_of;
 use crate::places::Places;
 use crate::plan::{Plan, is_note};
+use crate::records::{Transfer, transfer_by};
 use crate::statement::{Exit, Halt, RunEnd, end_by, perform};
 use crate::stuck::Stuck;
-use f66_tree::{Expr, Stmt, StmtKind};
-use ground::Text;
+use f66_tree::{Expr, Stmt, StmtKind, Way};
+use ground::Memory;
+use ports::Whole;
+use record_tape::Tape;
 use std::alloc::{AllocError, Global};
 
 /// What a run has done so far.
-#[derive(Debug, Drop)]
+#[derive(Drop)]
 pub(crate) struct Run<'a> {
     pub places: Places<'a>,
     /// The last limit and step of each line that is a DO.
     pub passes: Vec<Pass>,
-    pub records: Vec<Text>,
+    pub tape: Tape,
     /// How many statements have begun.
     pub begun: u64,
 }
 
 impl<'a> Run<'a> {
-    /// A run of a unit with so many lines, of which none has begun.
-    pub(crate) fn new(alloc: Global, lines: usize) -> Result<Run<'a>, AllocError>
-        ensures first { IfOk result (λ run. (code : List Line) → length code ≡ lines → IsFirst code run) }
+    /// A run of a unit with so many lines over this input, of which nothing has begun.
+    pub(crate) fn new(alloc: Global, lines: usize, input: Whole) -> Result<Run<'a>, Memory>
+        ensures first { IfOk result (λ run. (code : List Line) → length code ≡ lines → IsFirst code input run) }
         ensures sound { IfOk result (λ run. (code : List Line) → length code ≡ lines → IsSound code run) }
     {
         let mut passes = Vec::new(alloc);
@@ -48,7 +53,7 @@ impl<'a> Run<'a> {
         Ok(Run {
             places: Places::new(alloc),
             passes,
-            records: Vec::new(alloc),
+            tape: Tape::new(alloc, input)?,
             begun: 0,
         })
     }
@@ -66,7 +71,7 @@ pub(crate) fn step<'a>(
     requires plan { IsPlan plan.now }
     requires sound { IsSound (lines_of plan.now.code.now) run.old }
     requires count { run.old.begun ≤ plan.now.limit }
-    ensures leads { IfOk result (λ lead. let code = lines_of plan.now.code.now in (w : World) (pr : Progress) → Stands code plan.now.limit run.old w pr → LeadsTo code plan.now.limit (runs code w (drop index code) pr) lead run.new) }
+    ensures leads { IfOk result (λ lead. let code = lines_of plan.now.code.now in (n : ℕ) (w : World) (pr : Progress) → Stands code plan.now.limit n run.old w pr → LeadsTo code plan.now.limit (runs code n w (drop index code) pr) lead run.new) }
     ensures sound { IfOk result (λ lead. IsSound (lines_of plan.now.code.now) run.new) }
     ensures count { IfOk result (λ lead. run.new.begun ≤ plan.now.limit) }
     ensures rises { IfOk result (λ lead. Rises lead run.old.begun run.new.begun) }
@@ -93,7 +98,7 @@ fn line<'a>(
     requires plan { IsPlan plan.now }
     requires sound { IsSound (lines_of plan.now.code.now) run.old }
     requires count { run.old.begun ≤ plan.now.limit }
-    ensures leads { IfOk result (λ lead. let code = lines_of plan.now.code.now in (w : World) (pr : Progress) → Stands code plan.now.limit run.old w pr → LeadsTo code plan.now.limit (performs code w (line_of statement.now) (drop (index + 1) code) pr) lead run.new) }
+    ensures leads { IfOk result (λ lead. let code = lines_of plan.now.code.now in (n : ℕ) (w : World) (pr : Progress) → Stands code plan.now.limit n run.old w pr → LeadsTo code plan.now.limit (performs code n w (line_of statement.now) (drop (index + 1) code) pr) lead run.new) }
     ensures sound { IfOk result (λ lead. IsSound (lines_of plan.now.code.now) run.new) }
     ensures count { IfOk result (λ lead. (run.old.begun ≤ run.new.begun) × (run.new.begun ≤ plan.now.limit)) }
 {
@@ -142,7 +147,7 @@ fn branch<'a>(
     requires plan { IsPlan plan.now }
     requires sound { IsSound (lines_of plan.now.code.now) run.old }
     requires count { run.old.begun ≤ plan.now.limit }
-    ensures leads { IfOk result (λ lead. let code = lines_of plan.now.code.now in (w : World) (pr : Progress) → Stands code plan.now.limit run.old w pr → LeadsTo code plan.now.limit (runs code w (branch_line statement.now (act_of inner.now) ∷ drop (index + 1) code) pr) lead run.new) }
+    ensures leads { IfOk result (λ lead. let code = lines_of plan.now.code.now in (n : ℕ) (w : World) (pr : Progress) → Stands code plan.now.limit n run.old w pr → LeadsTo code plan.now.limit (runs code n w (branch_line statement.now (act_of inner.now) ∷ drop (index + 1) code) pr) lead run.new) }
     ensures sound { IfOk result (λ lead. IsSound (lines_of plan.now.code.now) run.new) }
     ensures count { IfOk result (λ lead. (run.old.begun ≤ run.new.begun) × (run.new.begun ≤ plan.now.limit)) }
 {
@@ -171,13 +176,84 @@ fn plain<'a>(
     requires executed { is_note (act_of kind.now) ≡ false }
     requires plan { IsPlan plan.now }
     requires sound { IsSound (lines_of plan.now.code.now) run.old }
-    ensures leads { IfOk result (λ lead. let code = lines_of plan.now.code.now in Leads code run.old.passes.items (plainly code statement.now.label index statement.now.place (act_of kind.now)) (led_to code lead) (values_in run.old.places.cells) run.old.records.items (values_in run.new.places.cells) run.new.records.items) }
+    requires count { run.old.begun ≤ plan.now.limit }
+    ensures leads { IfOk result (λ lead. let code = lines_of plan.now.code.now in PlainLeads code plan.now.limit statement.now.label index statement.now.place (act_of kind.now) run.old lead run.new) }
+    ensures sound { IfOk result (λ lead. IsSound (lines_of plan.now.code.now) run.new) }
+    ensures count { IfOk result (λ lead. (run.old.begun ≤ run.new.begun) × (run.new.begun ≤ plan.now.limit)) }
+{
+    match kind {
+        StmtKind::Read(unit, label, list) => {
+            let transfer = Transfer {
+                way: Way::Reading,
+                unit,
+                label: *label,
+                list,
+            };
+            recorded(alloc, plan, run, index, statement, transfer)
+        }
+        StmtKind::Write(unit, label, list) => {
+            let transfer = Transfer {
+                way: Way::Writing,
+                unit,
+                label: *label,
+                list,
+            };
+            recorded(alloc, plan, run, index, statement, transfer)
+        }
+        _ => still(alloc, plan, run, index, statement, kind),
+    }
+}
+
+/// Does a READ or a WRITE, and what comes after it.
+fn recorded<'a>(
+    alloc: Global,
+    plan: &Plan<'a>,
+    run: &mut Run<'a>,
+    index: usize,
+    statement: &Stmt,
+    transfer: Transfer<'a>,
+) -> Result<Lead, AllocError>
+    requires within { index < length plan.now.code.now }
+    requires here { statement.now ≡ slice_index_or plan.now.code.now index statement.now }
+    requires unit { is_par (par_of transfer.unit.now) ≡ true }
+    requires list { are_entries (notes_of (lines_of plan.now.code.now)) (entries_of transfer.list.now) ≡ true }
+    requires plan { IsPlan plan.now }
+    requires sound { IsSound (lines_of plan.now.code.now) run.old }
+    requires count { run.old.begun ≤ plan.now.limit }
+    ensures leads { IfOk result (λ lead. let code = lines_of plan.now.code.now in PlainLeads code plan.now.limit statement.now.label index statement.now.place (recording transfer.entry.way (par_of transfer.entry.unit.now) transfer.entry.label (entries_of transfer.entry.list.now)) run.old lead run.new) }
+    ensures sound { IfOk result (λ lead. IsSound (lines_of plan.now.code.now) run.new) }
+    ensures count { IfOk result (λ lead. (run.old.begun ≤ run.new.begun) × (run.new.begun ≤ plan.now.limit)) }
+{
+    match transfer_by(alloc, plan, run, transfer, statement.place)? {
+        Ok(()) => next_line(alloc, plan, run, index, statement),
+        Err(halt) => Ok(Lead::Over(halt)),
+    }
+}
+
+/// Does a plain statement that reads and writes no records, and what comes after it.
+fn still<'a>(
+    alloc: Global,
+    plan: &Plan<'a>,
+    run: &mut Run<'a>,
+    index: usize,
+    statement: &'a Stmt,
+    kind: &'a StmtKind,
+) -> Result<Lead, AllocError>
+    requires within { index < length plan.now.code.now }
+    requires here { statement.now ≡ slice_index_or plan.now.code.now index statement.now }
+    requires walked { is_plain (notes_of (lines_of plan.now.code.now)) (act_of kind.now) ≡ true }
+    requires executed { is_note (act_of kind.now) ≡ false }
+    requires still { is_still (act_of kind.now) ≡ true }
+    requires plan { IsPlan plan.now }
+    requires sound { IsSound (lines_of plan.now.code.now) run.old }
+    ensures leads { IfOk result (λ lead. let code = lines_of plan.now.code.now in Leads code run.old.passes.items (plainly code statement.now.label index statement.now.place (act_of kind.now)) (led_to code lead) (values_in run.old.places.cells) (values_in run.new.places.cells)) }
     ensures sound { IfOk result (λ lead. IsSound (lines_of plan.now.code.now) run.new) }
     ensures passes { run.new.passes.items ≡ run.old.passes.items }
+    ensures tape { run.new.tape ≡ run.old.tape }
     ensures count { run.new.begun ≡ run.old.begun }
 {
     let place = statement.place;
-    match perform(alloc, plan, &mut run.places, &mut run.records, kind, place)? {
+    match perform(alloc, plan, &mut run.places, kind, place)? {
         Exit::Next => next_line(alloc, plan, run, index, statement),
         Exit::To(label) => Ok(Lead::At(plan.line_with(label))),
         Exit::Ends(end) => Ok(Lead::Over(end)),
@@ -196,10 +272,10 @@ fn next_line<'a>(
     requires here { statement.now ≡ slice_index_or plan.now.code.now index statement.now }
     requires plan { IsPlan plan.now }
     requires sound { IsSound (lines_of plan.now.code.now) run.old }
-    ensures leads { IfOk result (λ lead. let code = lines_of plan.now.code.now in Leads code run.old.passes.items (onward code statement.now.label index statement.now.place Next) (led_to code lead) (values_in run.old.places.cells) run.old.records.items (values_in run.new.places.cells) run.new.records.items) }
+    ensures leads { IfOk result (λ lead. let code = lines_of plan.now.code.now in Leads code run.old.passes.items (onward code statement.now.label index statement.now.place Next) (led_to code lead) (values_in run.old.places.cells) (values_in run.new.places.cells)) }
     ensures sound { IfOk result (λ lead. IsSound (lines_of plan.now.code.now) run.new) }
     ensures passes { run.new.passes.items ≡ run.old.passes.items }
-    ensures records { run.new.records.items ≡ run.old.records.items }
+    ensures tape { run.new.tape ≡ run.old.tape }
     ensures count { run.new.begun ≡ run.old.begun }
 {
     let closings = plan.closings_at(index);

@@ -6,6 +6,7 @@ use f66_tree::{
     Declared, Entry, Expr, Field, Header, Name, Operator, Par, Stmt, StmtKind, TypeWord, Unit,
 };
 use ground::{Place, Refusal, Text};
+use ports::Whole;
 use std::alloc::{AllocError, Global};
 use std::test::Fail;
 
@@ -305,7 +306,8 @@ fn outcome(alloc: Global, text: &[u8], limit: u64) -> Result<String, Fail> {
     };
     match check_unit(alloc, unit) {
         Ok(checked) => {
-            let walked = walk(alloc, &checked, limit).ok().ok_or("memory")?;
+            let input = Whole::new(Vec::new(alloc));
+            let walked = walk(alloc, &checked, input, limit).ok().ok_or("memory")?;
             Ok(shown(alloc, &walked)?)
         }
         Err(Refusal::Fault(fault)) => {

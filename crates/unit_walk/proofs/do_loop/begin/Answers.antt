@@ -1,3 +1,4 @@
+-- Why `begin` keeps its clauses.
 use Rattle.std.proofs.Common.{rules}
 use Rattle.f66_tree.specs.Views.{par_of, lines_of}
 use Rattle.unit_walk.specs.Contents.{values_in}

@@ -1,3 +1,4 @@
+-- Why `close` keeps its clauses.
 use Rattle.std.proofs.Common.{rules, ◌≡◌, ℕ, ◌+◌, ◌<◌, true, false, Bool, List, ◌∷◌, drop, length, get_or, Result, Ok, Err, sym, ◌∙◌, ap, subst}
 use Rattle.std.proofs.lemmas.List.{drop_more, drop_all}
 use Rattle.unit_walk.specs.declared.stuck.Stuck.{Stuck}

@@ -1,3 +1,4 @@
+-- What holds at each turn of the loops of `close`.
 use Rattle.unit_walk.specs.Contents.{values_in, AllInRange}
 use Rattle.unit_walk.specs.Closing.{ClosedTo}
 use Rattle.unit_walk.proofs.do_loop.close.Given as goal

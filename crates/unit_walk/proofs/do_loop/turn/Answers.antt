@@ -1,3 +1,4 @@
+-- Why `turn` keeps its clauses.
 use Rattle.std.proofs.Common.{rules, Some, None}
 use Rattle.std.specs.Prelude.{IfSome}
 use Rattle.ground.specs.declared.value.Value.TheVariants.{Int}

@@ -1,3 +1,4 @@
+-- Why `offset` keeps its clauses.
 use Rattle.std.proofs.Common.{◌∙◌}
 use Rattle.unit_walk.proofs.ReachLemmas.{reaches_from_first}
 use Rattle.unit_walk.proofs.element.offset.Goals as goal

@@ -1,3 +1,4 @@
+-- Why `places_of` keeps its clauses.
 use Rattle.std.proofs.Common.{◌-◌, ◌<◌, length, rules}
 use Rattle.unit_walk.proofs.ShapeLemmas.{par_at}
 use Rattle.unit_walk.proofs.element.places_of.Goals as goal

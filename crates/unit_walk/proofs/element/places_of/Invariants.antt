@@ -1,3 +1,4 @@
+-- What holds at each turn of the loops of `places_of`.
 use Rattle.std.proofs.Common.{◌≡◌, ◌≤◌, drop, map}
 use Rattle.f66_tree.specs.Units.{places_of}
 use Rattle.f66_tree.specs.Views.{par_of}

@@ -1,3 +1,4 @@
+-- Why `walk_to` keeps its clauses.
 use Rattle.std.proofs.Common.{rules, ◌<◌, ◌≤◌, length, ◌∙◌}
 use Rattle.unit_walk.proofs.ReachLemmas.{subscripts_left, dimensions_left}
 use Rattle.unit_walk.proofs.element.walk_to.Goals as goal

@@ -1,3 +1,4 @@
+-- What holds at each turn of the loops of `walk_to`.
 use Rattle.std.proofs.Common.{◌≡◌, drop}
 use Rattle.unit_walk.specs.Reaching.{IsCapped, reaches}
 use Rattle.unit_walk.proofs.element.walk_to.Given as goal

@@ -1,22 +1,20 @@
+-- Why `evaluate` and the functions of its cycle keep their clauses.
 use Rattle.std.proofs.Common.{rules, ◌≡◌, ◌<◌, ◌≤◌, true, Ok, List, length, map, get_or, length-set, ap, sym, subst, ◌∙◌, arith}
 use Rattle.std.proofs.lemmas.Bool.{and_parts}
-use Rattle.std.proofs.lemmas.Bool.Decides.{nat_tests}
 use Rattle.std.proofs.lemmas.Grind.{common_steps}
-use Rattle.std.proofs.lemmas.List.{length-map}
 use Rattle.std.proofs.lemmas.List.Elements.{All-set}
-use Rattle.std.specs.Prelude.{nat_le, ◌&&◌}
 use Rattle.f66_tree.specs.declared.expression.Expr.{Expr}
 use Rattle.f66_tree.specs.Forms.{Par, Applied}
-use Rattle.f66_tree.specs.Units.{Note, notes_of, sizes_of, places_of}
+use Rattle.f66_tree.specs.Units.{Note, notes_of, sizes_of}
 use Rattle.f66_tree.specs.Evaluation.{array_or}
 use Rattle.f66_tree.specs.Views.{par_of, formula_of, formulas_of, lines_of}
 use Rattle.unit_walk.specs.Contents.{values_in, IsSmall}
 use Rattle.unit_walk.specs.Meaning.{value}
 use Rattle.unit_walk.specs.Declarations.{context_of}
-use Rattle.unit_walk.specs.Walked.{is_count, are_formulas, are_pars, are_dimensions}
+use Rattle.unit_walk.specs.Walked.{is_count, are_formulas, are_dimensions}
 use Rattle.unit_walk.proofs.NameLemmas.{sizes_fit}
 use Rattle.unit_walk.proofs.Sizes.{formula_size, member_size}
-use Rattle.unit_walk.proofs.ShapeLemmas.{item_is, walked_item, formula_at, array_few, few_arguments, few_length, formulas_behind, arguments_more}
+use Rattle.unit_walk.proofs.ShapeLemmas.{Fits, dimensions_fit, item_is, walked_item, formula_at, array_few, few_arguments, few_length, formulas_behind, arguments_more}
 use Rattle.unit_walk.proofs.evaluate.+evaluate.Goals as goal
 
 pub evaluate-applied-requires : goal.evaluate-applied-requires
@@ -48,10 +46,8 @@ applied-element-requires t c =
     let count : is_count (array_or (map par_of c.sizes_of-sizes.result.now) c.args.name.now) (formulas_of c.args.list.now) ≡ true =
     subst (λ (ns : List Par). is_count (array_or ns c.args.name.now) (formulas_of c.args.list.now) ≡ true) (sym same)
     (and_parts (is_count (array_or (sizes_of c.args.name.now notes) c.args.name.now) (formulas_of c.args.list.now)) (are_formulas notes (formulas_of c.args.list.now)) c.requires.walked).0 in
-    let bounds : nat_le (length (map par_of c.sizes_of-sizes.result.now)) 3 && nat_le (places_of (map par_of c.sizes_of-sizes.result.now)) 32767 ≡ true = (and_parts (are_pars (map par_of c.sizes_of-sizes.result.now)) _ fit).1 in
-    let short : nat_le (length (map par_of c.sizes_of-sizes.result.now)) 3 ≡ true = (and_parts _ _ bounds).0 in
-    let small : nat_le (places_of (map par_of c.sizes_of-sizes.result.now)) 32767 ≡ true = (and_parts _ _ bounds).1 in
-    (search rules, (c.requires.plan, ((and_parts (is_count (array_or (sizes_of c.args.name.now notes) c.args.name.now) (formulas_of c.args.list.now)) (are_formulas notes (formulas_of c.args.list.now)) c.requires.walked).1, (few_length c.args.list.now (array_few c.sizes_of-sizes.result.now c.args.name.now (formulas_of c.args.list.now) full count), ((and_parts (are_pars (map par_of c.sizes_of-sizes.result.now)) _ fit).0, ((let long : length (map par_of c.sizes_of-sizes.result.now) ≡ length c.sizes_of-sizes.result.now = length-map c.sizes_of-sizes.result.now par_of in grind (arith, nat_tests)), (grind (arith, nat_tests), c.requires.range)))))))
+    let fits : Fits c.sizes_of-sizes.result.now = dimensions_fit c.sizes_of-sizes.result.now fit in
+    (search rules, (c.requires.plan, ((and_parts (is_count (array_or (sizes_of c.args.name.now notes) c.args.name.now) (formulas_of c.args.list.now)) (are_formulas notes (formulas_of c.args.list.now)) c.requires.walked).1, (few_length c.args.list.now (array_few c.sizes_of-sizes.result.now c.args.name.now (formulas_of c.args.list.now) full count), (fits.pars, (fits.few, (fits.places, c.requires.range)))))))
 
 pub refer-arguments-requires : goal.refer-arguments-requires
 refer-arguments-requires t c =

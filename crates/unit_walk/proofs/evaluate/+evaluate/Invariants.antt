@@ -1,3 +1,4 @@
+-- What holds at each turn of the loops of `evaluate` and the functions of its cycle.
 use Rattle.std.proofs.Common.{◌≡◌, ◌++◌, ◌+◌, true, Ok, length, take, drop}
 use Rattle.std.specs.Prelude.{All}
 use Rattle.f66_tree.specs.Units.{notes_of}

@@ -1,3 +1,4 @@
+-- Why `dimensions` keeps its clauses.
 use Rattle.std.proofs.Common.{◌≡◌, ◌<◌, Ok, List, length, get_or, length-set, ap, ◌∙◌, arith}
 use Rattle.std.proofs.lemmas.List.Elements.{All-set}
 use Rattle.f66_tree.specs.declared.declaration.Par.{Par}

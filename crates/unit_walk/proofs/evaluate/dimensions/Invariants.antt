@@ -1,3 +1,4 @@
+-- What holds at each turn of the loops of `dimensions`.
 use Rattle.std.proofs.Common.{◌≡◌, ◌++◌, true, Ok, length, take, drop, map}
 use Rattle.std.specs.Prelude.{All}
 use Rattle.f66_tree.specs.Views.{par_of, lines_of}

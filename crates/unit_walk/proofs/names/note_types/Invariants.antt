@@ -1,3 +1,4 @@
+-- What holds at each turn of the loops of `note_types`.
 use Rattle.std.proofs.Common.{◌≡◌, ℕ, Some, None, List, drop, map, if◌then◌else◌}
 use Rattle.std.specs.Option.{option_or}
 use Rattle.std.specs.Str.{bytes_eq}

@@ -1,3 +1,4 @@
+-- What holds at each turn of the loops of `sizes_of`.
 use Rattle.std.proofs.Common.{◌≡◌, ℕ, List, drop}
 use Rattle.std.specs.Option.{option_or}
 use Rattle.std.specs.Str.{bytes_eq}

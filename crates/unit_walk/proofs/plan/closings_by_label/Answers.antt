@@ -1,3 +1,4 @@
+-- Why `closings_by_label` keeps its clauses.
 use Rattle.std.proofs.Common.{rules, ◌≡◌, ℕ, ◌+◌, ◌-◌, ◌<◌, List, length, drop, get_or, ap, subst, arith}
 use Rattle.f66_tree.specs.declared.statement.Stmt.{Stmt}
 use Rattle.f66_tree.specs.Views.{lines_of}

@@ -1,3 +1,4 @@
+-- What holds at each turn of the loops of `closings_by_label`.
 use Rattle.std.proofs.Common.{drop}
 use Rattle.f66_tree.specs.Views.{lines_of}
 use Rattle.unit_walk.specs.Prepared.{AreNoted}

@@ -1,3 +1,4 @@
+-- Why `closings_of` keeps its clauses.
 use Rattle.std.proofs.Common.{rules, ◌≡◌, ◌++◌, ◌∷◌, [], arith}
 use Rattle.std.proofs.lemmas.Grind.{common_steps}
 use Rattle.f66_tree.specs.declared.statement.Stmt.{Stmt}

@@ -1,3 +1,4 @@
+-- What holds at each turn of the loops of `closings_of`.
 use Rattle.std.proofs.Common.{◌≡◌, length}
 use Rattle.unit_walk.specs.Prepared.{ClosesLines}
 use Rattle.unit_walk.proofs.plan.closings_of.Given as goal

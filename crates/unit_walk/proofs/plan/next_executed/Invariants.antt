@@ -1,3 +1,4 @@
+-- What holds at each turn of the loops of `next_executed`.
 use Rattle.std.proofs.Common.{◌≡◌, drop}
 use Rattle.f66_tree.specs.Views.{lines_of}
 use Rattle.f66_tree.specs.Execution.{runnable}

@@ -1,23 +1,29 @@
-use Rattle.std.proofs.Common.{List, ◌∙◌, subst}
-use Rattle.f66_tree.specs.Forms.{Line}
-use Rattle.f66_tree.specs.Views.{act_of, lines_of}
-use Rattle.unit_walk.specs.declared.statement.Exit.{Exit}
-use Rattle.unit_walk.specs.declared.statement.Exit.TheVariants.{Next, To}
-use Rattle.unit_walk.specs.Contents.{values_in}
-use Rattle.unit_walk.specs.Leaving.{Does}
-use Rattle.unit_walk.proofs.StepLemmas.{if_ok, drop_lines, plain_next, plain_jumps}
+-- Why `plain` keeps its clauses.
+use Rattle.std.proofs.Common.{◌≡◌, List, ◌∙◌, ap, sym, subst}
+use Rattle.f66_tree.specs.declared.statement.Entry.{Entry}
+use Rattle.f66_tree.specs.Forms.{Act, Reads, Writes}
+use Rattle.unit_walk.proofs.StepLemmas.{if_ok}
+use Rattle.unit_walk.proofs.RunLemmas.{lifts}
+use Rattle.f66_tree.specs.Views.{par_of, entries_of, act_of, lines_of}
+use Rattle.unit_walk.specs.Standing.{plainly, PlainLeads}
 use Rattle.unit_walk.proofs.run.plain.Goals as goal
 
-pub returns-in-Next-clause-leads : goal.returns-in-Next-clause-leads
-returns-in-Next-clause-leads c =
-    let code : List Line = lines_of c.args.plan.now.code.now in
-    let does : Does code c.args.statement.now.place (act_of c.args.kind.now) (values_in c.args.run.now.places.cells) c.args.run.now.records.items Next (values_in c.perform.new.places.cells) c.perform.new.records.items =
-    subst (λ (y : Exit). Does code c.args.statement.now.place (act_of c.args.kind.now) (values_in c.args.run.now.places.cells) c.args.run.now.records.items y (values_in c.perform.new.places.cells) c.perform.new.records.items) c.in-Next.is c.in_ok-perform.ensures.does in
-    if_ok _ _ c.next_line.result (λ lead leads. plain_next code c.args.statement.now.label c.args.index c.args.statement.now.place c.args.run.now.passes.items (act_of c.args.kind.now) (values_in c.args.run.now.places.cells) c.args.run.now.records.items (values_in c.perform.new.places.cells) c.perform.new.records.items lead (values_in c.next_line.new.run.places.cells) c.next_line.new.run.records.items does leads) c.next_line.ensures.leads
+pub returns-in_default-clause-leads : goal.returns-in_default-clause-leads
+returns-in_default-clause-leads c =
+    let code = lines_of c.args.plan.now.code.now in
+    if_ok _ _ c.still.result (λ lead leads n w pr stands.
+    lifts code c.args.plan.now.limit n c.args.run.now w pr stands (plainly code c.args.statement.now.label c.args.index c.args.statement.now.place (act_of c.args.kind.now)) lead c.still.new.run leads c.still.ensures.passes c.still.ensures.tape c.still.ensures.count) c.still.ensures.leads
 
-pub returns-in-To-clause-leads : goal.returns-in-To-clause-leads
-returns-in-To-clause-leads c =
-    let code : List Line = lines_of c.args.plan.now.code.now in
-    let does : Does code c.args.statement.now.place (act_of c.args.kind.now) (values_in c.args.run.now.places.cells) c.args.run.now.records.items (To c.in-To.label) (values_in c.perform.new.places.cells) c.perform.new.records.items =
-    subst (λ (y : Exit). Does code c.args.statement.now.place (act_of c.args.kind.now) (values_in c.args.run.now.places.cells) c.args.run.now.records.items y (values_in c.perform.new.places.cells) c.perform.new.records.items) c.in-To.is c.in_ok-perform.ensures.does in
-    plain_jumps code c.args.statement.now.label c.args.index c.args.statement.now.place c.args.run.now.passes.items (act_of c.args.kind.now) (values_in c.args.run.now.places.cells) c.args.run.now.records.items (values_in c.perform.new.places.cells) c.perform.new.records.items c.in-To.label c.line_with.result does (drop_lines c.args.plan.now.code.now c.line_with.result ∙ c.line_with.ensures)
+pub returns-in-Read-clause-leads : goal.returns-in-Read-clause-leads
+returns-in-Read-clause-leads c =
+    let code = lines_of c.args.plan.now.code.now in
+    let said : act_of c.args.kind.now ≡ Reads (par_of c.in-Read.unit) c.in-Read.label (entries_of c.deref.result.now) =
+    ap act_of c.in-Read.is ∙ ap (λ (l : List Entry). Reads (par_of c.in-Read.unit) c.in-Read.label (entries_of l)) (sym c.deref.ensures.value) in
+    if_ok _ _ c.recorded.result (λ lead leads. subst (λ (a : Act). PlainLeads code c.args.plan.now.limit c.args.statement.now.label c.args.index c.args.statement.now.place a c.args.run.now lead c.recorded.new.run) (sym said) leads) c.recorded.ensures.leads
+
+pub returns-in-Write-clause-leads : goal.returns-in-Write-clause-leads
+returns-in-Write-clause-leads c =
+    let code = lines_of c.args.plan.now.code.now in
+    let said : act_of c.args.kind.now ≡ Writes (par_of c.in-Write.unit) c.in-Write.label (entries_of c.deref-in-Write.result.now) =
+    ap act_of c.in-Write.is ∙ ap (λ (l : List Entry). Writes (par_of c.in-Write.unit) c.in-Write.label (entries_of l)) (sym c.deref-in-Write.ensures.value) in
+    if_ok _ _ c.recorded-in-Write.result (λ lead leads. subst (λ (a : Act). PlainLeads code c.args.plan.now.limit c.args.statement.now.label c.args.index c.args.statement.now.place a c.args.run.now lead c.recorded-in-Write.new.run) (sym said) leads) c.recorded-in-Write.ensures.leads

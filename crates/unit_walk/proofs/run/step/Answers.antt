@@ -1,3 +1,4 @@
+-- Why `step` keeps its clauses.
 use Rattle.std.proofs.Common.{rules, ◌≡◌, ℕ, suc, ◌+◌, ◌-◌, ◌∷◌, List, drop, get_or, ◌∙◌, ap, refl, arith}
 use Rattle.f66_tree.specs.declared.statement.Stmt.{Stmt}
 use Rattle.f66_tree.specs.Forms.{Line}
@@ -13,16 +14,16 @@ use Rattle.unit_walk.proofs.RunLemmas.{started, begins, leads_as, stands_started
 use Rattle.unit_walk.proofs.run.step.Goals as goal
 
 pub returns-then-run-plan-clause-leads : goal.returns-then-run-plan-clause-leads
-returns-then-run-plan-clause-leads c w pr stands =
+returns-then-run-plan-clause-leads c n w pr stands =
     let all : List Stmt = c.args.plan.now.code.now in
     let code : List Line = lines_of all in
     let limit : ℕ = c.args.plan.now.limit in
     let here = some_line all c.args.index c.requires.within in
     let s : Stmt = here.0 in
     let full : c.args.run.now.begun ≡ limit = search rules in
-    leads_as code limit (runs code w (drop c.args.index code) pr) (runs code w (line_of s ∷ drop (c.args.index + 1) code) pr) (Over (Right GoesOn)) c.args.run.now
-    (ap (λ (l : List Line). runs code w l pr) (line_at all c.args.index s c.requires.within here.1))
-    (stops_at_limit code limit c.args.run.now w pr stands (line_of s) (drop (c.args.index + 1) code) (c.requires.executed s here.1) full)
+    leads_as code limit (runs code n w (drop c.args.index code) pr) (runs code n w (line_of s ∷ drop (c.args.index + 1) code) pr) (Over (Right GoesOn)) c.args.run.now
+    (ap (λ (l : List Line). runs code n w l pr) (line_at all c.args.index s c.requires.within here.1))
+    (stops_at_limit code limit n c.args.run.now w pr stands (line_of s) (drop (c.args.index + 1) code) (c.requires.executed s here.1) full)
 
 pub line-requires-clause-walked : goal.line-requires-clause-walked
 line-requires-clause-walked c =
@@ -39,10 +40,12 @@ returns-clause-leads c =
     let s : Stmt = get_or all c.args.index c.index-plan-index.result in
     let here : s ≡ get_or all c.args.index s = ap (λ (d : Stmt). get_or all c.args.index d) c.index-plan-index.is in
     let run : Run = c.args.run.now in
-    let run1 : Run = record { places = run.places; passes = run.passes; records = run.records; begun = run.begun + 1 } in
+    let run1 : Run = record { places = run.places; passes = run.passes; tape = run.tape; begun = run.begun + 1 } in
     let m : ℕ = limit - run.begun - 1 in
-    if_ok _ _ c.line.result (λ lead leads w pr stands.
-    let left : w.left ≡ suc m = omega (arith, stands.left, c.requires.count, c.if-run-plan.false) in
-    leads_as code limit (runs code w (drop c.args.index code) pr) (performs code (started m w) (line_of s) (drop (c.args.index + 1) code) pr) lead c.line.new.run
-    (ap (λ (l : List Line). runs code w l pr) (line_at all c.args.index s c.requires.within here) ∙ begins code w (line_of s) (drop (c.args.index + 1) code) pr m (c.requires.executed s here) left)
-    (leads (started m w) pr (stands_started code limit run w pr stands m run1 left refl refl refl refl))) c.line.ensures.leads
+    if_ok _ _ c.line.result (λ lead leads n w pr stands.
+    let left : w.left ≡ suc m = omega (arith, stands.holds.left, c.requires.count, c.if-run-plan.false) in
+    let k : ℕ = n - 1 in
+    let fuel : n ≡ suc k = omega (arith, left, stands.enough) in
+    leads_as code limit (runs code n w (drop c.args.index code) pr) (performs code k (started m w) (line_of s) (drop (c.args.index + 1) code) pr) lead c.line.new.run
+    (ap (λ (l : List Line). runs code n w l pr) (line_at all c.args.index s c.requires.within here) ∙ begins code n k w (line_of s) (drop (c.args.index + 1) code) pr m (c.requires.executed s here) left fuel)
+    (leads k (started m w) pr (stands_started code limit n run w pr stands m k run1 left fuel refl refl refl refl))) c.line.ensures.leads

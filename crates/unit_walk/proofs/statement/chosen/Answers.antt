@@ -1,3 +1,4 @@
+-- Why `chosen` keeps its clauses.
 use Rattle.std.proofs.Common.{rules, ◌≡◌, ◌<◌, ◌≤◌, ◌-◌, ◌≤ℤ◌, length, get_or, pos, FitsSigned, w64}
 use Rattle.std.specs.Prelude.{unsigned_abs}
 use Rattle.std.proofs.lemmas.Int.{to_z-of_z}

@@ -1,3 +1,4 @@
+-- Why `select_by_sign` keeps its clauses.
 use Rattle.std.proofs.Common.{ℕ, List, Result, sym, ◌∙◌, ap, subst}
 use Rattle.f66_tree.specs.Forms.{Signs, Line}
 use Rattle.f66_tree.specs.Views.{formula_of, lines_of}
@@ -11,9 +12,9 @@ use Rattle.unit_walk.proofs.StatementLemmas.{jumps, signs_is}
 use Rattle.unit_walk.proofs.statement.select_by_sign.Goals as goal
 
 pub returns : goal.returns
-returns c records =
+returns c =
     let code : List Line = lines_of c.args.plan.now.code.now in
-    subst (λ (y : Exit). Does code c.args.place (Signs (formula_of c.args.e.now) c.args.below c.args.zero c.args.above) (values_in c.args.places.now.cells) records y (values_in c.args.places.now.cells) records)
+    subst (λ (y : Exit). Does code c.args.place (Signs (formula_of c.args.e.now) c.args.below c.args.zero c.args.above) (values_in c.args.places.now.cells) y (values_in c.args.places.now.cells))
     (sym (c.jump.ensures ∙ ap (λ (r : Result ℕ Stuck). jumped r c.args.place) c.selected_by_sign.ensures))
-    (jumps code c.args.place (Signs (formula_of c.args.e.now) c.args.below c.args.zero c.args.above) (values_in c.args.places.now.cells) records (selecting_by_sign (context_of code) (values_in c.args.places.now.cells) (formula_of c.args.e.now) c.args.below c.args.zero c.args.above)
+    (jumps code c.args.place (Signs (formula_of c.args.e.now) c.args.below c.args.zero c.args.above) (values_in c.args.places.now.cells) (selecting_by_sign (context_of code) (values_in c.args.places.now.cells) (formula_of c.args.e.now) c.args.below c.args.zero c.args.above)
     (λ n run w holds. signs_is code n run (values_in c.args.places.now.cells) c.args.place w holds (formula_of c.args.e.now) c.args.below c.args.zero c.args.above))

@@ -1,3 +1,4 @@
+-- Why `element_of` keeps its clauses.
 use Rattle.std.proofs.Common.{rules, ◌≡◌, ◌<◌, true, List, length, map, sym, subst}
 use Rattle.f66_tree.specs.Forms.{Par}
 use Rattle.f66_tree.specs.Units.{Note, notes_of, sizes_of}

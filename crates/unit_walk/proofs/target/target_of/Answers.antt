@@ -1,3 +1,4 @@
+-- Why `target_of` keeps its clauses.
 use Rattle.std.proofs.Common.{rules, ◌≡◌, ℕ, Ok, Err, Result, ◌∙◌, ap, sym}
 use Rattle.f66_tree.specs.Forms.{Text, Applied}
 use Rattle.f66_tree.specs.Units.{notes_of}

@@ -1,7 +1,7 @@
+-- Why `walk` keeps its clauses.
 use Rattle.std.proofs.Common.{rules, IfOk, ◌≡◌, true, List, sym, subst}
 use Rattle.f66_tree.specs.declared.statement.Stmt.{Stmt}
 use Rattle.f66_tree.specs.Views.{lines_of, routine_of}
-use Rattle.f66_tree.specs.World.{Record}
 use Rattle.f66_tree.specs.OneUnit.{executed}
 use Rattle.f66_sound.specs.SoundUnits.{RunsRightly}
 use Rattle.f66_check.proofs.SoundLemmas.{sound_never_wrong}
@@ -24,4 +24,4 @@ walk_statements-requires-clause-rightly c =
 pub returns : goal.returns
 returns c =
     let code : c.deref.result.now ≡ c.args.unit.now.statements.items = search rules in
-    subst (λ (all : List Stmt). IfOk c.walk_statements.result (λ (walked : Walked). (input : List Record) → shown_of walked ≡ executed (lines_of all) input c.args.limit)) code c.walk_statements.ensures
+    subst (λ (all : List Stmt). IfOk c.walk_statements.result (λ (walked : Walked). shown_of walked ≡ executed (lines_of all) c.args.input c.args.limit)) code c.walk_statements.ensures

@@ -1,4 +1,5 @@
-use Rattle.std.proofs.Common.{ℕ, List, drop, ◌∙◌, sym, subst, arith}
+-- Why `walk_on` keeps its clauses.
+use Rattle.std.proofs.Common.{rules, ℕ, List, drop, ◌∙◌, sym, subst}
 use Rattle.f66_tree.specs.declared.statement.Stmt.{Stmt}
 use Rattle.f66_tree.specs.Forms.{Line}
 use Rattle.f66_tree.specs.World.{World}
@@ -14,8 +15,8 @@ use Rattle.unit_walk.proofs.walked.walk_on.Goals as goal
 pub lines-init : goal.lines-init
 lines-init c = record {
   sound = c.requires.sound;
-  count = omega (arith, c.requires.first.begun);
-  comes = λ input. starts_there (lines_of c.args.plan.now.code.now) c.args.plan.now.limit input c.args.run.now c.requires.first;
+  count = search rules;
+  comes = λ input first. starts_there (lines_of c.args.plan.now.code.now) c.args.plan.now.limit input c.args.run.now first;
 }
 
 pub lines-preserved : goal.lines-preserved
@@ -24,27 +25,27 @@ lines-preserved c =
     let code : List Line = lines_of all in
     let limit : ℕ = c.args.plan.now.limit in
     let i : ℕ = c.in-Some.index in
-    let leads : (w : World) (pr : Progress) → Stands code limit c.lines.run w pr → LeadsTo code limit (runs code w (drop i code) pr) (At c.in-At.next) c.step.new.run =
-    subst (λ (l : Lead). (w : World) (pr : Progress) → Stands code limit c.lines.run w pr → LeadsTo code limit (runs code w (drop i code) pr) l c.step.new.run) c.in-At.is c.in_ok-next-in-Some.ensures.leads in
+    let leads : (n : ℕ) (w : World) (pr : Progress) → Stands code limit n c.lines.run w pr → LeadsTo code limit (runs code n w (drop i code) pr) (At c.in-At.next) c.step.new.run =
+    subst (λ (l : Lead). (n : ℕ) (w : World) (pr : Progress) → Stands code limit n c.lines.run w pr → LeadsTo code limit (runs code n w (drop i code) pr) l c.step.new.run) c.in-At.is c.in_ok-next-in-Some.ensures.leads in
     record {
       sound = c.in_ok-next-in-Some.ensures.sound;
       count = c.in_ok-next-in-Some.ensures.count;
-      comes = λ input. goes_on code limit (whole_run code input limit) c.lines.at c.lines.run (lines_of (drop c.lines.at all)) (drop i code) (At c.in-At.next) c.step.new.run (drop_lines all c.lines.at) (c.in-Some.ensures.rest ∙ sym (drop_lines all i)) (c.lines.invariant.comes input) leads;
+      comes = λ input first. goes_on code limit (whole_run code input limit) c.lines.at c.lines.run (lines_of (drop c.lines.at all)) (drop i code) (At c.in-At.next) c.step.new.run (drop_lines all c.lines.at) (c.in-Some.ensures.rest ∙ sym (drop_lines all i)) (c.lines.invariant.comes input first) leads;
     }
 
 pub returns-in-Over : goal.returns-in-Over
-returns-in-Over c input =
+returns-in-Over c input first =
     let all : List Stmt = c.args.plan.now.code.now in
     let code : List Line = lines_of all in
     let limit : ℕ = c.args.plan.now.limit in
     let i : ℕ = c.in-Some.index in
-    let leads : (w : World) (pr : Progress) → Stands code limit c.lines.run w pr → LeadsTo code limit (runs code w (drop i code) pr) (Over c.in-Over.halt) c.step.new.run =
-    subst (λ (l : Lead). (w : World) (pr : Progress) → Stands code limit c.lines.run w pr → LeadsTo code limit (runs code w (drop i code) pr) l c.step.new.run) c.in-Over.is c.in_ok-next-in-Some.ensures.leads in
-    goes_on code limit (whole_run code input limit) c.lines.at c.lines.run (lines_of (drop c.lines.at all)) (drop i code) (Over c.in-Over.halt) c.step.new.run (drop_lines all c.lines.at) (c.in-Some.ensures.rest ∙ sym (drop_lines all i)) (c.lines.invariant.comes input) leads
+    let leads : (n : ℕ) (w : World) (pr : Progress) → Stands code limit n c.lines.run w pr → LeadsTo code limit (runs code n w (drop i code) pr) (Over c.in-Over.halt) c.step.new.run =
+    subst (λ (l : Lead). (n : ℕ) (w : World) (pr : Progress) → Stands code limit n c.lines.run w pr → LeadsTo code limit (runs code n w (drop i code) pr) l c.step.new.run) c.in-Over.is c.in_ok-next-in-Some.ensures.leads in
+    goes_on code limit (whole_run code input limit) c.lines.at c.lines.run (lines_of (drop c.lines.at all)) (drop i code) (Over c.in-Over.halt) c.step.new.run (drop_lines all c.lines.at) (c.in-Some.ensures.rest ∙ sym (drop_lines all i)) (c.lines.invariant.comes input first) leads
 
 pub returns-in-None : goal.returns-in-None
-returns-in-None c input =
+returns-in-None c input first =
     let all : List Stmt = c.args.plan.now.code.now in
     let code : List Line = lines_of all in
     let limit : ℕ = c.args.plan.now.limit in
-    ends_there code limit (whole_run code input limit) c.lines.at c.lines.run (lines_of (drop c.lines.at all)) (drop_lines all c.lines.at) c.in-None.ensures.rest (c.lines.invariant.comes input)
+    ends_there code limit (whole_run code input limit) c.lines.at c.lines.run (lines_of (drop c.lines.at all)) (drop_lines all c.lines.at) c.in-None.ensures.rest (c.lines.invariant.comes input first)

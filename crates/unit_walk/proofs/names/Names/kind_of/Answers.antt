@@ -1,3 +1,4 @@
+-- Why `Names::kind_of` keeps its clauses.
 use Rattle.std.proofs.Common.{rules, ◌≡◌, Some, None, ◌∙◌, ap, sym}
 use Rattle.std.specs.HashMap.{get_by}
 use Rattle.std.specs.Str.{bytes_eq}

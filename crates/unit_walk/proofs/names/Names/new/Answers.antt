@@ -1,3 +1,4 @@
+-- Why `Names::new` keeps its clauses.
 use Rattle.f66_tree.specs.Units.{notes_of}
 use Rattle.f66_tree.specs.Views.{lines_of}
 use Rattle.unit_walk.proofs.NameLemmas.{kinds_named, sizes_named, no_commons}

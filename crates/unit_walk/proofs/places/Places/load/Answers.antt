@@ -1,3 +1,4 @@
+-- Why `Places::load` keeps its clauses.
 use Rattle.std.proofs.Common.{rules, FitsSigned, w64}
 use Rattle.std.proofs.lemmas.Int.{to_z-of_z}
 use Rattle.ground.specs.declared.value.Value.TheVariants.{Int}

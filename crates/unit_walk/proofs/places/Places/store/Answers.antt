@@ -1,3 +1,4 @@
+-- Why `Places::store` keeps its clauses.
 use Rattle.std.proofs.Common.{rules, ◌≡◌, List, [], Option, Some, None, nat_eq, get_or, if◌then◌else◌, ◌∙◌, ap, subst}
 use Rattle.std.specs.Str.{bytes_eq}
 use Rattle.std.specs.HashMap.{get_by}

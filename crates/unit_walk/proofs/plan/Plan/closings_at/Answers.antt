@@ -1,3 +1,4 @@
+-- Why `Plan::closings_at` keeps its clauses.
 use Rattle.std.proofs.Common.{rules, ◌≡◌, get_or, sym, subst, List}
 use Rattle.f66_tree.specs.Views.{lines_of}
 use Rattle.unit_walk.specs.declared.do_loop.Closing.{Closing}

@@ -1,3 +1,4 @@
+-- Why `Plan::line_with` keeps its clauses.
 use Rattle.std.proofs.Common.{rules, ◌≡◌, Some, None}
 use Rattle.std.specs.BTreeMap.{get_by}
 use Rattle.std.specs.Ordering.{nat_cmp}
