@@ -6,12 +6,14 @@ use std::alloc::{AllocError, Global};
 use std::process::Abort;
 use std::test::Fail;
 
-/// A call of `eft`: its words, the texts by their names, and which fetch, put on out and put on diag fail; 0 is none.
+/// A call of `eft`: its words, the texts by their names, the pieces of its input, and which fetch, put on out, put on diag and
+/// read fail; 0 is none.
 #[derive(Drop)]
 pub struct Call<'a> {
     pub words: &'a [&'a str],
     pub texts: &'a [(&'a str, &'a [u8])],
-    pub failing: (u64, u64, u64),
+    pub input: &'a [&'a [u8]],
+    pub failing: (u64, u64, u64, u64),
 }
 
 /// The exit code, and what out and diag have.
@@ -42,6 +44,17 @@ pub fn library_of(alloc: Global, texts: &[(&str, &[u8])], fetch: u64) -> Result<
     Ok(MemLibrary::new(names, failing(alloc, fetch)?))
 }
 
+/// A source of these pieces, of whose reads one fails. A piece without bytes is left out.
+fn source_of(alloc: Global, pieces: &[&[u8]], read: u64) -> Result<MemSource, Fail> {
+    let mut full = Vec::new(alloc);
+    for piece in pieces {
+        if !piece.is_empty() {
+            full.push(piece.to_vec(alloc)?)?;
+        }
+    }
+    Ok(MemSource::new(full, failing(alloc, read)?))
+}
+
 /// Bytes as characters.
 fn shown(alloc: Global, bytes: &[u8]) -> Result<String, AllocError> {
     let mut shown = String::new(alloc);
@@ -70,9 +83,9 @@ pub fn expect(
     call: Call<'_>,
     wanted: Wanted<'_>,
 ) -> Result<(), Fail> {
-    let (fetch, put, line) = call.failing;
+    let (fetch, put, line, read) = call.failing;
     let mut library = library_of(alloc, call.texts, fetch)?;
-    let mut input = MemSource::new(Vec::new(alloc), Vec::new(alloc));
+    let mut input = source_of(alloc, call.input, read)?;
     let mut out = MemSink::new(alloc, 4096, failing(alloc, put)?).map_err(|_| "want of memory")?;
     let mut diag = MemSink::new(alloc, 256, failing(alloc, line)?).map_err(|_| "want of memory")?;
     let mut words = Vec::new(alloc);
@@ -101,7 +114,8 @@ pub fn expect_text(
     let call = Call {
         words: &RUN,
         texts: &[("p.r", text)],
-        failing: (0, 0, 0),
+        input: &[],
+        failing: (0, 0, 0, 0),
     };
     expect(rt, alloc, call, Wanted { code, out, diag })
 }

@@ -177,7 +177,8 @@ fn macros_and_includes(rt: HostRuntime) -> Result<(), Fail> {
         let call = Call {
             words: &RUN,
             texts: &texts,
-            failing: (0, 0, 0),
+            input: &[],
+            failing: (0, 0, 0, 0),
         };
         let wanted = Wanted {
             code: *code,
@@ -254,7 +255,8 @@ fn words(rt: HostRuntime) -> Result<(), Fail> {
         let call = Call {
             words,
             texts: &[("p.r", ENDLESS)],
-            failing: (0, 0, 0),
+            input: &[],
+            failing: (0, 0, 0, 0),
         };
         let wanted = Wanted {
             code: *code,
@@ -291,17 +293,18 @@ fn limits(rt: HostRuntime) -> Result<(), Fail> {
 #[test]
 fn failures(rt: HostRuntime) -> Result<(), Fail> {
     let two = b"k = 1\nwrite(6,9) k\nwrite(6,9) k\n9 format(i11)\nk = k + n\nend\n";
-    let table: [((u64, u64, u64), u8, &str, &str); 5] = [
-        ((1, 0, 0), 4, "", "library fault\n"),
-        ((2, 0, 0), 4, "", "library fault\n"),
-        ((0, 1, 0), 6, "", "output fault\n"),
-        ((0, 2, 0), 6, "          1\n", "output fault\n"),
-        ((0, 0, 1), 6, "          1\n          1\n", ""),
+    let table: [((u64, u64, u64, u64), u8, &str, &str); 5] = [
+        ((1, 0, 0, 0), 4, "", "library fault\n"),
+        ((2, 0, 0, 0), 4, "", "library fault\n"),
+        ((0, 1, 0, 0), 6, "", "output fault\n"),
+        ((0, 2, 0, 0), 6, "          1\n", "output fault\n"),
+        ((0, 0, 1, 0), 6, "          1\n          1\n", ""),
     ];
     for (failing, code, out, diag) in &table {
         let call = Call {
             words: &RUN,
             texts: &[("p.r", b"include q\n"), ("q", two)],
+            input: &[],
             failing: *failing,
         };
         let wanted = Wanted {

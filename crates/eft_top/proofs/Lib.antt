@@ -1,2 +1,5 @@
+-- The lemmas of eft_top.
 mod Statuses
 mod StepNumbers
+mod ReadsInARow
+mod Reports

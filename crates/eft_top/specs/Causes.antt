@@ -2,8 +2,9 @@
 use Rattle.std.specs.Prelude.{◌≡◌, ◌⊎◌, ℕ, List, [], ◌∷◌, Some, None}
 use Rattle.std.specs.declared.option.Option.{Option}
 use Rattle.eft_top.specs.declared.status.Status.{Status}
-use Rattle.eft_top.specs.declared.status.Status.TheVariants.{Done, Usage, SourceFault, LibraryFault, InputFault, OutputFault, StepLimit, Memory, Stopped, Trapped}
-use Rattle.eft_top.specs.Lines.{usage_line, library_fault_line, memory_line, output_fault_line}
+use Rattle.eft_top.specs.declared.status.Status.TheVariants.{Done, Usage, SourceFault, LibraryFault, InputFault, OutputFault, StepLimit, Memory, Stopped, InputTooLong, Trapped}
+use Rattle.eft_top.specs.Lines.{usage_line, library_fault_line, memory_line, output_fault_line, input_too_long_line}
+use Rattle.eft_top.specs.Input.{Got}
 use Rattle.eft_top.specs.Words.{Command}
 use Rattle.eft_top.specs.Outcome.{Outcome, status_of, out_of, line_of, IsOutcome}
 
@@ -23,18 +24,33 @@ MayBe told status = (outcome : Outcome) × told outcome × (status_of outcome �
 abbrev pub MustBe : (Outcome → Type 0) → Status → Type 0
 MustBe told status = (outcome : Outcome) → told outcome → status_of outcome ≡ Some status
 
--- a status that a text has
+-- a status that a text has, or a text and its input
 abbrev pub IsOfText : Status → Type 0
 IsOfText Done = Unit {0}
 IsOfText Usage = ⊥
 IsOfText SourceFault = Unit {0}
 IsOfText LibraryFault = ⊥
-IsOfText InputFault = ⊥
+IsOfText InputFault = Unit {0}
 IsOfText OutputFault = ⊥
 IsOfText StepLimit = Unit {0}
 IsOfText Memory = ⊥
 IsOfText (Stopped n) = Unit {0}
+IsOfText InputTooLong = Unit {0}
 IsOfText (Trapped trap) = Unit {0}
+
+-- a status for which no input is read
+abbrev pub NeedsNoInput : Status → Type 0
+NeedsNoInput Done = ⊥
+NeedsNoInput Usage = Unit {0}
+NeedsNoInput SourceFault = Unit {0}
+NeedsNoInput LibraryFault = Unit {0}
+NeedsNoInput InputFault = ⊥
+NeedsNoInput OutputFault = ⊥
+NeedsNoInput StepLimit = ⊥
+NeedsNoInput Memory = ⊥
+NeedsNoInput (Stopped n) = ⊥
+NeedsNoInput InputTooLong = ⊥
+NeedsNoInput (Trapped trap) = ⊥
 
 -- the line of a status that says all
 abbrev pub fixed_line : Status → Option (List ℕ)
@@ -47,13 +63,15 @@ fixed_line OutputFault = None
 fixed_line StepLimit = None
 fixed_line Memory = Some memory_line
 fixed_line (Stopped n) = None
+fixed_line InputTooLong = Some input_too_long_line
 fixed_line (Trapped trap) = None
 
--- The words ask for a command. There is an outcome of some text, of the told one where the library tells it, whose
+-- The words ask for a command. There is an outcome of some text, of the told one where the library tells it, and of what
+-- reads may have given, whose
 -- status this is, whose bytes out got and whose line diag got.
-pub record IsShown (command : Option Command) (files : Option (List ℕ → Option (List ℕ))) (result : Status) (out diag : List ℕ → Type 0) : Type 0 where
+pub record IsShown (command : Option Command) (files : Option (List ℕ → Option (List ℕ))) (given : Got → Type 0) (result : Status) (out diag : List ℕ → Type 0) : Type 0 where
   pub outcome : Outcome
-  pub is : IsOutcome command files outcome
+  pub is : IsOutcome command files given outcome
   pub status : Some result ≡ status_of outcome
   pub on_out : out (out_of outcome)
   pub on_diag : diag (line_of outcome)
@@ -63,13 +81,13 @@ IsLineOf line [] = ⊥
 IsLineOf line (one ∷ others) = (line ≡ one) ⊎ IsLineOf line others
 
 -- what out was to get: nothing, or the bytes of an outcome; and P of it
-pub record ForOut (command : Option Command) (files : Option (List ℕ → Option (List ℕ))) (P : List ℕ → Type 0) : Type 0 where
+pub record ForOut (command : Option Command) (files : Option (List ℕ → Option (List ℕ))) (given : Got → Type 0) (P : List ℕ → Type 0) : Type 0 where
   pub bytes : List ℕ
-  pub planned : (bytes ≡ []) ⊎ ((outcome : Outcome) × IsOutcome command files outcome × (bytes ≡ out_of outcome))
+  pub planned : (bytes ≡ []) ⊎ ((outcome : Outcome) × IsOutcome command files given outcome × (bytes ≡ out_of outcome))
   pub holds : P bytes
 
 -- what diag was to get: a line that says all, or the line of an outcome; and P of it
-pub record ForDiag (command : Option Command) (files : Option (List ℕ → Option (List ℕ))) (P : List ℕ → Type 0) : Type 0 where
+pub record ForDiag (command : Option Command) (files : Option (List ℕ → Option (List ℕ))) (given : Got → Type 0) (P : List ℕ → Type 0) : Type 0 where
   pub line : List ℕ
-  pub planned : IsLineOf line (output_fault_line ∷ usage_line ∷ library_fault_line ∷ memory_line ∷ []) ⊎ ((outcome : Outcome) × IsOutcome command files outcome × (line ≡ line_of outcome))
+  pub planned : IsLineOf line (output_fault_line ∷ usage_line ∷ library_fault_line ∷ memory_line ∷ []) ⊎ ((outcome : Outcome) × IsOutcome command files given outcome × (line ≡ line_of outcome))
   pub holds : P line

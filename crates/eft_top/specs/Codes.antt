@@ -2,7 +2,7 @@
 use Rattle.std.specs.Prelude.{ℕ, ◌+◌}
 use Rattle.ground.specs.TrapNames.{trap_number}
 use Rattle.eft_top.specs.declared.status.Status.{Status}
-use Rattle.eft_top.specs.declared.status.Status.TheVariants.{Done, Usage, SourceFault, LibraryFault, InputFault, OutputFault, StepLimit, Memory, Stopped, Trapped}
+use Rattle.eft_top.specs.declared.status.Status.TheVariants.{Done, Usage, SourceFault, LibraryFault, InputFault, OutputFault, StepLimit, Memory, Stopped, InputTooLong, Trapped}
 
 abbrev pub code_of : Status → ℕ
 code_of Done = 0
@@ -14,4 +14,5 @@ code_of OutputFault = 6
 code_of StepLimit = 7
 code_of Memory = 8
 code_of (Stopped n) = 9
+code_of InputTooLong = 10
 code_of (Trapped trap) = 10 + trap_number trap

@@ -1,6 +1,8 @@
+-- The definitions that the contracts of eft_top cite.
 pub mod Codes
 pub mod Lines
 pub mod Words
+pub mod Input
 pub mod Outcome
 pub mod Causes
 pub mod Story

@@ -1,13 +1,17 @@
 -- What a report shows.
-use Rattle.std.specs.Prelude.{◌≡◌, ℕ, List, Some, string_bytes}
+use Rattle.std.specs.Prelude.{◌≡◌, ℕ, List, Some, Bool, true, false}
 use Rattle.std.specs.declared.option.Option.{Option}
 use Rattle.ports.specs.Left.{joined}
-use Rattle.eft_top.specs.declared.status.Status.{Status}
+use Rattle.f66_tree.specs.World.{Shown}
+use Rattle.f66_tree.specs.Views.{lines_of}
+use Rattle.f66_tree.specs.OneUnit.{executed}
+use Rattle.rat_front.specs.declared.compile.Compiled.{Compiled}
 use Rattle.eft_top.specs.declared.report.Line.{Line}
 use Rattle.eft_top.specs.declared.report.Line.TheVariants.{Made, Fixed}
 use Rattle.eft_top.specs.declared.report.Report.{Report}
 use Rattle.eft_top.specs.Words.{Command}
-use Rattle.eft_top.specs.Outcome.{Outcome, status_of, out_of, line_of, IsOutcome}
+use Rattle.eft_top.specs.Input.{Got, is_too_long, records_of}
+use Rattle.eft_top.specs.Outcome.{Outcome, HasLongInput, Runs, status_of, out_of, line_of, IsOutcome}
 
 abbrev pub line_bytes : Line → List ℕ
 line_bytes (Made text) = text.items
@@ -20,7 +24,16 @@ pub record IsReport (report : Report) (outcome : Outcome) : Type 0 where
   pub line : line_bytes report.line ≡ line_of outcome
 
 -- it shows what came of a command
-pub record Tells (command : Command) (files : Option (List ℕ → Option (List ℕ))) (report : Report) : Type 0 where
+pub record Tells (command : Command) (files : Option (List ℕ → Option (List ℕ))) (given : Got → Type 0) (report : Report) : Type 0 where
   pub outcome : Outcome
-  pub is : IsOutcome (Some command) files outcome
+  pub is : IsOutcome (Some command) files given outcome
   pub shows : IsReport report outcome
+
+-- it shows what came of a compiled text and what was got of the input, by whether that is too long
+abbrev pub ReportsIn : Bool → Report → Compiled → ℕ → Got → Type 0
+ReportsIn true report compiled limit got = IsReport report HasLongInput
+ReportsIn false report compiled limit got =
+    (shown : Shown) × (shown ≡ executed (lines_of compiled.unit.statements.items) (records_of got) limit) × IsReport report (Runs compiled.files.items limit got.failed shown)
+
+abbrev pub ReportsOn : Report → Compiled → ℕ → Got → Type 0
+ReportsOn report compiled limit got = ReportsIn (is_too_long got) report compiled limit got

@@ -8,6 +8,7 @@ use Rattle.eft_top.specs.declared.status.Status.{Status}
 use Rattle.eft_top.specs.declared.status.Status.TheVariants.{Usage, LibraryFault, Memory}
 use Rattle.eft_top.specs.Lines.{usage_line, library_fault_line, memory_line}
 use Rattle.eft_top.specs.Words.{Command}
+use Rattle.eft_top.specs.Input.{Got}
 use Rattle.eft_top.specs.Outcome.{Outcome, status_of, out_of, line_of, IsOutcome}
 
 pub data Story : Type 0 where
@@ -16,13 +17,13 @@ pub data Story : Type 0 where
   NoMemory : Story
   Shows : Outcome → Story
 
--- the words, the library's texts and its count before and after; then the status, the bytes for out and those for diag
-abbrev pub Came : Story → Option Command → Option (List ℕ → Option (List ℕ)) → ℕ → ℕ → Status → List ℕ → List ℕ → Type 0
-Came BadWords command files before now status out line = (command ≡ None) × (status ≡ Usage) × (out ≡ []) × (line ≡ usage_line)
-Came NotFetched command files before now status out line = ((command ≡ None) → ⊥) × Rose before now × (status ≡ LibraryFault) × (out ≡ []) × (line ≡ library_fault_line)
-Came NoMemory command files before now status out line = ((command ≡ None) → ⊥) × (status ≡ Memory) × (out ≡ []) × (line ≡ memory_line)
-Came (Shows outcome) command files before now status out line =
-    IsOutcome command files outcome × (now ≡ before) × (Some status ≡ status_of outcome) × (out ≡ out_of outcome) × (line ≡ line_of outcome)
+-- the words, the library's texts and its count before and after, and what reads may have given; then the status, the bytes for out and those for diag
+abbrev pub Came : Story → Option Command → Option (List ℕ → Option (List ℕ)) → ℕ → ℕ → (Got → Type 0) → Status → List ℕ → List ℕ → Type 0
+Came BadWords command files before now given status out line = (command ≡ None) × (status ≡ Usage) × (out ≡ []) × (line ≡ usage_line)
+Came NotFetched command files before now given status out line = ((command ≡ None) → ⊥) × Rose before now × (status ≡ LibraryFault) × (out ≡ []) × (line ≡ library_fault_line)
+Came NoMemory command files before now given status out line = ((command ≡ None) → ⊥) × (status ≡ Memory) × (out ≡ []) × (line ≡ memory_line)
+Came (Shows outcome) command files before now given status out line =
+    IsOutcome command files given outcome × (now ≡ before) × (Some status ≡ status_of outcome) × (out ≡ out_of outcome) × (line ≡ line_of outcome)
 
 -- a failed fetch has raised the count, and an answer leaves it
 abbrev pub Caused : {T : Type 0} → ℕ → ℕ → Result T FetchFault → Type 0

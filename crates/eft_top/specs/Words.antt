@@ -1,5 +1,5 @@
 -- What the words ask for: run [--steps N] ratfor FILE, with options anywhere behind the command.
-use Rattle.std.specs.Prelude.{ℕ, zero, ◌+◌, ◌-◌, ◌*◌, ◌<◌, nat_le, nat_lt, List, [], ◌∷◌, ◌&&◌, ◌||◌, not, Bool, true, false, codes, Some, None, if◌then◌else◌, ◌==◌, map, fold, take, drop, length, String, string_bytes, unwrap_or}
+use Rattle.std.specs.Prelude.{ℕ, ◌+◌, ◌-◌, ◌*◌, nat_le, List, [], ◌∷◌, ◌&&◌, not, Bool, false, codes, Some, None, if◌then◌else◌, ◌==◌, map, fold, take, drop, String, string_bytes, unwrap_or}
 use Rattle.std.specs.Str.{bytes_eq}
 use Rattle.std.specs.Char.{is_ascii_digit}
 use Rattle.std.specs.declared.option.Option.{Option}

@@ -1,27 +1,34 @@
-// What a call has to show: the words are read, the text is compiled, and its unit is walked.
-ghost use Rattle.std.specs.Prelude.{◌≡◌, List, IfOk};
+// What a call has to show: the words are read, the text is compiled, the input is read, and the unit is walked over it.
+ghost use Rattle.std.specs.Prelude.{◌≡◌, false, IfOk, IsErrOf};
 ghost use Rattle.ports.specs.Left.{joined};
-ghost use Rattle.f66_tree.specs.World.{Record, Shown};
-ghost use Rattle.f66_tree.specs.Views.{lines_of};
-ghost use Rattle.f66_tree.specs.OneUnit.{executed};
 ghost use Rattle.eft_top.specs.Words.{command_of, texts, asked_command, Run};
-ghost use Rattle.eft_top.specs.Outcome.{Runs};
+ghost use Rattle.eft_top.specs.Causes.{NeedsNoInput};
+ghost use Rattle.eft_top.specs.Input.{Got as AllGot, HasGiven, HasRead, got_of, is_too_long};
 ghost use Rattle.eft_top.specs.Story.{Story, Came, Caused};
-ghost use Rattle.eft_top.specs.Report.{IsReport, Tells, line_bytes};
+ghost use Rattle.eft_top.specs.Report.{ReportsOn, Tells, line_bytes};
 
 use crate::Status;
+use crate::input::{Got, read_input};
 use crate::report::Report;
 use crate::words::{Asked, read_words};
 use ground::Memory;
-use ports::{FetchFault, Library};
+use ports::{FetchFault, Library, Source};
 use rat_front::{Compiled, GatherRefusal, compile_text};
 use std::alloc::Global;
 use unit_walk::walk;
 
 /// All that a call does but for its puts.
-pub fn answer_to<L: Library>(alloc: Global, words: &Vec<String>, library: &mut L) -> Report
+pub fn answer_to<L: Library, S: Source>(
+    alloc: Global,
+    words: &Vec<String>,
+    library: &mut L,
+    input: &mut S,
+) -> Report
     ensures library { L.becomes library.old library.new }
-    ensures story { (story : Story) × Came story (command_of (texts words.now.items)) (L.files library.old) (L.faults library.old) (L.faults library.new) result.status (joined result.records.items) (line_bytes result.line) }
+    ensures input { HasRead (S.left input.old) (S.left input.new) }
+    ensures unread { NeedsNoInput result.status → input.new ≡ input.old }
+    ensures story { (story : Story) × Came story (command_of (texts words.now.items)) (L.files library.old) (L.faults library.old) (L.faults library.new)
+        (HasGiven S.left S.faults input.old input.new) result.status (joined result.records.items) (line_bytes result.line) }
 {
     let Some(asked) = read_words(words) else {
         return Report::fixed(
@@ -30,40 +37,48 @@ pub fn answer_to<L: Library>(alloc: Global, words: &Vec<String>, library: &mut L
             "usage: eft cards|run|deck|listing|mill\n",
         );
     };
-    match report_of(alloc, asked, library) {
+    match report_of(alloc, asked, library, input) {
         Ok(report) => report,
         Err(FetchFault::Failed) => Report::fixed(alloc, Status::LibraryFault, "library fault\n"),
         Err(FetchFault::Memory) => Report::fixed(alloc, Status::Memory, "out of memory\n"),
     }
 }
 
-fn report_of<L: Library>(
+fn report_of<L: Library, S: Source>(
     alloc: Global,
     asked: Asked<'_>,
     library: &mut L,
+    input: &mut S,
 ) -> Result<Report, FetchFault>
-    ensures tells { IfOk result (Tells (asked_command asked.entry) (L.files library.old)) }
+    ensures tells { IfOk result (Tells (asked_command asked.entry) (L.files library.old) (HasGiven S.left S.faults input.old input.new)) }
     ensures becomes { L.becomes library.old library.new }
+    ensures input { HasRead (S.left input.old) (S.left input.new) }
+    ensures unread { IfOk result (λ report. NeedsNoInput report.status → input.new ≡ input.old) }
+    ensures unread_failed { IsErrOf result FetchFault.Failed → input.new ≡ input.old }
     ensures cause { Caused (L.faults library.old) (L.faults library.new) result }
 {
     match asked {
-        Asked::Run(limit, file) => run_file(alloc, limit, file, library),
+        Asked::Run(limit, file) => run_file(alloc, limit, file, library, input),
     }
 }
 
 /// Compiles and runs the text in a file.
-fn run_file<L: Library>(
+fn run_file<L: Library, S: Source>(
     alloc: Global,
     limit: u64,
     file: &str,
     library: &mut L,
+    input: &mut S,
 ) -> Result<Report, FetchFault>
-    ensures tells { IfOk result (Tells (Run limit file.now) (L.files library.old)) }
+    ensures tells { IfOk result (Tells (Run limit file.now) (L.files library.old) (HasGiven S.left S.faults input.old input.new)) }
     ensures becomes { L.becomes library.old library.new }
+    ensures input { HasRead (S.left input.old) (S.left input.new) }
+    ensures unread { IfOk result (λ report. NeedsNoInput report.status → input.new ≡ input.old) }
+    ensures unread_failed { IsErrOf result FetchFault.Failed → input.new ≡ input.old }
     ensures cause { Caused (L.faults library.old) (L.faults library.new) result }
 {
     match compile_text(alloc, file, library) {
-        Ok(compiled) => match run(alloc, limit, &compiled) {
+        Ok(compiled) => match read_and_run(alloc, limit, &compiled, input) {
             Ok(report) => Ok(report),
             Err(Memory) => Err(FetchFault::Memory),
         },
@@ -73,10 +88,31 @@ fn run_file<L: Library>(
     }
 }
 
-fn run(alloc: Global, limit: u64, compiled: &Compiled) -> Result<Report, Memory>
-    ensures { IfOk result (λ report. (shown : Shown) × ((input : List Record) → shown ≡ executed (lines_of compiled.now.unit.statements.items) input limit)
-        × IsReport report (Runs compiled.now.files.items limit shown)) }
+/// Reads the input, and runs over its records.
+fn read_and_run<S: Source>(
+    alloc: Global,
+    limit: u64,
+    compiled: &Compiled,
+    input: &mut S,
+) -> Result<Report, Memory>
+    ensures read { HasRead (S.left input.old) (S.left input.new) }
+    ensures needs { IfOk result (λ report. NeedsNoInput report.status → ⊥) }
+    ensures report { IfOk result (λ report. (got : AllGot) × HasGiven S.left S.faults input.old input.new got
+        × ReportsOn report compiled.now limit got) }
 {
-    let walked = walk(alloc, &compiled.unit, limit)?;
-    Ok(Report::of_run(alloc, &compiled.files, limit, walked)?)
+    let got = read_input(alloc, input)?;
+    if got.is_too_long() {
+        return Ok(Report::fixed(alloc, Status::InputTooLong, "input too long\n"));
+    }
+    run(alloc, limit, compiled, got)
+}
+
+fn run(alloc: Global, limit: u64, compiled: &Compiled, got: Got) -> Result<Report, Memory>
+    requires { is_too_long (got_of got) ≡ false }
+    ensures needs { IfOk result (λ report. NeedsNoInput report.status → ⊥) }
+    ensures report { IfOk result (λ report. ReportsOn report compiled.now limit (got_of got)) }
+{
+    let failed = got.failed;
+    let walked = walk(alloc, &compiled.unit, got.into_records(), limit)?;
+    Ok(Report::of_run(alloc, &compiled.files, limit, failed, walked)?)
 }

@@ -3,6 +3,7 @@
 
 mod answer;
 mod deliver;
+mod input;
 mod lines;
 mod numbers;
 mod report;

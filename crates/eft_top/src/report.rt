@@ -10,7 +10,7 @@ ghost use Rattle.eft_top.specs.Report.{IsReport, line_bytes};
 
 use crate::Status;
 use crate::lines::{fault_text, limit_text, stop_text, trap_text};
-use ground::{Fault, Text};
+use ground::{Fault, Text, Trap};
 use std::alloc::{AllocError, Global};
 use unit_walk::{RunEnd, Walked};
 
@@ -65,14 +65,15 @@ impl Report {
         })
     }
 
-    /// A run with this limit of steps.
+    /// A run with this limit of steps, over an input of which a read has failed or none has.
     pub fn of_run(
         alloc: Global,
         files: &[Text],
         limit: u64,
+        failed: bool,
         walked: Walked,
     ) -> Result<Report, AllocError>
-        ensures { IfOk result (λ report. IsReport report (Runs files.now limit (shown_of walked))) }
+        ensures { IfOk result (λ report. IsReport report (Runs files.now limit failed (shown_of walked))) }
     {
         let Walked { records, end, .. } = walked;
         let (status, line) = match end {
@@ -81,6 +82,9 @@ impl Report {
                 Status::Stopped(number),
                 Line::Made(stop_text(alloc, number)?),
             ),
+            RunEnd::Trapped(Trap::EndOfInput, _) if failed => {
+                (Status::InputFault, Line::Fixed("input fault\n"))
+            }
             RunEnd::Trapped(trap, place) => {
                 let file = name_of(files, place.file);
                 (

@@ -1,3 +1,4 @@
+-- Why `steps_in` keeps its clauses.
 use Rattle.std.proofs.Common.{drop, sym, ◌∙◌}
 use Rattle.eft_top.proofs.StepNumbers.{too_many}
 use Rattle.eft_top.proofs.numbers.steps_in.Goals as goal

@@ -1,3 +1,4 @@
+-- What holds at each turn of the loops of `steps_in`.
 use Rattle.std.proofs.Common.{◌≡◌, drop}
 use Rattle.eft_top.specs.Words.{steps_after}
 use Rattle.eft_top.proofs.numbers.steps_in.Given as goal

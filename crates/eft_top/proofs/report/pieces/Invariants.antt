@@ -1,3 +1,4 @@
+-- What holds at each turn of the loops of `pieces`.
 use Rattle.std.proofs.Common.{◌≡◌, take}
 use Rattle.ports.specs.Left.{joined}
 use Rattle.ports.specs.Records.{output_bytes}
