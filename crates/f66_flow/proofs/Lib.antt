@@ -1,3 +1,4 @@
+-- The lemmas of f66_flow.
 mod Examples
 pub mod PlaceLemmas
 pub mod StackLemmas

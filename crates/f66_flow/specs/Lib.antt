@@ -1,3 +1,4 @@
+-- The definitions that the contracts of f66_flow cite.
 pub mod Acts
 pub mod Ranges
 pub mod FlowRules

@@ -1,2 +1,3 @@
+-- The definitions that the contracts of name_alloc cite.
 pub mod Numbers
 pub mod MadeNames

@@ -1,2 +1,3 @@
+-- The definitions that the contracts of rat_front cite.
 pub mod Verdict
 pub mod Compiled

@@ -1,1 +1,2 @@
+-- The lemmas of rat_grammar.
 pub mod WholeLemmas

@@ -1,2 +1,3 @@
+-- The definitions that the contracts of rat_grammar cite.
 pub mod Build
 pub mod Ratfor

@@ -1,1 +1,2 @@
+-- The lemmas of rat_phrases.
 pub mod FieldLemmas

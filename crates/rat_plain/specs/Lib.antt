@@ -1,1 +1,2 @@
+-- The definitions that the contracts of rat_plain cite.
 pub mod Plain

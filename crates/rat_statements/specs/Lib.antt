@@ -1,2 +1,3 @@
+-- The definitions that the contracts of rat_statements cite.
 pub mod Statements
 pub mod Choices

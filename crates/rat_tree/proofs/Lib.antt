@@ -1,3 +1,4 @@
+-- The lemmas of rat_tree.
 pub mod Rows
 mod Examples
 pub mod RelatedCommands

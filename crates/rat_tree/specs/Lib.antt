@@ -1,3 +1,4 @@
+-- The definitions that the contracts of rat_tree cite.
 pub mod Commands
 pub mod Views
 pub mod Meaning

@@ -1,3 +1,4 @@
+-- Why `flow_of` keeps its clauses.
 use Rattle.std.proofs.Common.{◌≡◌, ℕ, List, map, ◌∙◌, sym, ap, arith, length}
 use Rattle.std.proofs.lemmas.List.{length-map}
 use Rattle.rule_table.specs.Words.{first_place, last_place}

@@ -1,3 +1,4 @@
+-- Why `label_places` keeps its clauses.
 use Rattle.std.proofs.Common.{arith}
 use Rattle.std.proofs.lemmas.Grind.{common_steps}
 use Rattle.rule_table.proofs.WordLemmas.{place_steps}

@@ -1,3 +1,4 @@
+-- What holds at each turn of the loops of `label_places`.
 use Rattle.std.proofs.Common.{◌≡◌, ℕ, nat_eq, take}
 use Rattle.std.specs.HashMap.{get}
 use Rattle.rule_table.specs.Words.{first_place}

@@ -1,3 +1,4 @@
+-- Why `labels_of` keeps its clauses.
 use Rattle.std.proofs.Common.{◌∙◌, sym}
 use Rattle.f66_tree.specs.Views.{line_of}
 use Rattle.f66_tree.specs.Execution.{has_label}

@@ -1,3 +1,4 @@
+-- What holds at each turn of the loops of `first_executable`.
 use Rattle.std.proofs.Common.{◌≡◌, take, None}
 use Rattle.rule_table.specs.Words.{first_place}
 use Rattle.f66_tree.specs.Views.{act_of}

@@ -1,3 +1,4 @@
+-- What holds at each turn of the loops of `last_executable`.
 use Rattle.std.proofs.Common.{◌≡◌, take}
 use Rattle.rule_table.specs.Words.{last_place}
 use Rattle.f66_tree.specs.Views.{act_of}

@@ -1,3 +1,4 @@
+-- Why `beginning_on_top` keeps its clauses.
 use Rattle.std.proofs.Common.{◌∙◌, sym, ap, length, ◌-◌, option_map}
 use Rattle.std.specs.List.{slice_get}
 use Rattle.f66_flow.proofs.StackLemmas.{top_of_at}

@@ -1,3 +1,4 @@
+-- Why `drop_ended` keeps its clauses.
 use Rattle.std.proofs.Common.{◌∙◌, sym}
 use Rattle.f66_flow.proofs.StackLemmas.{dropped}
 use Rattle.f66_flow.proofs.ranges.drop_ended.Goals as goal

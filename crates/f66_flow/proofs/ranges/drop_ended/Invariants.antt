@@ -1,3 +1,4 @@
+-- What holds at each turn of the loops of `drop_ended`.
 use Rattle.std.proofs.Common.{◌≡◌, ◌≤◌, ℕ, vec_len}
 use Rattle.f66_flow.specs.Innermost.{last_range}
 use Rattle.f66_flow.proofs.ranges.drop_ended.Given as goal

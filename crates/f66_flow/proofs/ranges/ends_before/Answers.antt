@@ -1,3 +1,4 @@
+-- Why `ends_before` keeps its clauses.
 use Rattle.std.proofs.Common.{◌∙◌, sym, ap, length, ◌-◌}
 use Rattle.std.specs.List.{slice_get}
 use Rattle.f66_flow.specs.Innermost.{ends_before}

@@ -1,3 +1,4 @@
+-- Why `innermost_ranges` keeps its clauses.
 use Rattle.std.proofs.Common.{arith, ◌∙◌, ◌≤◌}
 use Rattle.std.proofs.lemmas.Grind.{common_steps}
 use Rattle.f66_flow.specs.Innermost.{innermost}

@@ -1,3 +1,4 @@
+-- What holds at each turn of the loops of `innermost_ranges`.
 use Rattle.std.proofs.Common.{◌≡◌, ◌≤◌, ◌<◌, ℕ, length, take, None, get_or}
 use Rattle.std.specs.Prelude.{nat_le}
 use Rattle.rule_table.specs.Words.{last_place}

@@ -1,3 +1,4 @@
+-- What holds at each turn of the loops of `range_ends`.
 use Rattle.std.proofs.Common.{◌≡◌, map, take}
 use Rattle.f66_tree.specs.Views.{act_of}
 use Rattle.f66_flow.specs.Ranges.{range_end}

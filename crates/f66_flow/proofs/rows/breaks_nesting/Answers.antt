@@ -1,3 +1,4 @@
+-- Why `breaks_nesting` keeps its clauses.
 use Rattle.std.proofs.Common.{◌≡◌, ◌<◌, ℕ, false, subst}
 use Rattle.ground.specs.declared.fault.FaultKind.{FaultKind}
 use Rattle.f66_flow.specs.FlowRules.{breaks_flow_at}

@@ -1,3 +1,4 @@
+-- Why `enters` keeps its clauses.
 use Rattle.std.proofs.Common.{sym}
 use Rattle.f66_flow.proofs.PlaceLemmas.{named_within}
 use Rattle.f66_flow.proofs.rows.enters.Goals as goal

@@ -1,3 +1,4 @@
+-- Why `enters_at` keeps its clauses.
 use Rattle.std.proofs.Common.{◌∙◌, sym, ap}
 use Rattle.std.specs.Prelude.{not}
 use Rattle.f66_flow.specs.Ranges.{range_ends}

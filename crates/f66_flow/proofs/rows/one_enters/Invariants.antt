@@ -1,3 +1,4 @@
+-- What holds at each turn of the loops of `one_enters`.
 use Rattle.std.proofs.Common.{◌≡◌, false, take}
 use Rattle.std.specs.List.{list_any}
 use Rattle.f66_flow.specs.FlowRules.{enters}

@@ -1,3 +1,4 @@
+-- Why `overlaps` keeps its clauses.
 use Rattle.std.proofs.Common.{◌∙◌, sym, ap, ℕ, List}
 use Rattle.std.specs.Prelude.{nat_lt}
 use Rattle.f66_tree.specs.Views.{act_of}

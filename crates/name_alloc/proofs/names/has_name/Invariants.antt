@@ -1,3 +1,4 @@
+-- What holds at each turn of the loops of `has_name`.
 use Rattle.std.proofs.Common.{◌≡◌, false, take}
 use Rattle.std.specs.List.{list_any}
 use Rattle.std.specs.Str.{bytes_eq}

@@ -1,3 +1,4 @@
+-- Why `next_free` keeps its clauses.
 use Rattle.std.proofs.Common.{◌≡◌, sym, ◌∙◌, arith, ◌-◌, ◌+◌, suc}
 use Rattle.name_alloc.proofs.Free.{free_next, above-taken}
 use Rattle.name_alloc.proofs.numbers.next_free.Goals as goal

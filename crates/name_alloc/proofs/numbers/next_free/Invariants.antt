@@ -1,3 +1,4 @@
+-- What holds at each turn of the loops of `next_free`.
 use Rattle.std.proofs.Common.{◌≡◌, ◌+◌, ◌-◌, ◌≤◌}
 use Rattle.name_alloc.specs.Numbers.{above, free_from, free_number}
 use Rattle.name_alloc.proofs.numbers.next_free.Given as goal

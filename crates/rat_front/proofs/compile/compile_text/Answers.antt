@@ -1,3 +1,4 @@
+-- Why `compile_text` keeps its clauses.
 use Rattle.std.proofs.Common.{rules, ◌≡◌, ℕ, List, sym, subst}
 use Rattle.ground.specs.declared.fault.Fault.{Fault}
 use Rattle.ground.specs.declared.token.Token.{Token}

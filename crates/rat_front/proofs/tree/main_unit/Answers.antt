@@ -1,3 +1,4 @@
+-- Why `main_unit` keeps its clauses.
 use Rattle.std.proofs.Common.{arith, ◌≤◌, length}
 use Rattle.std.proofs.lemmas.Grind.{common_steps}
 use Rattle.rat_front.proofs.Answered.{main_alone}

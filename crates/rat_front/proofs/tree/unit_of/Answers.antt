@@ -1,3 +1,4 @@
+-- Why `unit_of` keeps its clauses.
 use Rattle.rat_front.proofs.Answered.{ends_with}
 use Rattle.rat_front.proofs.tree.unit_of.Goals as goal
 

@@ -1,3 +1,4 @@
+-- Why `parse_all` keeps its clauses.
 use Rattle.std.proofs.Common.{◌≡◌, ap, sym, subst, ◌∙◌}
 use Rattle.grammar.specs.Answers.{Answers}
 use Rattle.grammar.specs.Limits.{IsAccepted}

@@ -1,3 +1,4 @@
+-- Why `pop_value` keeps its clauses.
 use Rattle.std.proofs.Common.{◌≡◌, [], ◌∷◌, ◌++◌, ap, sym, ◌∙◌}
 use Rattle.grammar.specs.Stack.{piled}
 use Rattle.grammar.proofs.ListLemmas.{piled-append}

@@ -1,3 +1,4 @@
+-- Why `apply` keeps its clauses.
 use Rattle.std.proofs.Common.{ap, sym, ◌∙◌, map}
 use Rattle.f66_tree.specs.Forms.{Applied}
 use Rattle.f66_tree.specs.Views.{formula_of, chained}

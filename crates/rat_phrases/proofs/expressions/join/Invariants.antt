@@ -1,3 +1,4 @@
+-- What holds at each turn of the loops of `join`.
 use Rattle.std.proofs.Common.{◌≡◌, map, reverse, vec_len}
 use Rattle.f66_tree.specs.Views.{formula_of}
 use Rattle.rat_parts.specs.Values.{value, join_of}

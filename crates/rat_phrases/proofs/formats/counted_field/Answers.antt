@@ -1,3 +1,4 @@
+-- Why `counted_field` keeps its clauses.
 use Rattle.std.proofs.Common.{ap, sym, ◌∙◌}
 use Rattle.rat_parts.specs.Values.{value, transfer, transfer_value}
 use Rattle.rat_phrases.specs.Phrases.{counted_field}

@@ -1,3 +1,4 @@
+-- Why `group` keeps its clauses.
 use Rattle.std.proofs.Common.{ap, ◌∙◌}
 use Rattle.f66_tree.specs.Fields.{Group}
 use Rattle.f66_tree.specs.Views.{fields_of}

@@ -1,3 +1,4 @@
+-- Why `group_edit_by` keeps its clauses.
 use Rattle.std.proofs.Common.{ap, ◌∙◌}
 use Rattle.f66_tree.specs.Fields.{Group}
 use Rattle.rat_parts.specs.Values.{field, last_of}

@@ -1,3 +1,4 @@
+-- Why `width` keeps its clauses.
 use Rattle.std.proofs.Common.{arith}
 use Rattle.std.proofs.lemmas.Grind.{common_steps}
 use Rattle.rat_phrases.proofs.FieldLemmas.{width_over}

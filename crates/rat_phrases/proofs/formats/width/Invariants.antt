@@ -1,3 +1,4 @@
+-- What holds at each turn of the loops of `width`.
 use Rattle.std.proofs.Common.{◌≡◌, ◌≤◌, drop}
 use Rattle.rat_phrases.specs.Phrases.{decimal}
 use Rattle.rat_phrases.proofs.formats.width.Given as goal

@@ -1,3 +1,4 @@
+-- Why `apply` keeps its clauses.
 use Rattle.std.proofs.Common.{ap, sym, ◌∙◌}
 use Rattle.f66_tree.proofs.Rows.{item_formula}
 use Rattle.rat_parts.specs.Values.{arguments_of}

@@ -1,3 +1,4 @@
+-- Why `many` keeps its clauses.
 use Rattle.f66_tree.proofs.Rows.{many_entry}
 use Rattle.rat_phrases.proofs.transfers.many.Goals as goal
 

@@ -1,3 +1,4 @@
+-- Why `block` keeps its clauses.
 use Rattle.std.proofs.Common.{◌≡◌, None, subst}
 use Rattle.std.specs.Prelude.{IfOk}
 use Rattle.rat_tree.proofs.Rows.{block_commands}

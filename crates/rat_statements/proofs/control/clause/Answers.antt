@@ -1,3 +1,4 @@
+-- Why `clause` keeps its clauses.
 use Rattle.std.proofs.Common.{ap}
 use Rattle.rat_parts.specs.Values.{clause}
 use Rattle.rat_statements.proofs.TreeLemmas.{whole_clause}

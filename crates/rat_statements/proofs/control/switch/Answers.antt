@@ -1,3 +1,4 @@
+-- Why `switch` keeps its clauses.
 use Rattle.std.proofs.Common.{◌≡◌, None, subst}
 use Rattle.std.specs.Prelude.{IfOk}
 use Rattle.rat_tree.proofs.Rows.{switch_clauses}

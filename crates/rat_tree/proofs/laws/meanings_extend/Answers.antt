@@ -1,3 +1,4 @@
+-- Why `meanings_extend` keeps its clauses.
 use Rattle.rat_tree.proofs.Widens as widens
 use Rattle.rat_tree.proofs.laws.meanings_extend.Goals as goal
 

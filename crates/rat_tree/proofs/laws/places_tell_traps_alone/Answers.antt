@@ -1,3 +1,4 @@
+-- Why `places_tell_traps_alone` keeps its clauses.
 use Rattle.rat_tree.proofs.PlacesAlone as places
 use Rattle.rat_tree.proofs.laws.places_tell_traps_alone.Goals as goal
 

@@ -1,3 +1,4 @@
+-- Why `Labels::statement` keeps its clauses.
 use Rattle.std.proofs.Common.{◌∙◌, sym, ap, option_map}
 use Rattle.f66_tree.specs.Views.{line_of}
 use Rattle.rule_table.proofs.WordLemmas.{got_at}

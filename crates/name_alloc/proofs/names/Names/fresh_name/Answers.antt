@@ -1,3 +1,4 @@
+-- Why `Names::fresh_name` keeps its clauses.
 use Rattle.std.proofs.Common.{◌≡◌, ap, ◌∙◌, arith, subst, false, length, ◌+◌, ◌<◌}
 use Rattle.name_alloc.specs.MadeNames.{Used, is_used}
 use Rattle.name_alloc.proofs.Made.{made_fresh}

@@ -1,3 +1,4 @@
+-- Why `Names::keep_name` keeps its clauses.
 use Rattle.std.proofs.Common.{ap, sym, ◌∙◌, ◌∷◌, [], ◌++◌}
 use Rattle.name_alloc.specs.MadeNames.{number_of, taking_if}
 use Rattle.name_alloc.proofs.Made.{keeps}

@@ -1,3 +1,4 @@
+-- Why `Names::keep_or_rename` keeps its clauses.
 use Rattle.std.proofs.Common.{ap, sym, ◌∙◌}
 use Rattle.name_alloc.specs.MadeNames.{is_free}
 use Rattle.name_alloc.proofs.Made.{free_unused}

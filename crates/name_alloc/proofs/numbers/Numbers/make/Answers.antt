@@ -1,3 +1,4 @@
+-- Why `Numbers::make` keeps its clauses.
 use Rattle.std.proofs.Common.{refl, ◌≡◌, ap, sym, ◌∙◌, arith, length, ◌∷◌, [], ◌++◌, ◌+◌, length-append}
 use Rattle.name_alloc.specs.Numbers.{Numbering, is_in, behind}
 use Rattle.name_alloc.proofs.Free.{found-low, found-free, found-above, not_in_more, behind-low, behind-append}
