@@ -513,10 +513,26 @@ fn formats_alone(rt: HostRuntime) -> Result<(), Fail> {
         "9 format(999i132, 999l132, 999a1, 255x, 999(i1))",
         "9 format(((i2)))",
         "9 format(2(i2, 3(l1/)), (x))",
+        "9 format(1x,'xxxxxxxxxxxxxxxxxxxxxxxxxxxxxxxxxxxxxxxxxxxxxxxxxx            ',i3)\nstop",
     ];
     for format in &formats {
         let text = format!(in rt.alloc(); "{format}\nend\n")?;
         expect_text(&rt, rt.alloc(), text.as_bytes(), 0, "", "")?;
     }
     Ok(())
+}
+
+// A format of five texts as long as a text may be but for one character, and a short one.
+#[test]
+fn long_texts(rt: HostRuntime) -> Result<(), Fail> {
+    let mut text = String::from_str(rt.alloc(), "9 format(")?;
+    for size in [255, 255, 255, 255, 254, 10] {
+        text.push('\'')?;
+        for _ in 0..size {
+            text.push('x')?;
+        }
+        text.push_str("',")?;
+    }
+    text.push_str("1x)\nstop\nend\n")?;
+    expect_text(&rt, rt.alloc(), text.as_bytes(), 0, "", "")
 }

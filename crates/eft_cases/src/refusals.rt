@@ -453,7 +453,6 @@ fn constants_and_stores(rt: HostRuntime) -> Result<(), Fail> {
         (1, "9 format(1000a1)"),
         (1, "9 format(0x)"),
         (1, "9 format(256x)"),
-        (1, "9 format('')"),
         (1, "9 format(0(i2))"),
         (1, "9 format(1000(i2))"),
         (1, "9 format((((i2))))"),
