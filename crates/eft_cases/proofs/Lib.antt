@@ -1,1 +1,2 @@
 -- The lemmas of eft_cases.
+mod PieceLemmas

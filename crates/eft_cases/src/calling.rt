@@ -45,6 +45,7 @@ pub fn library_of(alloc: Global, texts: &[(&str, &[u8])], fetch: u64) -> Result<
 }
 
 /// A source of these pieces, of whose reads one fails. A piece without bytes is left out.
+#[tactic(auto, using(crate::proofs::PieceLemmas::full_more))]
 fn source_of(alloc: Global, pieces: &[&[u8]], read: u64) -> Result<MemSource, Fail> {
     let mut full = Vec::new(alloc);
     for piece in pieces {

@@ -5,37 +5,29 @@ use std::alloc::Global;
 use std::process::Abort;
 use std::test::Fail;
 
-const TWO: &[u8] = b"read(5,9) k\nwrite(6,9) k\nread(5,9) l\nwrite(6,9) l\n9 format(i4)\nstop\nend\n";
+const TWO: &[u8] =
+    b"read(5,9) k\nwrite(6,9) k\nread(5,9) l\nwrite(6,9) l\n9 format(i4)\nstop\nend\n";
 
-/// The run of a text over an input in pieces, of whose reads one fails where its number isn't 0.
-fn expect_input(
-    rt: &impl Abort,
-    alloc: Global,
-    text: &[u8],
-    input: &[&[u8]],
-    read: u64,
-    wanted: Wanted<'_>,
-) -> Result<(), Fail> {
-    let call = Call {
-        words: &RUN,
-        texts: &[("p.r", text)],
-        input,
-        failing: (0, 0, 0, read),
-    };
-    expect(rt, alloc, call, wanted)
-}
+const ONE: &[u8] = b"k = 1\nwrite(6,9) k\n9 format(i2)\nstop\nend\n";
+
+const ECHO: &[u8] = b"10 read(5,9) k\n9 format(i3)\nwrite(6,9) k\ngoto 10\nend\n";
 
 // A text that reads nothing has its input read all the same.
 #[test]
 fn unwanted(rt: HostRuntime) -> Result<(), Fail> {
-    let one = b"k = 1\nwrite(6,9) k\n9 format(i2)\nstop\nend\n";
     for read in [0, 1, 2] {
         let wanted = Wanted {
             code: 0,
             out: " 1\n",
             diag: "",
         };
-        expect_input(&rt, rt.alloc(), one, &[b"  1\n", b"  2\n"], read, wanted)?;
+        let call = Call {
+            words: &RUN,
+            texts: &[("p.r", ONE)],
+            input: &[b"  1\n", b"  2\n"],
+            failing: (0, 0, 0, read),
+        };
+        expect(&rt, rt.alloc(), call, wanted)?;
     }
     Ok(())
 }
@@ -43,7 +35,6 @@ fn unwanted(rt: HostRuntime) -> Result<(), Fail> {
 // 16,777,216 bytes are the most.
 #[test]
 fn too_long(rt: HostRuntime) -> Result<(), Fail> {
-    let one = b"k = 1\nwrite(6,9) k\n9 format(i2)\nstop\nend\n";
     let rows = [
         (16_777_216, 0, " 1\n", ""),
         (16_777_217, 10, "", "input too long\n"),
@@ -51,7 +42,13 @@ fn too_long(rt: HostRuntime) -> Result<(), Fail> {
     for (size, code, out, diag) in rows {
         let bytes = vec![in rt.alloc(); 10; size]?;
         let wanted = Wanted { code, out, diag };
-        expect_input(&rt, rt.alloc(), one, &[bytes.as_slice()], 0, wanted)?;
+        let call = Call {
+            words: &RUN,
+            texts: &[("p.r", ONE)],
+            input: &[bytes.as_slice()],
+            failing: (0, 0, 0, 0),
+        };
+        expect(&rt, rt.alloc(), call, wanted)?;
     }
     Ok(())
 }
@@ -93,7 +90,13 @@ fn wanted(rt: HostRuntime) -> Result<(), Fail> {
             out,
             diag,
         };
-        expect_input(&rt, rt.alloc(), TWO, pieces, *read, wanted)?;
+        let call = Call {
+            words: &RUN,
+            texts: &[("p.r", TWO)],
+            input: pieces,
+            failing: (0, 0, 0, *read),
+        };
+        expect(&rt, rt.alloc(), call, wanted)?;
     }
     Ok(())
 }
@@ -115,7 +118,13 @@ fn long_records(rt: HostRuntime) -> Result<(), Fail> {
         line.extend_from_slice(end)?;
         let out = if code == 16 { "   0\n" } else { "" };
         let wanted = Wanted { code, out, diag };
-        expect_input(&rt, rt.alloc(), TWO, &[line.as_slice()], read, wanted)?;
+        let call = Call {
+            words: &RUN,
+            texts: &[("p.r", TWO)],
+            input: &[line.as_slice()],
+            failing: (0, 0, 0, read),
+        };
+        expect(&rt, rt.alloc(), call, wanted)?;
     }
     Ok(())
 }
@@ -123,11 +132,16 @@ fn long_records(rt: HostRuntime) -> Result<(), Fail> {
 // A program that reads without end, of whose source the third read fails.
 #[test]
 fn endless(rt: HostRuntime) -> Result<(), Fail> {
-    let echo = b"10 read(5,9) k\n9 format(i3)\nwrite(6,9) k\ngoto 10\nend\n";
     let wanted = Wanted {
         code: 5,
         out: "  1\n  2\n",
         diag: "input fault\n",
     };
-    expect_input(&rt, rt.alloc(), echo, &[b"  1\n", b"  2\n"], 3, wanted)
+    let call = Call {
+        words: &RUN,
+        texts: &[("p.r", ECHO)],
+        input: &[b"  1\n", b"  2\n"],
+        failing: (0, 0, 0, 3),
+    };
+    expect(&rt, rt.alloc(), call, wanted)
 }

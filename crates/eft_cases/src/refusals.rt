@@ -179,7 +179,10 @@ fn clashes(rt: HostRuntime) -> Result<(), Fail> {
         (2, "logical l\nread(l,9)\n9 format(i2)"),
         (2, "logical l\nwrite(6,9) (k, l = 1, 2)\n9 format(i2)"),
         (2, "logical l\nread(5,9) (k, i = 1, l)\n9 format(i2)"),
-        (2, "logical l\nread(5,9) ((k, j = 1, 2, l), i = 1, 2)\n9 format(i2)"),
+        (
+            2,
+            "logical l\nread(5,9) ((k, j = 1, 2, l), i = 1, 2)\n9 format(i2)",
+        ),
     ];
     expect_faults(&rt, rt.alloc(), "12 TypeClash", &rows)
 }
@@ -220,7 +223,10 @@ fn shapes(rt: HostRuntime) -> Result<(), Fail> {
         (2, "integer a(3)\nif (a(i*2) == 1) ;"),
         (3, "integer a(3)\n9 format(i2)\nwrite(6,9) a(i*2)"),
         (3, "integer a(3)\n9 format(i2)\nread(5,9) k, a(i*2)"),
-        (3, "integer a(3)\n9 format(i2)\nread(5,9) (a(3-i), i = 1, 2)"),
+        (
+            3,
+            "integer a(3)\n9 format(i2)\nread(5,9) (a(3-i), i = 1, 2)",
+        ),
         (2, "integer a(3)\nwrite(a,9)\n9 format(i2)"),
         (2, "integer a(3)\nwrite(6,9) (k, i = 1, a)\n9 format(i2)"),
     ];
@@ -243,7 +249,10 @@ fn counts(rt: HostRuntime) -> Result<(), Fail> {
         (2, "integer a(3,3)\nif (a(1) == 1) ;"),
         (3, "integer a(3)\n9 format(i2)\nwrite(6,9) a(1,1)"),
         (3, "integer a(3)\n9 format(i2)\nread(5,9) a(1,1)"),
-        (3, "integer a(3,3)\n9 format(i2)\nwrite(6,9) (a(i), i = 1, 3)"),
+        (
+            3,
+            "integer a(3,3)\n9 format(i2)\nwrite(6,9) (a(i), i = 1, 3)",
+        ),
         (1, "k = iabs(1, 2)"),
         (1, "k = mod(1)"),
         (1, "k = mod(1, 2, 3)"),
@@ -457,7 +466,10 @@ fn constants_and_stores(rt: HostRuntime) -> Result<(), Fail> {
         (1, "9 format(1000(i2))"),
         (1, "9 format((((i2))))"),
         (1, "9 format(i2, (3x, (i2, 2(l1))))"),
-        (3, "k = 1\nwrite(6,8) k\n9 format(i2, 133i133)\n8 format(i2)"),
+        (
+            3,
+            "k = 1\nwrite(6,8) k\n9 format(i2, 133i133)\n8 format(i2)",
+        ),
     ];
     expect_faults(&rt, rt.alloc(), "26 BadFormat", &widths)?;
     let stores = [
