@@ -1,2 +1,3 @@
+-- The lemmas of f66_check.
 pub mod PartLemmas
 pub mod SoundLemmas

@@ -1,20 +1,17 @@
 // The classes that names are used in.
 ghost use Rattle.std.specs.Prelude.{◌≡◌, ℕ, List, IfOk, OnOk, map};
 ghost use Rattle.std.specs.HashMap.{get_by};
-ghost use Rattle.std.specs.List.{flat_map};
 ghost use Rattle.std.specs.Option.{option_or};
 ghost use Rattle.std.specs.Str.{bytes_eq};
 ghost use Rattle.rule_table.specs.Words.{find_map};
-ghost use Rattle.f66_names.specs.Uses.{uses_in};
 ghost use Rattle.f66_names.specs.UseViews.{use_of};
-ghost use Rattle.f66_names.specs.ActViews.{acts_of};
 ghost use Rattle.f66_names.specs.NameRules.{class_by, class_used, class_given, class_of, same_class, has_other_class};
 ghost use Rattle.f66_names.specs.DeclarationViews.{context_in, acts_in};
 
 use crate::declarations::Declarations;
 use crate::sorts::form_of;
 use crate::uses::{Use, collect_in_saying};
-use crate::{Class, Manner, NameForm, Saying};
+use crate::{Class, Manner, NameForm};
 use rule_table::note;
 use std::alloc::{AllocError, Global};
 use std::collections::HashMap;
@@ -27,34 +24,30 @@ pub fn class_table<'a>(
     ensures { IfOk result
         (λ m. (q : List ℕ) → get_by (λ k. bytes_eq q k.now) m ≡ class_of (context_in declarations.now) (acts_in declarations.now) q) }
 {
-    let uses = uses_of_sayings(alloc, declarations.sayings)?;
-    classes_of(alloc, declarations, &uses)
-}
-
-fn classes_of<'a>(
-    alloc: Global,
-    declarations: &Declarations<'a>,
-    uses: &[Use<'a>],
-) -> Result<HashMap<&'a [u8], Class>, AllocError>
-    ensures { IfOk result
-        (λ m. (q : List ℕ) → get_by (λ k. bytes_eq q k.now) m ≡ find_map (class_given (context_in declarations.now) q) (map use_of uses.now)) }
-{
     let mut table = HashMap::new(alloc);
-    for used in uses {
-        note_class(&mut table, declarations, used)?;
+    let mut uses = Vec::new(alloc);
+    for saying in declarations.sayings {
+        uses.clear();
+        collect_in_saying(saying, &mut uses)?;
+        note_classes(&mut table, declarations, &uses)?;
     }
     Ok(table)
 }
 
-/// The names that a unit uses.
-fn uses_of_sayings<'a>(alloc: Global, sayings: &[Saying<'a>]) -> Result<Vec<Use<'a>>, AllocError>
-    ensures { IfOk result (λ v. map use_of v.items ≡ flat_map uses_in (acts_of sayings.now)) }
+/// Notes the classes of uses behind those that are in the table.
+fn note_classes<'a>(
+    table: &mut HashMap<&'a [u8], Class>,
+    declarations: &Declarations<'a>,
+    uses: &[Use<'a>],
+) -> Result<(), AllocError>
+    ensures { OnOk result
+        ((q : List ℕ) → get_by (λ k. bytes_eq q k.now) table.new
+        ≡ option_or (get_by (λ k. bytes_eq q k.now) table.old) (find_map (class_given (context_in declarations.now) q) (map use_of uses.now))) }
 {
-    let mut uses = Vec::new(alloc);
-    for saying in sayings {
-        collect_in_saying(saying, &mut uses)?;
+    for used in uses {
+        note_class(table, declarations, used)?;
     }
-    Ok(uses)
+    Ok(())
 }
 
 fn note_class<'a>(

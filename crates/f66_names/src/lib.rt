@@ -25,6 +25,3 @@ pub use names::{Names, names_of};
 pub use rules::{broken_rule, condition_rule, counting_rule, saying_rule, value_rule};
 pub use saying::{Saying, declared_in_saying};
 pub use uses::{Use, uses_of_saying};
-
-#[cfg(test)]
-mod tests;

@@ -1,3 +1,4 @@
+-- The lemmas of f66_sound.
 pub mod RightlyLemmas
 pub mod KindLemmas
 pub mod ContentLemmas

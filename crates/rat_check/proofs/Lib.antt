@@ -1,3 +1,4 @@
+-- The lemmas of rat_check.
 pub mod PartLemmas
 pub mod StatementLemmas
 pub mod SurveyLemmas

@@ -24,6 +24,3 @@ use survey::Survey;
 use targets::add_targets;
 pub use unit_check::{check, sayings};
 use visit::visit_list;
-
-#[cfg(test)]
-mod tests;

@@ -1,3 +1,4 @@
+-- The lemmas of rat_lower.
 pub mod Spared
 pub mod Tracks
 pub mod Follows

@@ -1,3 +1,4 @@
+-- Why `first_of` keeps its clauses.
 use Rattle.std.proofs.Common.{◌≡◌, ◌∙◌, true, map, sym, ap}
 use Rattle.std.specs.Prelude.{not}
 use Rattle.rule_table.specs.Words.{first_place}

@@ -1,3 +1,4 @@
+-- Why `place_of` keeps its clauses.
 use Rattle.std.proofs.Common.{◌<◌, ◌-◌, length, refl, arith}
 use Rattle.std.proofs.lemmas.Option.{slice_get_read}
 use Rattle.f66_check.proofs.PartLemmas.{statement_place}

@@ -1,3 +1,4 @@
+-- Why `checked_runs_rightly` keeps its clauses.
 use Rattle.f66_tree.specs.Views.{routine_of}
 use Rattle.f66_check.proofs.SoundLemmas as sound
 use Rattle.f66_check.proofs.laws.checked_runs_rightly.Goals as goal

@@ -1,3 +1,4 @@
+-- Why `broken_rule` keeps its clauses.
 use Rattle.std.proofs.Common.{◌∙◌, sym, ap}
 use Rattle.f66_tree.specs.Views.{line_of, act_of}
 use Rattle.rule_table.specs.FaultRules.{first_rule, lesser}

@@ -1,3 +1,4 @@
+-- Why `first_broken` keeps its clauses.
 use Rattle.std.proofs.Common.{◌≡◌, ◌∙◌, Some, List, refl, sym}
 use Rattle.std.specs.List.{slice_get}
 use Rattle.std.proofs.lemmas.Option.{slice_get_read}

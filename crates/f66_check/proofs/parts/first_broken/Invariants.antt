@@ -1,3 +1,4 @@
+-- What holds at each turn of the loops of `first_broken`.
 use Rattle.std.proofs.Common.{◌≡◌, ◌<◌, ◌+◌, ℕ, false}
 use Rattle.ground.specs.declared.fault.FaultKind.{FaultKind}
 use Rattle.f66_names.specs.DeclarationViews.{context_in, acts_in}

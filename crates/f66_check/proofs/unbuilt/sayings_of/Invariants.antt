@@ -1,3 +1,4 @@
+-- What holds at each turn of the loops of `sayings_of`.
 use Rattle.std.proofs.Common.{◌≡◌, map, take}
 use Rattle.f66_tree.specs.Views.{act_of}
 use Rattle.f66_names.specs.ActViews.{acts_of}

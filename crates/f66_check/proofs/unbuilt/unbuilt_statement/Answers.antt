@@ -1,3 +1,4 @@
+-- Why `unbuilt_statement` keeps its clauses.
 use Rattle.std.proofs.Common.{◌∙◌, sym, ap}
 use Rattle.std.specs.Prelude.{not}
 use Rattle.rule_table.proofs.WordLemmas.{first_place-found}

@@ -1,3 +1,4 @@
+-- What holds at each turn of the loops of `unbuilt_statement`.
 use Rattle.std.proofs.Common.{◌≡◌, None, take}
 use Rattle.std.specs.Prelude.{not}
 use Rattle.rule_table.specs.Words.{first_place}

@@ -1,6 +1,6 @@
 // The fault of the last of some statements, by the standard's rules.
 
-use crate::{Saying, broken_rule, names_of};
+use f66_names::{Saying, broken_rule, names_of};
 use f66_tree::{
     Declared, Entry, Expr, Field, Header, Name, Operator, Par, StmtKind, TypeWord, Way,
 };

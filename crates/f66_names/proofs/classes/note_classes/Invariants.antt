@@ -1,12 +1,13 @@
--- The table has the classes of the uses before.
+-- The classes of the uses before are noted.
 use Rattle.std.proofs.Common.{◌≡◌, ℕ, List, take, map}
 use Rattle.std.specs.HashMap.{get_by}
+use Rattle.std.specs.Option.{option_or}
 use Rattle.std.specs.Str.{bytes_eq}
 use Rattle.rule_table.specs.Words.{find_map}
 use Rattle.f66_names.specs.UseViews.{use_of}
 use Rattle.f66_names.specs.NameRules.{class_given}
 use Rattle.f66_names.specs.DeclarationViews.{context_in}
-use Rattle.f66_names.proofs.classes.classes_of.Given as goal
+use Rattle.f66_names.proofs.classes.note_classes.Given as goal
 
 abbrev pub invariant-loop-used : goal.invariant-loop-used
-invariant-loop-used l = (q : List ℕ) → get_by (λ k. bytes_eq q k.now) l.table ≡ find_map (class_given (context_in l.declarations) q) (map use_of (take l.used-index l.uses))
+invariant-loop-used l = (q : List ℕ) → get_by (λ k. bytes_eq q k.now) l.table ≡ option_or (get_by (λ k. bytes_eq q k.now) l.initial.table) (find_map (class_given (context_in l.declarations) q) (map use_of (take l.used-index l.uses)))

@@ -1,8 +1,8 @@
 // Small units with their first faults, worked out by hand.
 
-use crate::check;
 use f66_tree::{Declared, Entry, Expr, Field, Header, Name, Par, StmtKind, TypeWord};
 use ground::{FaultKind, Place, Refusal, Text};
+use rat_check::check;
 use rat_tree::{RatCase, RatKind, RatStmt, RatUnit};
 use std::alloc::{AllocError, Global};
 use std::test::Fail;
