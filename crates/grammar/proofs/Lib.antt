@@ -1,5 +1,6 @@
 pub mod BoolLemmas
 pub mod ListLemmas
+pub mod StackLemmas
 pub mod StepLemmas
 pub mod DistanceLemmas
 pub mod LookaheadLemmas

@@ -1,6 +1,6 @@
 -- The stack and its values, as the machine holds them.
-use Rattle.std.proofs.Common.{◌≡◌, true, false, ℕ, zero, suc, ◌+◌, arith, length, drop, ◌++◌, Option, Some, None, List, [], ◌∷◌, refl, sym, ◌∙◌, ap, subst}
-use Rattle.std.specs.Prelude.{slice_get, MatchOption, option_to_list, is_some}
+use Rattle.std.proofs.Common.{◌≡◌, true, false, ℕ, zero, suc, ◌+◌, arith, length, drop, ◌++◌, Option, Some, None, List, [], ◌∷◌, refl, sym, subst}
+use Rattle.std.specs.Prelude.{slice_get, MatchOption, is_some}
 use Rattle.grammar.specs.Stack.{piled}
 
 drop_at : {A : Type 0} → (xs : List A) → (n : ℕ) → (x : A) → slice_get xs n ≡ Some x → drop n xs ≡ x ∷ drop (suc n) xs
@@ -31,20 +31,14 @@ pub found : {S : Type 0} → (o : Option S) → (xs : List S) → (n m : ℕ) �
 found None xs n m e h = subst (λ k. drop k xs ≡ []) (sym h) (drop_past xs n (sym e))
 found (Some x) xs n m e h = subst (λ k. drop k xs ≡ x ∷ drop (suc k) xs) (sym h) (drop_at xs n x (sym e))
 
-nil_of : {A : Type 0} → (xs : List A) → length xs ≡ 0 → xs ≡ []
+pub nil_of : {A : Type 0} → (xs : List A) → length xs ≡ 0 → xs ≡ []
 nil_of [] h = refl
 nil_of (x ∷ xs) h = absurd (omega arith)
 
-pub popped : {A B : Type 0} → (f : A → B) → (o : Option A) → (old new : List A) → (n m k : ℕ) → old ≡ new ++ option_to_list o → n ≡ length old →
-    MatchOption o ((n ≡ 0) × (m ≡ 0)) (λ x. k ≡ n) →
-    MatchOption o (piled f old [] ≡ []) (λ x. piled f old [] ≡ f x ∷ piled f new [])
-popped f None old new n m k e l h = ap (λ xs. piled f xs []) (nil_of old (omega arith))
-popped f (Some x) old new n m k e l h = ap (λ xs. piled f xs []) e ∙ piled-append f new x []
-
-pub some_of : {A : Type 0} → (o : Option A) → (B : Type 0) → (C : A → Type 0) → MatchOption o B C → true ≡ is_some o → (x : A) × C x
-some_of None B C h e = absurd (let f : true ≡ false = e in cc)
+pub some_of : {A : Type 0} → (o : Option A) → (B : Type 0) → (C : A → Type 0) → MatchOption o B C → is_some o ≡ true → (x : A) × C x
+some_of None B C h e = absurd (let f : false ≡ true = e in cc)
 some_of (Some x) B C h e = (x, h)
 
-pub none_of : {A : Type 0} → (o : Option A) → (B : Type 0) → (C : A → Type 0) → MatchOption o B C → false ≡ is_some o → B
+pub none_of : {A : Type 0} → (o : Option A) → (B : Type 0) → (C : A → Type 0) → MatchOption o B C → is_some o ≡ false → B
 none_of None B C h e = h
-none_of (Some x) B C h e = absurd (let f : false ≡ true = e in cc)
+none_of (Some x) B C h e = absurd (let f : true ≡ false = e in cc)

@@ -68,11 +68,6 @@ module _ {Token T N P V : Type 0} (g : Grammar Token T N P V) (predict : N → T
       let x = come past in
       unfinished g predict f rest x.0 s (behind g f) c all awaits (subst (λ hs. Continues g predict hs x.0 [] c all) old (x.1.to c all h))
 
-  pub finishes_empty : {W : Type 0} → (view : W → V) → (fs gs : List (Item P V)) → ComesTo fs gs → gs ≡ [] → Finishes g predict view fs None
-  finishes_empty view fs gs come empty past c all h =
-      let x = come past in
-      subst (λ hs. Continues g predict hs x.0 [] c all) empty (x.1.to c all h)
-
   stands_first : Stands g predict [] (opened g.start ∷ []) (Open g.start ∷ [])
   stands_first = record {
     to = λ more c all h. (h.0, [], h.1, (h.2, h.3, refl));

@@ -1,26 +1,60 @@
 -- The stack as the machine holds it, and the contracts of its steps.
-use Rattle.std.specs.Prelude.{◌≡◌, ◌<◌, ℕ, suc, ◌+◌, Option, Some, None, List, [], ◌∷◌}
+use Rattle.std.specs.Prelude.{◌≡◌, ◌⊎◌, ◌<◌, ◌≤◌, ℕ, suc, ◌+◌, Option, Some, None, List, [], ◌∷◌, ◌++◌, length, take, drop}
 use Rattle.grammar.specs.declared.language.Symbol.{Symbol}
 use Rattle.grammar.specs.declared.language.Symbol.TheVariants.{Terminal, Nonterminal}
 use Rattle.grammar.specs.declared.language.Event.{Event}
 use Rattle.grammar.specs.declared.stack.Frame.{Frame}
+use Rattle.grammar.specs.declared.stack.Stack.{Stack}
 use Rattle.grammar.specs.declared.machine.Step.{Step}
 use Rattle.grammar.specs.declared.machine.Step.TheVariants as steps
 use Rattle.grammar.specs.Grammar.{Grammar}
 use Rattle.grammar.specs.Limits.{Meter}
 use Rattle.grammar.specs.Certificate.{Certificate, may_be_empty, only}
-use Rattle.grammar.specs.Descent.{Item, left, behind, Continues, Linked, Turns, Takes, Refuses}
+use Rattle.grammar.specs.Descent.{Item, left, behind, with_value, whole, Continues, Linked, Turns, Takes, Refuses}
 
 abbrev pub piled : {A B : Type 0} → (A → B) → List A → List B → List B
 piled f [] old = old
 piled f (x ∷ xs) old = piled f xs (f x ∷ old)
 
-abbrev pub item : {P W V : Type 0} → (W → V) → Frame P W → Item P V
-item view f = record { production = f.production; values = piled view f.values.items [] }
+-- the values of all productions under way, the last first
+abbrev pub held : {P W V : Type 0} → (W → V) → Stack P W → List V
+held view s = piled view s.values.items []
+
+abbrev pub item : {P V : Type 0} → Frame P → List V → Item P V
+item f vs = record { production = f.production; values = take f.count vs }
+
+-- each production with its share of the values, the innermost first
+abbrev pub shares : {P V : Type 0} → List (Frame P) → List V → List (Item P V)
+shares [] vs = []
+shares (f ∷ fs) vs = item f vs ∷ shares fs (drop f.count vs)
+
+abbrev pub innermost : {P W V : Type 0} → (W → V) → Stack P W → Item P V
+innermost view s = item s.top (held view s)
+
+-- the values of the productions around the innermost
+abbrev pub below : {P W V : Type 0} → (W → V) → Stack P W → List V
+below view s = drop s.top.count (held view s)
+
+abbrev pub outer_shares : {P V : Type 0} → List (Frame P) → List V → List (Item P V)
+outer_shares fs vs = shares (piled (λ f. f) fs []) vs
+
+abbrev pub around : {P W V : Type 0} → (W → V) → Stack P W → List (Item P V)
+around view s = outer_shares s.outer.items (below view s)
 
 -- the innermost first
-abbrev pub items : {P W V : Type 0} → (W → V) → List (Frame P W) → List (Item P V)
-items view fs = piled (item view) fs []
+abbrev pub items : {P W V : Type 0} → (W → V) → Stack P W → List (Item P V)
+items view s = innermost view s ∷ around view s
+
+-- the last values, this many where there are as many
+pub record IsSplit {W : Type 0} (all : List W) (count : ℕ) (rest parts : List W) : Type 0 where
+  pub joined : all ≡ rest ++ parts
+  pub many : (length parts ≡ count) ⊎ ((rest ≡ []) × (length parts ≤ count))
+
+module _ {Token T N P V : Type 0} (g : Grammar Token T N P V) where
+  -- The innermost is closed inside this production.
+  abbrev pub closed : {W : Type 0} → (W → V) → Frame P → Stack P W → List (Item P V)
+  closed view next s =
+      with_value (item next (below view s)) (whole g (innermost view s)) ∷ outer_shares s.outer.items (drop next.count (below view s))
 
 module _ {Token T N P V M : Type 0} (g : Grammar Token T N P V) (predict : N → T → Option P) (meter : Meter T P M) where
   abbrev pub Stepped : Step → List (Item P V) → M → Token → List (Item P V) → M → Type 0

@@ -72,13 +72,13 @@ pub trait Language {
     fn token_value(alloc: Global, token: &Token) -> Result<Self::Value, AllocError>
         ensures { IfOk result (λ v. view v ≡ grammar.value token.now) };
 
-    /// What a production makes of the values of its symbols.
+    /// What a production makes of the values of its symbols. It may leave some of them.
     fn build(
         alloc: Global,
         production: Self::Production,
-        values: Vec<Self::Value>,
+        parts: &mut Vec<Self::Value>,
     ) -> Result<Self::Value, AllocError>
-        ensures { IfOk result (λ v. view v ≡ grammar.build production (piled view values.items [])) };
+        ensures { IfOk result (λ v. view v ≡ grammar.build production (piled view parts.old.items [])) };
 
     fn first_meters() -> Self::Meters
         ensures { result ≡ meter.first };

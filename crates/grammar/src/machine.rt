@@ -5,7 +5,7 @@ ghost use Rattle.grammar.specs.Descent.{Takes, Refuses, Linked};
 ghost use Rattle.grammar.specs.Stack.{items, Stepped, StaysLinked, ComesCloser, Finishes};
 
 use crate::language::{Event, Language, Symbol};
-use crate::stack::{Frame, awaited, close_frame, pop_frame, push_back, push_new, push_with};
+use crate::stack::{Stack, awaited, close, make, open, push_value};
 use ground::Token;
 use std::alloc::{AllocError, Global};
 
@@ -23,27 +23,23 @@ pub enum Step {
 /// One step at a token, of which the grammar sees this terminal.
 pub fn step_at<L: Language>(
     alloc: Global,
-    frames: &mut Vec<Frame<L::Production, L::Value>>,
+    stack: &mut Stack<L::Production, L::Value>,
     meters: &mut L::Meters,
     token: &Token,
     seen: L::Terminal,
 ) -> Result<Step, AllocError>
     requires { seen ≡ L.grammar.terminal_of token.now }
-    ensures steps { IfOk result (λ s. Stepped L.grammar L.certificate.predict L.meter s (items L.view frames.old.items) meters.old token.now (items L.view frames.new.items) meters.new) }
-    ensures linked { IfOk result (λ s. StaysLinked L.grammar s (items L.view frames.old.items) (items L.view frames.new.items)) }
-    ensures closer { IfOk result (λ s. ComesCloser L.grammar L.certificate s (items L.view frames.old.items) (items L.view frames.new.items)) }
+    ensures steps { IfOk result (λ s. Stepped L.grammar L.certificate.predict L.meter s (items L.view stack.old) meters.old token.now (items L.view stack.new) meters.new) }
+    ensures linked { IfOk result (λ s. StaysLinked L.grammar s (items L.view stack.old) (items L.view stack.new)) }
+    ensures closer { IfOk result (λ s. ComesCloser L.grammar L.certificate s (items L.view stack.old) (items L.view stack.new)) }
 {
-    let Some(top) = pop_frame::<L>(frames) else {
-        return Ok(Step::Stuck);
-    };
-    match awaited::<L>(&top) {
+    match awaited::<L>(stack) {
         None => {
-            let Some(parent) = pop_frame::<L>(frames) else {
+            let Some(next) = stack.outer.pop() else {
                 return Ok(Step::Stuck);
             };
-            *meters = L::next_meters(*meters, Event::Close(top.production))?;
-            let value = close_frame::<L>(alloc, top)?;
-            push_with::<L>(frames, parent, value)?;
+            *meters = L::next_meters(*meters, Event::Close(stack.top.production))?;
+            close::<L>(alloc, stack, next)?;
             Ok(Step::Again)
         }
         Some(Symbol::Terminal(terminal)) => {
@@ -52,7 +48,7 @@ pub fn step_at<L: Language>(
             }
             *meters = L::next_meters(*meters, Event::Take(terminal))?;
             let value = L::token_value(alloc, token)?;
-            push_with::<L>(frames, top, value)?;
+            push_value::<L>(stack, value)?;
             Ok(Step::Taken)
         }
         Some(Symbol::Nonterminal(nonterminal)) => {
@@ -60,8 +56,7 @@ pub fn step_at<L: Language>(
                 return Ok(Step::Stuck);
             };
             *meters = L::next_meters(*meters, Event::Open(production))?;
-            push_back::<L>(frames, top)?;
-            push_new::<L>(alloc, frames, production)?;
+            open::<L>(stack, production)?;
             Ok(Step::Again)
         }
     }
@@ -70,16 +65,16 @@ pub fn step_at<L: Language>(
 /// Takes a token, or answers that nothing goes on with it.
 pub fn take_token<L: Language>(
     alloc: Global,
-    frames: &mut Vec<Frame<L::Production, L::Value>>,
+    stack: &mut Stack<L::Production, L::Value>,
     meters: &mut L::Meters,
     token: &Token,
 ) -> Result<bool, AllocError>
-    ensures takes { IfOk result (λ b. MatchBool b (Takes L.grammar L.certificate.predict L.meter (items L.view frames.old.items) meters.old token.now (items L.view frames.new.items) meters.new) (Refuses L.grammar L.certificate.predict L.meter (items L.view frames.old.items) meters.old token.now)) }
-    ensures linked { IfOk result (λ b. IsTrue b → Linked L.grammar (items L.view frames.old.items) → Linked L.grammar (items L.view frames.new.items)) }
+    ensures takes { IfOk result (λ b. MatchBool b (Takes L.grammar L.certificate.predict L.meter (items L.view stack.old) meters.old token.now (items L.view stack.new) meters.new) (Refuses L.grammar L.certificate.predict L.meter (items L.view stack.old) meters.old token.now)) }
+    ensures linked { IfOk result (λ b. IsTrue b → Linked L.grammar (items L.view stack.old) → Linked L.grammar (items L.view stack.new)) }
 {
     let seen = L::terminal_of(token);
     loop {
-        match step_at::<L>(alloc, frames, meters, token, seen)? {
+        match step_at::<L>(alloc, stack, meters, token, seen)? {
             Step::Taken => return Ok(true),
             Step::Stuck => return Ok(false),
             Step::Again => {}
@@ -90,18 +85,14 @@ pub fn take_token<L: Language>(
 /// What the end of the text makes of the stack: the value, or nothing where it is not whole.
 pub fn finish<L: Language>(
     alloc: Global,
-    mut frames: Vec<Frame<L::Production, L::Value>>,
+    mut stack: Stack<L::Production, L::Value>,
 ) -> Result<Option<L::Value>, AllocError>
-    ensures { IfOk result (Finishes L.grammar L.certificate.predict L.view (items L.view frames.items)) }
+    ensures { IfOk result (Finishes L.grammar L.certificate.predict L.view (items L.view stack)) }
 {
-    while let Some(top) = pop_frame::<L>(&mut frames) {
-        if awaited::<L>(&top).is_some() {
-            return Ok(None);
-        }
-        let value = close_frame::<L>(alloc, top)?;
-        match pop_frame::<L>(&mut frames) {
-            None => return Ok(Some(value)),
-            Some(parent) => push_with::<L>(&mut frames, parent, value)?,
+    while awaited::<L>(&stack).is_none() {
+        match stack.outer.pop() {
+            None => return Ok(Some(make::<L>(alloc, &mut stack)?)),
+            Some(next) => close::<L>(alloc, &mut stack, next)?,
         }
     }
     Ok(None)

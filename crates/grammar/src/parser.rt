@@ -6,7 +6,7 @@ ghost use Rattle.grammar.specs.Answers.{Answers};
 
 use crate::language::{Event, Language};
 use crate::machine::{finish, take_token};
-use crate::stack::push_new;
+use crate::stack::new_stack;
 use ground::{Fault, FaultKind, Refusal, Token};
 use std::alloc::Global;
 
@@ -16,19 +16,18 @@ pub fn parse<L: Language>(alloc: Global, tokens: &[Token]) -> Result<L::Value, R
     requires { EndsWith L.grammar L.certificate.end tokens.now }
     ensures { Answers L.grammar L.meter L.view tokens.now result }
 {
-    let mut frames = Vec::new(alloc);
     let start = L::start();
     let mut meters = L::next_meters(L::first_meters(), Event::Open(start))?;
-    push_new::<L>(alloc, &mut frames, start)?;
+    let mut stack = new_stack::<L>(alloc, start);
     for token in tokens {
-        if !take_token::<L>(alloc, &mut frames, &mut meters, token)? {
+        if !take_token::<L>(alloc, &mut stack, &mut meters, token)? {
             return Err(refusal_at(token, FaultKind::Syntax, 0));
         }
         if let Some(number) = L::passed(meters) {
             return Err(refusal_at(token, FaultKind::Limit, number));
         }
     }
-    match finish::<L>(alloc, frames)? {
+    match finish::<L>(alloc, stack)? {
         Some(value) => Ok(value),
         None => unreachable!(),
     }

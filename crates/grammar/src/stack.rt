@@ -1,80 +1,135 @@
 // The stack of productions under way.
 
-ghost use Rattle.std.specs.Prelude.{◌≡◌, ◌∷◌, [], IfOk, OnOk, MatchOption};
+ghost use Rattle.std.specs.Prelude.{◌≡◌, ◌∷◌, [], suc, IfOk, OnOk, MatchOption};
 ghost use Rattle.grammar.specs.Descent.{left, behind, with_value, opened, whole};
-ghost use Rattle.grammar.specs.Stack.{piled, item, items};
+ghost use Rattle.grammar.specs.Stack.{held, innermost, below, around, items, closed, IsSplit};
 
 use crate::language::{Language, Symbol};
 use std::alloc::{AllocError, Global};
 
-/// A production under way, with the values of the symbols that it has so far.
+/// A production under way, with how many of its symbols have their values.
 #[derive(Drop)]
-pub struct Frame<P, V> {
+pub struct Frame<P> {
     pub production: P,
+    pub count: usize,
+}
+
+/// The productions under way: the innermost, and those around it, the outermost first. All their values stand in one list, those of
+/// the innermost last. `parts` takes those of a production that is closed, and is kept from one to the next for its memory alone.
+#[derive(Drop)]
+pub struct Stack<P, V> {
+    pub top: Frame<P>,
+    pub outer: Vec<Frame<P>>,
     pub values: Vec<V>,
+    pub parts: Vec<V>,
 }
 
-/// The symbol that a production waits for.
+/// One production alone.
+pub fn new_stack<L: Language>(
+    alloc: Global,
+    production: L::Production,
+) -> Stack<L::Production, L::Value>
+    ensures { items L.view result ≡ opened production ∷ [] }
+{
+    Stack {
+        top: Frame {
+            production,
+            count: 0,
+        },
+        outer: Vec::new(alloc),
+        values: Vec::new(alloc),
+        parts: Vec::new(alloc),
+    }
+}
+
+/// The symbol that the innermost production waits for.
 pub fn awaited<L: Language>(
-    top: &Frame<L::Production, L::Value>,
+    stack: &Stack<L::Production, L::Value>,
 ) -> Option<Symbol<L::Terminal, L::Nonterminal>>
-    ensures { MatchOption result (left L.grammar (item L.view top.now) ≡ []) (λ x. left L.grammar (item L.view top.now) ≡ x ∷ behind L.grammar (item L.view top.now)) }
+    ensures { MatchOption result (left L.grammar (innermost L.view stack.now) ≡ []) (λ x. left L.grammar (innermost L.view stack.now) ≡ x ∷ behind L.grammar (innermost L.view stack.now)) }
 {
-    L::symbol_at(top.production, top.values.len())
+    let place = stack.top.count.min(stack.values.len());
+    L::symbol_at(stack.top.production, place)
 }
 
-/// Takes the innermost production away.
-pub fn pop_frame<L: Language>(
-    frames: &mut Vec<Frame<L::Production, L::Value>>,
-) -> Option<Frame<L::Production, L::Value>>
-    ensures { MatchOption result (items L.view frames.old.items ≡ []) (λ f. items L.view frames.old.items ≡ item L.view f ∷ items L.view frames.new.items) }
-{
-    frames.pop()
-}
-
-/// Puts a production back, with one value more.
-pub fn push_with<L: Language>(
-    frames: &mut Vec<Frame<L::Production, L::Value>>,
-    mut top: Frame<L::Production, L::Value>,
+/// Gives a value to the innermost production.
+pub fn push_value<L: Language>(
+    stack: &mut Stack<L::Production, L::Value>,
     value: L::Value,
 ) -> Result<(), AllocError>
-    ensures { OnOk result (items L.view frames.new.items ≡ with_value (item L.view top) (L.view value) ∷ items L.view frames.old.items) }
+    ensures { OnOk result (items L.view stack.new ≡ with_value (innermost L.view stack.old) (L.view value) ∷ around L.view stack.old) }
 {
-    top.values.push(value)?;
-    frames.push(top)?;
+    stack.values.push(value)?;
+    stack.top.count = one_more(stack.top.count)?;
     Ok(())
 }
 
-/// Puts a production back.
-pub fn push_back<L: Language>(
-    frames: &mut Vec<Frame<L::Production, L::Value>>,
-    top: Frame<L::Production, L::Value>,
-) -> Result<(), AllocError>
-    ensures { OnOk result (items L.view frames.new.items ≡ item L.view top ∷ items L.view frames.old.items) }
+fn one_more(count: usize) -> Result<usize, AllocError>
+    ensures { IfOk result (λ n. n ≡ suc count) }
 {
-    frames.push(top)?;
-    Ok(())
+    count.checked_add(1).ok_or(AllocError)
 }
 
 /// Opens a production.
-pub fn push_new<L: Language>(
-    alloc: Global,
-    frames: &mut Vec<Frame<L::Production, L::Value>>,
+pub fn open<L: Language>(
+    stack: &mut Stack<L::Production, L::Value>,
     production: L::Production,
 ) -> Result<(), AllocError>
-    ensures { OnOk result (items L.view frames.new.items ≡ opened production ∷ items L.view frames.old.items) }
+    ensures { OnOk result (items L.view stack.new ≡ opened production ∷ items L.view stack.old) }
 {
-    let values = Vec::new(alloc);
-    frames.push(Frame { production, values })?;
+    stack.outer.push(Frame {
+        production: stack.top.production,
+        count: stack.top.count,
+    })?;
+    stack.top = Frame {
+        production,
+        count: 0,
+    };
     Ok(())
 }
 
-/// What a production that is whole makes.
-pub fn close_frame<L: Language>(
+/// Takes the values of the innermost production away, and makes what it is of them.
+pub fn make<L: Language>(
     alloc: Global,
-    top: Frame<L::Production, L::Value>,
+    stack: &mut Stack<L::Production, L::Value>,
 ) -> Result<L::Value, AllocError>
-    ensures { IfOk result (λ v. L.view v ≡ whole L.grammar (item L.view top)) }
+    ensures made { IfOk result (λ v. L.view v ≡ whole L.grammar (innermost L.view stack.old)) }
+    ensures below { OnOk result (held L.view stack.new ≡ below L.view stack.old) }
+    ensures outer { OnOk result (stack.new.outer ≡ stack.old.outer) }
 {
-    L::build(alloc, top.production, top.values)
+    take_parts::<L::Value>(&mut stack.values, &mut stack.parts, stack.top.count)?;
+    let value = L::build(alloc, stack.top.production, &mut stack.parts)?;
+    Ok(value)
+}
+
+/// Closes the innermost production, inside this one, which is given its value.
+pub fn close<L: Language>(
+    alloc: Global,
+    stack: &mut Stack<L::Production, L::Value>,
+    next: Frame<L::Production>,
+) -> Result<(), AllocError>
+    ensures { OnOk result (items L.view stack.new ≡ closed L.grammar L.view next stack.old) }
+{
+    let value = make::<L>(alloc, stack)?;
+    stack.top = next;
+    push_value::<L>(stack, value)?;
+    Ok(())
+}
+
+/// Moves the last values, this many where there are as many.
+fn take_parts<V: Drop>(
+    values: &mut Vec<V>,
+    parts: &mut Vec<V>,
+    count: usize,
+) -> Result<(), AllocError>
+    ensures { OnOk result (IsSplit values.old.items count values.new.items parts.new.items) }
+{
+    parts.clear();
+    for _ in 0..count {
+        if let Some(value) = values.pop() {
+            parts.push(value)?;
+        }
+    }
+    parts.reverse();
+    Ok(())
 }

@@ -51,17 +51,17 @@ fn append_all(text: &mut Vec<u8>, values: &[Text]) -> Result<(), AllocError>
 }
 
 /// The texts of the parts one behind the other, a choice in parentheses.
-fn join(alloc: Global, production: Production, values: Vec<Text>) -> Result<Text, AllocError>
-    ensures { IfOk result (λ v. v ≡ written production (piled text_of values.items [])) }
+fn join(alloc: Global, production: Production, values: &[Text]) -> Result<Text, AllocError>
+    ensures { IfOk result (λ v. v ≡ written production (piled text_of values.now [])) }
 {
     let mut text = Vec::new(alloc);
     match production {
         Production::Choice => {
             text.push(b'(')?;
-            append_all(&mut text, &values)?;
+            append_all(&mut text, values)?;
             text.push(b')')?;
         }
-        _ => append_all(&mut text, &values)?,
+        _ => append_all(&mut text, values)?,
     }
     Ok(Text::new(text))
 }
@@ -119,10 +119,14 @@ impl Language for Outline {
         }
     }
 
-    fn build(alloc: Global, production: Production, values: Vec<Text>) -> Result<Text, AllocError>
-        ensures { IfOk result (λ v. text_of v ≡ outlines.build production (piled text_of values.items [])) }
+    fn build(
+        alloc: Global,
+        production: Production,
+        parts: &mut Vec<Text>,
+    ) -> Result<Text, AllocError>
+        ensures { IfOk result (λ v. text_of v ≡ outlines.build production (piled text_of parts.old.items [])) }
     {
-        join(alloc, production, values)
+        join(alloc, production, parts)
     }
 
     fn first_meters() -> Counts {

@@ -13,19 +13,8 @@ use rat_statements::{control, units};
 use rat_table::Production;
 use std::alloc::{AllocError, Global};
 
-/// What a production makes of its parts.
+/// What a production makes of its parts. It takes those that it needs.
 pub fn build(
-    alloc: Global,
-    production: Production,
-    mut parts: Vec<Value>,
-) -> Result<Value, AllocError>
-    ensures { IfOk result (λ v. value v ≡ built production (values parts.items)) }
-{
-    build_from(alloc, production, &mut parts)
-}
-
-/// Takes the parts that it needs.
-fn build_from(
     alloc: Global,
     production: Production,
     parts: &mut Vec<Value>,

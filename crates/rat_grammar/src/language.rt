@@ -76,10 +76,14 @@ impl Language for Ratfor {
         Ok(Value::Token(token.clone()?))
     }
 
-    fn build(alloc: Global, production: Production, values: Vec<Value>) -> Result<Value, AllocError>
-        ensures { IfOk result (λ v. value v ≡ ratfor.build production (piled value values.items [])) }
+    fn build(
+        alloc: Global,
+        production: Production,
+        parts: &mut Vec<Value>,
+    ) -> Result<Value, AllocError>
+        ensures { IfOk result (λ v. value v ≡ ratfor.build production (piled value parts.old.items [])) }
     {
-        build::build(alloc, production, values)
+        build::build(alloc, production, parts)
     }
 
     fn first_meters() -> Counts {

@@ -1,34 +1,40 @@
-use Rattle.std.proofs.Common.{◌∷◌, ap, ◌∙◌}
-use Rattle.grammar.specs.Descent.{with_value}
-use Rattle.grammar.specs.Stack.{item, items}
-use Rattle.grammar.proofs.ListLemmas.{some_of, none_of}
-use Rattle.grammar.proofs.RunLemmas.{comes_to_itself, comes_closer, finishes_whole, finishes_stuck, finishes_empty}
+use Rattle.std.proofs.Common.{◌≡◌, ◌∷◌, [], length, drop, arith, ap, refl}
+use Rattle.grammar.specs.Stack.{item, items, innermost, below, outer_shares}
+use Rattle.grammar.proofs.ListLemmas.{nil_of, some_of, none_of}
+use Rattle.grammar.proofs.StackLemmas.{popped_shares}
+use Rattle.grammar.proofs.RunLemmas.{comes_to_itself, comes_closer, finishes_whole, finishes_stuck}
 use Rattle.grammar.proofs.machine.finish.Goals as goal
 
-pub loop-top-init : goal.loop-top-init
-loop-top-init g c = comes_to_itself g.L.Language.grammar g.L.Language.certificate.predict _
-
-pub returns-then-is_some : goal.returns-then-is_some
-returns-then-is_some g c =
-    let awaits = some_of _ _ _ c.awaited.ensures c.if-is_some.ensures in
-    finishes_stuck g.L.Language.grammar g.L.Language.certificate.predict g.L.Language.view _ _ (item g.L.Language.view c.in-Some.top) _ awaits.0 c.loop-top.invariant c.in-Some.ensures awaits.1
+pub loop-alloc-init : goal.loop-alloc-init
+loop-alloc-init g c = comes_to_itself g.L.Language.grammar g.L.Language.certificate.predict _
 
 pub returns-in-None : goal.returns-in-None
 returns-in-None g c =
-    let top = item g.L.Language.view c.in-Some.top in
-    finishes_whole g.L.Language.grammar g.L.Language.certificate.predict g.L.Language.view c.in_ok-value.value _ _ top c.loop-top.invariant
-    (c.in-Some.ensures ∙ ap (λ fs. top ∷ fs) c.in-None.ensures) (none_of _ _ _ c.awaited.ensures c.if-is_some.ensures) c.in_ok-value.ensures
-
-pub loop-top-preserved : goal.loop-top-preserved
-loop-top-preserved g c =
     let view = g.L.Language.view in
-    let top = item view c.in-Some.top in
-    let parent = item view c.in-Some-pop_frame.parent in
-    let rest = items view c.pop_frame-in-Some.new.frames.items in
-    comes_closer g.L.Language.grammar g.L.Language.certificate.predict _ _ _ top parent rest c.loop-top.invariant
-    (c.in-Some.ensures ∙ ap (λ fs. top ∷ fs) c.in-Some-pop_frame.ensures)
-    (c.in_ok-push_with-in-Some-pop_frame.ensures ∙ ap (λ v. with_value parent v ∷ rest) c.in_ok-value.ensures)
-    (none_of _ _ _ c.awaited.ensures c.if-is_some.ensures)
+    let stack = c.loop-alloc.stack in
+    let alone : items view stack ≡ innermost view stack ∷ [] =
+    ap (λ fs. innermost view stack ∷ outer_shares fs (below view stack)) (nil_of stack.outer.items (omega (arith, stack.outer.ok.0, c.in-None.ensures.cases))) in
+    finishes_whole g.L.Language.grammar g.L.Language.certificate.predict view c.in_ok-make-in-None.field-0 _ _ (innermost view stack) c.loop-alloc.invariant
+    alone (none_of _ _ _ c.awaited.ensures c.loop-alloc-test.ensures) c.in_ok-make-in-None.ensures.made
+
+pub loop-alloc-smaller : goal.loop-alloc-smaller
+loop-alloc-smaller g c =
+    let stack = c.loop-alloc.stack in
+    let old = popped_shares stack.outer.items c.pop.new.self.items c.in-Some.next (below g.L.Language.view stack) c.in-Some.ensures.items in
+    omega (arith, ap length old, ap length c.in_ok-close-in-Some.ensures)
+
+pub loop-alloc-preserved : goal.loop-alloc-preserved
+loop-alloc-preserved g c =
+    let view = g.L.Language.view in
+    let stack = c.loop-alloc.stack in
+    let next = c.in-Some.next in
+    let top = innermost view stack in
+    let rest = outer_shares c.pop.new.self.items (drop next.count (below view stack)) in
+    comes_closer g.L.Language.grammar g.L.Language.certificate.predict _ _ _ top (item next (below view stack)) rest c.loop-alloc.invariant
+    (ap (λ fs. top ∷ fs) (popped_shares stack.outer.items c.pop.new.self.items next (below view stack) c.in-Some.ensures.items))
+    c.in_ok-close-in-Some.ensures (none_of _ _ _ c.awaited.ensures c.loop-alloc-test.ensures)
 
 pub returns : goal.returns
-returns g c = finishes_empty g.L.Language.grammar g.L.Language.certificate.predict g.L.Language.view _ _ c.loop-top.invariant c.in_default.ensures
+returns g c =
+    let awaits = some_of _ _ _ c.awaited.ensures c.loop-alloc-test.ensures in
+    finishes_stuck g.L.Language.grammar g.L.Language.certificate.predict g.L.Language.view _ _ (innermost g.L.Language.view c.loop-alloc.stack) _ awaits.0 c.loop-alloc.invariant refl awaits.1

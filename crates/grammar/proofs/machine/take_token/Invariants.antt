@@ -5,9 +5,9 @@ use Rattle.grammar.proofs.machine.take_token.Given as goal
 abbrev pub invariant-loop : goal.invariant-loop
 invariant-loop g l = record {
   same : Turns g.L.Language.grammar g.L.Language.certificate.predict g.L.Language.meter
-      (items g.L.Language.view l.fn.frames.items) l.fn.meters l.token (items g.L.Language.view l.frames.items) l.meters;
-  linked : Linked g.L.Language.grammar (items g.L.Language.view l.fn.frames.items) → Linked g.L.Language.grammar (items g.L.Language.view l.frames.items);
+      (items g.L.Language.view l.fn.stack) l.fn.meters l.token (items g.L.Language.view l.stack) l.meters;
+  linked : Linked g.L.Language.grammar (items g.L.Language.view l.fn.stack) → Linked g.L.Language.grammar (items g.L.Language.view l.stack);
 }
 
 abbrev pub decreases-loop : goal.decreases-loop
-decreases-loop g l = distance g.L.Language.grammar g.L.Language.certificate (items g.L.Language.view l.frames.items)
+decreases-loop g l = distance g.L.Language.grammar g.L.Language.certificate (items g.L.Language.view l.stack)

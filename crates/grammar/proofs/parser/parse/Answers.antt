@@ -13,9 +13,8 @@ loop-token-init g c =
     let meter = g.L.Language.meter in
     let first : c.in_ok-meters.meters ≡ meter.next (Open l.start) meter.first =
     c.in_ok-meters.ensures ∙ (ap (λ p. meter.next (Open p) c.first_meters.result) c.start-start.ensures ∙ ap (meter.next (Open l.start)) c.first_meters.ensures) in
-    let alone : items g.L.Language.view c.push_new.new.frames.items ≡ opened l.start ∷ [] =
-    c.in_ok-push_new.ensures ∙ (ap (λ p. opened p ∷ items g.L.Language.view c.new-frames.result.items) c.start-start.ensures
-    ∙ ap (λ fs. opened l.start ∷ items g.L.Language.view fs) c.new-frames.ensures.items) in
+    let alone : items g.L.Language.view c.new_stack-stack.result ≡ opened l.start ∷ [] =
+    c.new_stack-stack.ensures ∙ ap (λ p. opened p ∷ []) c.start-start.ensures in
     subst (λ fs. Reached l g.L.Language.certificate.predict meter [] fs c.in_ok-meters.meters) (sym alone)
     (reached_first l g.L.Language.certificate meter g.met.L.Language.sound c.in_ok-meters.meters first)
 
@@ -23,10 +22,10 @@ pub returns-then-not-branch : goal.returns-then-not-branch
 returns-then-not-branch g c =
     let l = g.L.Language.grammar in
     let predict = g.L.Language.certificate.predict in
-    let fs = items g.L.Language.view c.loop-token.frames.items in
+    let fs = items g.L.Language.view c.loop-token.stack in
     let t = c.token-item.result in
     let refuses : Refuses l predict g.L.Language.meter fs c.loop-token.meters t =
-    subst (λ b. MatchBool b (Takes l predict g.L.Language.meter fs c.loop-token.meters t (items g.L.Language.view c.take_token.new.frames.items) c.take_token.new.meters)
+    subst (λ b. MatchBool b (Takes l predict g.L.Language.meter fs c.loop-token.meters t (items g.L.Language.view c.take_token.new.stack) c.take_token.new.meters)
     (Refuses l predict g.L.Language.meter fs c.loop-token.meters t)) c.if-not-branch.true c.in_ok-take_token.ensures.takes in
     syntax_fault l g.L.Language.certificate g.L.Language.meter g.met.L.Language.sound g.L.Language.view c.args.tokens.now c.loop-token.token-index t fs c.loop-token.meters
     c.loop-token-test.true c.token-item.is c.loop-token.invariant refuses c.refusal_at.result c.refusal_at.ensures
@@ -35,8 +34,8 @@ pub returns-in-Some : goal.returns-in-Some
 returns-in-Some g c =
     let l = g.L.Language.grammar in
     let predict = g.L.Language.certificate.predict in
-    let fs = items g.L.Language.view c.loop-token.frames.items in
-    let gs = items g.L.Language.view c.take_token.new.frames.items in
+    let fs = items g.L.Language.view c.loop-token.stack in
+    let gs = items g.L.Language.view c.take_token.new.stack in
     let t = c.token-item.result in
     let takes : Takes l predict g.L.Language.meter fs c.loop-token.meters t gs c.take_token.new.meters =
     subst (λ b. MatchBool b (Takes l predict g.L.Language.meter fs c.loop-token.meters t gs c.take_token.new.meters)
@@ -49,8 +48,8 @@ pub loop-token-preserved : goal.loop-token-preserved
 loop-token-preserved g c =
     let l = g.L.Language.grammar in
     let predict = g.L.Language.certificate.predict in
-    let fs = items g.L.Language.view c.loop-token.frames.items in
-    let gs = items g.L.Language.view c.take_token.new.frames.items in
+    let fs = items g.L.Language.view c.loop-token.stack in
+    let gs = items g.L.Language.view c.take_token.new.stack in
     let t = c.token-item.result in
     let takes : Takes l predict g.L.Language.meter fs c.loop-token.meters t gs c.take_token.new.meters =
     subst (λ b. MatchBool b (Takes l predict g.L.Language.meter fs c.loop-token.meters t gs c.take_token.new.meters)
@@ -62,7 +61,7 @@ loop-token-preserved g c =
 pub unreachable-requires : goal.unreachable-requires
 unreachable-requires g c =
     let l = g.L.Language.grammar in
-    let fs = items g.L.Language.view c.loop-token.frames.items in
+    let fs = items g.L.Language.view c.loop-token.stack in
     let full : c.loop-token.token-index ≡ length c.args.tokens.now = omega arith in
     never_unfinished l g.L.Language.certificate g.L.Language.meter g.met.L.Language.sound g.L.Language.view c.args.tokens.now fs c.loop-token.meters
     (reached_all l g.L.Language.certificate g.L.Language.meter g.met.L.Language.sound c.args.tokens.now c.loop-token.token-index fs c.loop-token.meters full c.loop-token.invariant)
@@ -71,7 +70,7 @@ unreachable-requires g c =
 pub returns : goal.returns
 returns g c =
     let l = g.L.Language.grammar in
-    let fs = items g.L.Language.view c.loop-token.frames.items in
+    let fs = items g.L.Language.view c.loop-token.stack in
     let full : c.loop-token.token-index ≡ length c.args.tokens.now = omega arith in
     accepted l g.L.Language.certificate g.L.Language.meter g.met.L.Language.sound g.L.Language.view c.args.tokens.now fs c.loop-token.meters
     (reached_all l g.L.Language.certificate g.L.Language.meter g.met.L.Language.sound c.args.tokens.now c.loop-token.token-index fs c.loop-token.meters full c.loop-token.invariant)

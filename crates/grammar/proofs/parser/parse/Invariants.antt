@@ -5,4 +5,4 @@ use Rattle.grammar.proofs.parser.parse.Given as goal
 
 abbrev pub invariant-loop-token : goal.invariant-loop-token
 invariant-loop-token g l =
-    Reached g.L.Language.grammar g.L.Language.certificate.predict g.L.Language.meter (take l.token-index l.tokens) (items g.L.Language.view l.frames.items) l.meters
+    Reached g.L.Language.grammar g.L.Language.certificate.predict g.L.Language.meter (take l.token-index l.tokens) (items g.L.Language.view l.stack) l.meters

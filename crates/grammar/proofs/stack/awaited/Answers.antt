@@ -1,8 +1,13 @@
-use Rattle.std.proofs.Common.{sym, ◌∙◌}
+use Rattle.std.proofs.Common.{◌≡◌, length, take, arith}
+use Rattle.std.proofs.lemmas.List.{length-take}
+use Rattle.grammar.specs.Stack.{held}
 use Rattle.grammar.proofs.ListLemmas.{found, length-values}
 use Rattle.grammar.proofs.stack.awaited.Goals as goal
 
 pub returns : goal.returns
 returns g c =
-    found _ _ _ _ c.symbol_at.ensures
-    (length-values g.L.Language.view c.args.top.now.values.items ∙ (sym c.args.top.now.values.ok.0 ∙ sym c.len.ensures))
+    let stack = c.args.stack.now in
+    let view = g.L.Language.view in
+    let same : length (take stack.top.count (held view stack)) ≡ c.min-place.result =
+    omega (arith, length-take stack.top.count (held view stack), length-values view stack.values.items, stack.values.ok.0, c.len.ensures, c.min-place.ensures) in
+    found _ _ _ _ c.symbol_at.ensures same
