@@ -7,3 +7,4 @@ pub mod Parts
 pub mod Trees
 pub mod Ways
 pub mod Lists
+pub mod LetterRuns

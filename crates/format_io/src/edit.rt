@@ -1,19 +1,22 @@
 // A READ or WRITE in the middle of its list: the record in hand, and the place in the format.
-ghost use Rattle.std.specs.Prelude.{◌≡◌, ◌≤◌, OnOk, length};
-ghost use Rattle.f66_tree.specs.Fields.{Fields};
+ghost use Rattle.std.specs.Prelude.{◌≡◌, ◌+◌, ◌<◌, ◌≤◌, ◌++◌, ℕ, true, List, OnOk, All, length, take, drop, map, replicate};
+ghost use Rattle.f66_tree.specs.declared.editing.EditKind.TheVariants.{Letter};
+ghost use Rattle.f66_tree.specs.Fields.{Fields, Takes};
+ghost use Rattle.f66_tree.specs.declared.editing.Mark.TheVariants.{Between};
 ghost use Rattle.f66_tree.specs.declared.editing.Way.TheVariants.{Reading, Writing};
 ghost use Rattle.f66_tree.specs.Turns.{started, took, next_turn, last_turn, is_over, suits, width_of, put_whole, put_truth, put_letter, take_whole, take_truth, take_letter};
-ghost use Rattle.format_io.specs.Places.{Stand, hand_of, format, IsPlan};
+ghost use Rattle.format_io.specs.Letters.{IsLetter, cell_of, PutsLetters, TakesLetters, LettersNext};
+ghost use Rattle.format_io.specs.Places.{Stand, hand_of, format, IsPlan, step_of};
 ghost use Rattle.format_io.specs.Answers.{line_in, Answers, opened, due_of, StepsTo, EndsTo, ClosesTo, Puts};
 
 use crate::between::{pass_blanks, pass_text};
-use crate::code::{Laid, Piece};
+use crate::code::{Laid, Op, Piece};
 use crate::format::Plan;
 use crate::input::Input;
 use crate::output::Output;
-use crate::walk::{Walk, advance};
+use crate::walk::{Walk, advance, op_at};
 use f66_tree::{EditKind, Mark, Turn, Way};
-use ground::{Kind, Memory, Trap};
+use ground::{Kind, Memory, Trap, Value};
 use std::alloc::Global;
 use std::marker::Model;
 
@@ -25,6 +28,13 @@ fn suits(kind: Kind, wanted: EditKind) -> bool
         Kind::Integer => matches!(wanted, EditKind::Whole | EditKind::Letter),
         Kind::Logical => matches!(wanted, EditKind::Truth),
     }
+}
+
+/// Whether an edit is A1.
+fn is_letter(piece: &Piece) -> bool
+    ensures { result ≡ true → step_of piece.now ≡ Takes Letter 1 }
+{
+    matches!(piece, Piece::Takes(EditKind::Letter, 1))
 }
 
 /// The record in hand, and the place in the plan.
@@ -261,6 +271,80 @@ impl Edit {
             Mark::Due(_, width) => width,
             _ => 0,
         }
+    }
+
+    /// How many edits A1 come next with nothing between them, where no record and no other item is in between.
+    pub fn letters_ahead(&self, plan: &Plan) -> usize
+        ensures { take result (hand_of plan.now self.now).rest ≡ replicate result (Takes Letter 1) }
+    {
+        self.letters_laid(&plan.laid) as usize
+    }
+
+    fn letters_laid(&self, plan: &Laid) -> u16
+        requires { IsPlan plan.now }
+        ensures between { 0 < result → self.now.mark ≡ Between }
+        ensures fits { self.now.past + result ≤ 65535 }
+        ensures onward { (k : ℕ) → k ≤ result → LettersNext (format plan.now) self.now k }
+    {
+        let past = self.walk.past;
+        if !matches!(self.mark, Mark::Between) {
+            return 0;
+        }
+        if let Some(Op::Once(count, piece)) = op_at(plan, self.walk.pc) {
+            if is_letter(piece) {
+                return count.saturating_sub(past);
+            }
+        }
+        0
+    }
+
+    /// The characters of the first of these cells go out, as many as come with nothing between them and have room. How
+    /// many.
+    pub fn put_letters(&mut self, plan: &Plan, cells: &[Option<Value>]) -> usize
+        requires { self.old.way ≡ Writing }
+        ensures same_way { self.new.way ≡ self.old.way }
+        ensures within { result ≤ length cells.now }
+        ensures letters { (cs : List ℕ) × All IsLetter cs × (take result cells.now ≡ map cell_of cs) × PutsLetters cs (hand_of plan.now self.old) (hand_of plan.now self.new) }
+    {
+        self.put_laid(&plan.laid, cells)
+    }
+
+    fn put_laid(&mut self, plan: &Laid, cells: &[Option<Value>]) -> usize
+        requires plan { IsPlan plan.now }
+        requires way { self.old.way ≡ Writing }
+        ensures same_way { self.new.way ≡ self.old.way }
+        ensures within { result ≤ length cells.now }
+        ensures letters { (cs : List ℕ) × All IsLetter cs × (take result cells.now ≡ map cell_of cs) × PutsLetters cs (hand_of (format plan.now) self.old) (hand_of (format plan.now) self.new) }
+    {
+        let most = cells.len().min(self.letters_laid(plan) as usize);
+        let count = self.output.letters(&cells[..most]);
+        self.walk.past += count as u16;
+        count
+    }
+
+    /// The next characters of the record come into the first of these cells, as many as come with nothing between them. How
+    /// many.
+    pub fn take_letters(&mut self, plan: &Plan, cells: &mut [Option<Value>]) -> usize
+        requires { self.old.way ≡ Reading }
+        ensures same_way { self.new.way ≡ self.old.way }
+        ensures within { result ≤ length cells.old }
+        ensures letters { (cs : List ℕ) × All IsLetter cs × (length cs ≡ result) × (cells.new ≡ map cell_of cs ++ drop result cells.old) × TakesLetters cs (hand_of plan.now self.old) (hand_of plan.now self.new) }
+    {
+        self.take_laid(&plan.laid, cells)
+    }
+
+    fn take_laid(&mut self, plan: &Laid, cells: &mut [Option<Value>]) -> usize
+        requires plan { IsPlan plan.now }
+        requires way { self.old.way ≡ Reading }
+        ensures same_way { self.new.way ≡ self.old.way }
+        ensures within { result ≤ length cells.old }
+        ensures letters { (cs : List ℕ) × All IsLetter cs × (length cs ≡ result) × (cells.new ≡ map cell_of cs ++ drop result cells.old) × TakesLetters cs (hand_of (format plan.now) self.old) (hand_of (format plan.now) self.new) }
+    {
+        let most = cells.len().min(self.letters_laid(plan) as usize);
+        let count = self.input.letters(&mut cells[..most]);
+        self.input.skip(count as u16);
+        self.walk.past += count as u16;
+        count
     }
 
     /// An integer goes out by the edit `I` that waits, or LongRecord.

@@ -1,8 +1,9 @@
 // The record in hand of a READ: what of it is not read yet, and the contents of its fields.
-ghost use Rattle.std.specs.Prelude.{◌≡◌, ℕ, ◌≤◌, List, [], length, take, drop, get_or, IfOk};
+ghost use Rattle.std.specs.Prelude.{◌≡◌, ℕ, ◌≤◌, List, [], ◌++◌, length, take, drop, map, get_or, All, IfOk};
+ghost use Rattle.format_io.specs.Letters.{IsLetter, cell_of};
 ghost use Rattle.f66_tree.specs.Fielded.{field, unblanked, capped, digit, digits_of, ranged, sign_of, digits_from, whole_of, truth_of, letter_of};
 
-use ground::Trap;
+use ground::{Trap, Value};
 use std::alloc::{AllocError, Global};
 use std::marker::Model;
 
@@ -196,6 +197,22 @@ impl Input {
         } else {
             Err(Trap::BadField)
         }
+    }
+
+    /// The next characters come into these cells, as many as are letters. How many.
+    pub fn letters(&self, cells: &mut [Option<Value>]) -> usize
+        requires { length cells.old ≤ 65535 }
+        ensures within { result ≤ length cells.old }
+        ensures came { (cs : List ℕ) × All IsLetter cs × (cs ≡ field result self.now) × (cells.new ≡ map cell_of cs ++ drop result cells.old) }
+    {
+        for i in 0..cells.len() {
+            let code = self.at(i);
+            if code < 32 || code > 126 {
+                return i;
+            }
+            cells[i] = Some(Value::Int(code as i64));
+        }
+        cells.len()
     }
 
     /// The code of the next character.

@@ -13,8 +13,3 @@ mod walk;
 pub use edit::Edit;
 pub use format::Plan;
 pub use layout::plan;
-
-#[cfg(test)]
-mod examples;
-#[cfg(test)]
-mod tests;

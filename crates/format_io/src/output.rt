@@ -1,12 +1,23 @@
 // The record in hand of a WRITE: at most 132 characters, and what edits put at its end.
-ghost use Rattle.std.specs.Prelude.{◌≡◌, ℕ, ◌+◌, ◌≤◌, List, [], ◌∷◌, ◌++◌, length, take, replicate, nat_le};
+ghost use Rattle.std.specs.Prelude.{◌≡◌, ℕ, ◌+◌, ◌<◌, ◌≤◌, List, [], ◌∷◌, ◌++◌, length, take, map, replicate, nat_le, All, IfSome};
 ghost use Rattle.f66_tree.specs.Fielded.{whole_text, truth_text};
 ghost use Rattle.f66_tree.specs.Turns.{extended, with_letter};
 ghost use Rattle.format_io.specs.Answers.{Writes};
+ghost use Rattle.format_io.specs.Letters.{IsLetter, cell_of};
 
-use ground::Trap;
+use ground::{Trap, Value};
 use itoa::Buffer;
 use std::marker::Model;
+
+/// The character whose code a cell holds.
+fn letter_in(cell: &Option<Value>) -> Option<u8>
+    ensures { IfSome result (λ c. IsLetter c × (cell.now ≡ cell_of c)) }
+{
+    match cell {
+        Some(Value::Int(code)) if 32 <= *code && *code <= 126 => Some(*code as u8),
+        _ => None,
+    }
+}
 
 /// At most 132 characters.
 #[derive(Drop)]
@@ -134,6 +145,24 @@ impl Output {
         self.fill(b' ', blanks);
         self.push(if holds { b'T' } else { b'F' });
         Ok(())
+    }
+
+    /// The characters of the first of these cells go to the end, as many as hold codes of characters and have room. How many.
+    pub fn letters(&mut self, cells: &[Option<Value>]) -> usize
+        ensures within { result ≤ length cells.now }
+        ensures room { 0 < result → length self.new ≤ 132 }
+        ensures pushed { (cs : List ℕ) × All IsLetter cs × (take result cells.now ≡ map cell_of cs) × (self.new ≡ self.old ++ cs) }
+    {
+        for i in 0..cells.len() {
+            let Some(byte) = letter_in(&cells[i]) else {
+                return i;
+            };
+            if !self.has_room(1) {
+                return i;
+            }
+            self.push(byte);
+        }
+        cells.len()
     }
 
     /// The character of a code.

@@ -13,7 +13,8 @@ pub struct Walk {
     pub counts: [u16; 2],
 }
 
-fn op_at(plan: &Laid, pc: usize) -> Option<&Op>
+/// The instruction at a place.
+pub fn op_at(plan: &Laid, pc: usize) -> Option<&Op>
     ensures { option_map (λ r. r.now) result ≡ slice_get plan.now.ops.items pc }
 {
     plan.ops.get(pc)

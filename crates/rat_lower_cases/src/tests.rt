@@ -22,11 +22,8 @@ fn main_unit(body: List<RatStmt>) -> RatUnit {
 /// The records with `/` behind each, and the end.
 fn shown(alloc: Global, walked: &Walked) -> Result<String, AllocError> {
     let mut shown = String::new(alloc);
-    for record in &walked.records {
-        for byte in record.as_bytes() {
-            shown.push(*byte as char)?;
-        }
-        shown.push('/')?;
+    for byte in walked.records.as_bytes() {
+        shown.push(if *byte == b'\n' { '/' } else { *byte as char })?;
     }
     match walked.end {
         RunEnd::Done => shown.push_str("done")?,
@@ -543,15 +540,15 @@ fn units(rt: HostRuntime) -> Result<(), Fail> {
 /// Whether the records are the numbers from 1 on, in two columns.
 fn are_counted(walked: &Walked) -> bool {
     let mut number: u8 = 0;
-    for record in &walked.records {
+    for record in walked.records.as_bytes().chunks(3) {
         number = number.saturating_add(1);
         let tens = if number < 10 {
             b' '
         } else {
             b'0' + number / 10
         };
-        let wanted = [tens, b'0' + number % 10];
-        if record.as_bytes() != wanted.as_slice() {
+        let wanted = [tens, b'0' + number % 10, b'\n'];
+        if record != wanted.as_slice() {
             return false;
         }
     }

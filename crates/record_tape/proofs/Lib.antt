@@ -2,3 +2,5 @@ pub mod Turning
 pub mod Ending
 pub mod Steps
 pub mod Contents
+pub mod Cuts
+pub mod Characters

@@ -1,2 +1,4 @@
+pub mod Cutting
 pub mod Reels
 pub mod Moves
+pub mod Letters

@@ -258,11 +258,8 @@ pub fn shown_to(end: Result<(), Stop>, tape: Tape, shown: String) -> Result<Stri
         Err(Stop::Memory) => return Err(AllocError),
     }
     shown.push(':')?;
-    for record in tape.into_records() {
-        for byte in record.as_bytes() {
-            shown.push(*byte as char)?;
-        }
-        shown.push('|')?;
+    for byte in tape.into_records().as_bytes() {
+        shown.push(if *byte == b'\n' { '|' } else { *byte as char })?;
     }
     Ok(shown)
 }

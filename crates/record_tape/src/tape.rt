@@ -1,7 +1,10 @@
 // The records of a run, and the statement that reads or writes them.
-ghost use Rattle.std.specs.Prelude.{◌≡◌, [], IfOk, OnOk, OnErr, true, false};
+ghost use Rattle.std.specs.Prelude.{◌≡◌, ◌≤◌, ◌++◌, ℕ, List, [], IfOk, OnOk, OnErr, All, length, take as first, drop, map, replicate, true, false};
 ghost use Rattle.ground.specs.declared.value.Value.TheVariants.{Int, Log};
-ghost use Rattle.f66_tree.specs.Fields.{Fields};
+ghost use Rattle.f66_tree.specs.declared.editing.EditKind.TheVariants.{Letter};
+ghost use Rattle.f66_tree.specs.Fields.{Fields, Takes};
+ghost use Rattle.format_io.specs.Letters.{IsLetter, cell_of};
+ghost use Rattle.record_tape.specs.Letters.{SendsLetters, GetsLetters};
 ghost use Rattle.f66_tree.specs.declared.editing.Way.TheVariants.{Reading, Writing};
 ghost use Rattle.f66_tree.specs.declared.editing.Mark.TheVariants.{Between};
 ghost use Rattle.f66_tree.specs.Turns.{is_over};
@@ -12,9 +15,10 @@ ghost use Rattle.record_tape.specs.declared.tape.Break.TheVariants.{Trapped};
 ghost use Rattle.record_tape.specs.Reels.{Reel, seen, content, IsSmall};
 ghost use Rattle.record_tape.specs.Moves.{IsMove, Opens, IsPut, IsTaken, IsChange, Changes, TurnsTo, EndsTo};
 
+use crate::lines::Lines;
 use f66_tree::{EditKind, Turn, Way};
 use format_io::{Edit, Plan};
-use ground::{Kind, List, Memory, Text, Trap, Value};
+use ground::{Kind, Memory, Trap, Value};
 use ports::Whole;
 use std::alloc::{AllocError, Global};
 use std::marker::Model;
@@ -38,7 +42,7 @@ impl From<Trap> for Break {
 #[derive(Drop)]
 pub struct Tape {
     input: Whole,
-    records: Vec<Text>,
+    records: Lines,
     edit: Edit,
 }
 
@@ -47,7 +51,7 @@ impl Model for Tape {
 
     ghost Value = { Reel };
 
-    ghost view = { λ t. record { unread = t.input; written = t.records.items; stand = t.edit } };
+    ghost view = { λ t. record { unread = t.input; written = t.records; stand = t.edit } };
 }
 
 impl Tape {
@@ -59,7 +63,7 @@ impl Tape {
         let edit = Edit::new(alloc)?;
         Ok(Tape {
             input,
-            records: Vec::new(alloc),
+            records: Lines::new(alloc),
             edit,
         })
     }
@@ -105,8 +109,7 @@ impl Tape {
         match self.edit.way() {
             Way::Reading => Ok(self.fetch()),
             Way::Writing => {
-                let line = self.edit.in_hand().to_vec(*self.records.allocator())?;
-                self.records.push(Text::new(line))?;
+                self.records.push(self.edit.in_hand())?;
                 Ok(Ok(()))
             }
         }
@@ -215,6 +218,37 @@ impl Tape {
         }
     }
 
+    /// How many edits A1 come next with nothing between them.
+    pub fn letters_ahead(&self, plan: &Plan) -> usize
+        ensures { first result (seen plan.now self.now).hand.rest ≡ replicate result (Takes Letter 1) }
+    {
+        self.edit.letters_ahead(plan)
+    }
+
+    /// The characters of the first of these cells go out, as many as come with nothing between them and have room. How
+    /// many.
+    pub fn put_letters(&mut self, plan: &Plan, cells: &[Option<Value>]) -> usize
+        requires { self.old.stand.way ≡ Writing }
+        ensures way { self.new.stand.way ≡ self.old.stand.way }
+        ensures going { is_over self.old.stand.mark ≡ false → is_over self.new.stand.mark ≡ false }
+        ensures within { result ≤ length cells.now }
+        ensures letters { (cs : List ℕ) × All IsLetter cs × (first result cells.now ≡ map cell_of cs) × SendsLetters cs (seen plan.now self.old) (seen plan.now self.new) }
+    {
+        self.edit.put_letters(plan, cells)
+    }
+
+    /// The next characters of the record come into the first of these cells, as many as come with nothing between them. How
+    /// many.
+    pub fn take_letters(&mut self, plan: &Plan, cells: &mut [Option<Value>]) -> usize
+        requires { self.old.stand.way ≡ Reading }
+        ensures way { self.new.stand.way ≡ self.old.stand.way }
+        ensures going { is_over self.old.stand.mark ≡ false → is_over self.new.stand.mark ≡ false }
+        ensures within { result ≤ length cells.old }
+        ensures letters { (cs : List ℕ) × All IsLetter cs × (length cs ≡ result) × (cells.new ≡ map cell_of cs ++ drop result cells.old) × GetsLetters cs (seen plan.now self.old) (seen plan.now self.new) }
+    {
+        self.edit.take_letters(plan, cells)
+    }
+
     /// One turn where no item is left: whether the statement is over.
     fn last_turn(&mut self, plan: &Plan) -> Result<Result<bool, Trap>, AllocError>
         ensures { IfOk result (λ r. EndsTo r (seen plan.now self.old) (seen plan.now self.new)) }
@@ -244,8 +278,8 @@ impl Tape {
     }
 
     /// The records that were written.
-    pub fn into_records(self) -> List<Text>
-        ensures { result.items ≡ self.written }
+    pub fn into_records(self) -> Lines
+        ensures { result ≡ self.written }
     {
         self.records
     }

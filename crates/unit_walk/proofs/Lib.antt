@@ -14,6 +14,8 @@ mod RunLemmas
 mod FormatLemmas
 mod TransferLemmas
 mod ItemLemmas
+mod LetterLemmas
+mod RowLemmas
 mod TurnLemmas
 mod RecordLemmas
 mod RecordedLemmas

@@ -77,6 +77,15 @@ module _ (code : List Line) (limit : ℕ) (fs : Fields) where
         record { after = b.after; is = a.is ∙ splits n run a.after ∙ ap (λ (o : Out ⊤). bind o (λ _ w1. next s w1)) b.is; holds = b.holds };
   }
 
+  pub follows_on : (part rest next : Doing) (old mid new : Run) → Follows code limit fs part rest old mid → Follows code limit fs rest next mid new → Follows code limit fs part next old new
+  follows_on part rest next old mid new first second = record {
+    rises = omega (arith, first.rises, second.rises);
+    is = λ n run w few inside.
+        let a = first.is n run w few inside in
+        let b = second.is n run a.after (few_left limit n fs old mid w a.after first.rises few inside a.holds) a.holds in
+        record { after = b.after; is = a.is ∙ b.is; holds = b.holds };
+  }
+
   -- behind what came before, the rest leads on
   pub follows_goes : (part rest : Doing) (old mid : Run) (r : Result ⊤ Halt) (new : Run) → Follows code limit fs part rest old mid → Goes code limit fs rest mid r new → Goes code limit fs part old r new
   follows_goes part rest old mid r new follows goes = record {

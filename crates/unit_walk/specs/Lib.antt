@@ -13,6 +13,7 @@ pub mod Loops
 pub mod Running
 pub mod Closing
 pub mod Standing
+pub mod Letters
 pub mod Transfers
 pub mod Shows
 pub mod Prepared

@@ -10,7 +10,7 @@ use Rattle.unit_walk.specs.Leaving.{end_of}
 use Rattle.unit_walk.specs.Running.{LoopsAre}
 
 abbrev pub shown_of : Walked → Shown
-shown_of w = record { records = w.records.items; end = end_of w.end; work = w.begun }
+shown_of w = record { records = w.records; end = end_of w.end; work = w.begun }
 
 -- nothing has been done yet
 pub record IsFirst (code : List Line) (input : List Record) (run : Run) : Type 0 where

@@ -1,5 +1,5 @@
 -- What READ and WRITE do with their items, by the places and the records of a run (X3.9-1966, section 7.1.3).
-use Rattle.std.specs.Prelude.{◌≡◌, ◌≤◌, ◌<◌, ℕ, Bool, true, false, List, Result, Ok, Err, IfOk, ⊤}
+use Rattle.std.specs.Prelude.{◌≡◌, ◌≤◌, ◌<◌, ◌+◌, ℕ, Bool, true, false, List, Result, Ok, Err, IfOk, ⊤}
 use Rattle.ground.specs.declared.place.Place.{Place}
 use Rattle.f66_tree.specs.declared.editing.Way.{Way}
 use Rattle.f66_tree.specs.declared.editing.Way.TheVariants.{Reading, Writing}
@@ -70,6 +70,13 @@ pub record Goes (code : List Line) (limit : ℕ) (fs : Fields) (part : Doing) (o
 pub record Follows (code : List Line) (limit : ℕ) (fs : Fields) (part rest : Doing) (old new : Run) : Type 0 where
   pub rises : old.begun ≤ new.begun
   pub is : (n : ℕ) (run : Frame → Stand → World → Out ⊤) (w : World) → w.left ≤ n → Inside limit fs old w → Comes (part (around_main (notes_of code) code n run) w) (rest (around_main (notes_of code) code n run)) (Inside limit fs new)
+
+-- ---- whole arrays ----
+
+-- behind some places of an array the rest of it follows, or the run is over; what is done from each place on is given
+abbrev pub SomeGo : List Line → ℕ → Fields → (ℕ → Doing) → ℕ → Run → Result ℕ Halt → Run → Type 0
+SomeGo code limit fs part from old (Ok count) new = Follows code limit fs (part from) (part (from + count)) old new
+SomeGo code limit fs part from old (Err h) new = Goes code limit fs (part from) old (Err h) new
 
 -- ---- implied DO ----
 

@@ -1,11 +1,12 @@
 // What READ and WRITE do with their items (X3.9-1966, sections 7.1.3 and 7.2.3).
-ghost use Rattle.std.specs.Prelude.{◌≡◌, ◌≤◌, ℕ, true, map, IfOk};
+ghost use Rattle.std.specs.Prelude.{◌≡◌, ◌≤◌, ◌<◌, ◌+◌, ◌-◌, ℕ, true, false, map, IfOk};
 ghost use Rattle.f66_tree.specs.Forms.{Variable};
 ghost use Rattle.f66_tree.specs.Units.{Held, notes_of, kind_of, sizes_of as sizes_in, places_of as places_in};
 ghost use Rattle.f66_tree.specs.Views.{formula_of, entry_of, entries_of, lines_of};
 ghost use Rattle.f66_tree.specs.Records.{put, take, closed as closed_tape};
 ghost use Rattle.f66_tree.specs.Evaluation.{load, store_at};
 ghost use Rattle.f66_tree.specs.Statements.{taped, took, items as all_items, entry as one_of, item as item_of, row as row_of, edited};
+ghost use Rattle.f66_tree.specs.Turns.{is_over};
 ghost use Rattle.f66_tree.specs.World.{bind};
 ghost use Rattle.f66_tree.specs.declared.editing.Way.TheVariants.{Reading, Writing};
 ghost use Rattle.unit_walk.specs.declared.stuck.Stuck.TheVariants as stuck;
@@ -14,7 +15,8 @@ ghost use Rattle.unit_walk.specs.Walking.{main_at};
 ghost use Rattle.unit_walk.specs.Walked.{is_formula, is_entry, are_entries, is_applied};
 ghost use Rattle.unit_walk.specs.Loops.{FitsPass, loop_of};
 ghost use Rattle.unit_walk.specs.Leaving.{end_of_stuck};
-ghost use Rattle.unit_walk.specs.Transfers.{Ready, Kept, Goes, TurnGoes, turns_over, all_turns, stuck_of};
+ghost use Rattle.unit_walk.specs.Letters.{Lettered};
+ghost use Rattle.unit_walk.specs.Transfers.{Ready, Kept, Goes, SomeGo, TurnGoes, turns_over, all_turns, stuck_of};
 ghost use Rattle.unit_walk.specs.Standing.{IsPlan, IsSound};
 
 use crate::do_loop::{Pass, begin, turn};
@@ -240,13 +242,80 @@ fn row<'a>(
     ensures goes { IfOk result (λ done. Goes (lines_of plan.now.code.now) plan.now.limit editing.now.format.now (λ s w. row_of s (main_at editing.now.place) editing.now.way (kind_of (context_of (lines_of plan.now.code.now)) name.now) (Held 0 name.now 0) places 0 w) run.old done run.new) }
     ensures kept { IfOk result (λ done. Kept (lines_of plan.now.code.now) plan.now.limit editing.now.way run.old done run.new) }
 {
-    for offset in 0..places {
-        match content(alloc, plan, run, editing, Target { name, offset })? {
-            Ok(()) => {}
+    let kind = plan.names.kind_of(name);
+    let mut offset = 0;
+    while offset < places {
+        match some(alloc, plan, run, editing, kind, name, offset, places)? {
+            Ok(count) => offset += count,
             Err(halt) => return Ok(Err(halt)),
         }
     }
     Ok(Ok(()))
+}
+
+/// Does one place of an array or several, from one on up to that before another. How many.
+fn some<'a>(
+    alloc: Global,
+    plan: &Plan<'a>,
+    run: &mut Run<'a>,
+    editing: &Editing<'_>,
+    kind: Kind,
+    name: &'a Name,
+    from: usize,
+    places: usize,
+) -> Result<Result<usize, Halt>, AllocError>
+    requires kind { kind ≡ kind_of (context_of (lines_of plan.now.code.now)) name.now }
+    requires order { from < places }
+    requires places { places ≡ places_in (sizes_in name.now (notes_of (lines_of plan.now.code.now))) }
+    requires plan { IsPlan plan.now }
+    requires ready { Ready (lines_of plan.now.code.now) plan.now.limit editing.now.way run.old }
+    ensures within { IfOk result (λ done. IfOk done (λ count. (0 < count) × (from + count ≤ places))) }
+    ensures goes { IfOk result (λ done. SomeGo (lines_of plan.now.code.now) plan.now.limit editing.now.format.now (λ i s w. row_of s (main_at editing.now.place) editing.now.way (kind_of (context_of (lines_of plan.now.code.now)) name.now) (Held 0 name.now 0) (places - i) i w) from run.old done run.new) }
+    ensures kept { IfOk result (λ done. Kept (lines_of plan.now.code.now) plan.now.limit editing.now.way run.old done run.new) }
+{
+    let count = letters(alloc, run, editing, kind, name, from, places)?;
+    if count > 0 {
+        return Ok(Ok(count));
+    }
+    match content(alloc, plan, run, editing, Target { name, offset: from })? {
+        Ok(()) => Ok(Ok(1)),
+        Err(halt) => Ok(Err(halt)),
+    }
+}
+
+/// Does places of an array whose edits A1 follow one another, as many as hold characters or get some. How many.
+fn letters<'a>(
+    alloc: Global,
+    run: &mut Run<'a>,
+    editing: &Editing<'_>,
+    kind: Kind,
+    name: &'a Name,
+    from: usize,
+    places: usize,
+) -> Result<usize, AllocError>
+    requires order { from ≤ places }
+    requires way { run.old.tape.stand.way ≡ editing.now.way }
+    ensures within { IfOk result (λ count. from + count ≤ places) }
+    ensures same { IfOk result (λ count. (run.new.passes ≡ run.old.passes) × (run.new.begun ≡ run.old.begun)) }
+    ensures way { run.new.tape.stand.way ≡ run.old.tape.stand.way }
+    ensures going { is_over run.old.tape.stand.mark ≡ false → is_over run.new.tape.stand.mark ≡ false }
+    ensures letters { IfOk result (λ count. Lettered editing.now.way editing.now.format.now kind name.now from count run.old run.new) }
+{
+    let count = run.tape.letters_ahead(editing.format).min(places - from);
+    if count == 0 || !matches!(kind, Kind::Integer) {
+        return Ok(0);
+    }
+    let end = from + count;
+    match editing.way {
+        Way::Reading => {
+            run.places
+                .take_letters(alloc, &mut run.tape, editing.format, name, from, end)
+        }
+        Way::Writing => Ok(
+            run.places
+                .put_letters(&mut run.tape, editing.format, name, from, end),
+        ),
+    }
 }
 
 /// Does one place: its edit is found and compared, and then its content goes.

@@ -19,6 +19,3 @@ mod walked;
 
 pub use statement::RunEnd;
 pub use walked::{Walked, walk};
-
-#[cfg(test)]
-mod tests;

@@ -16,15 +16,15 @@ use crate::run::{Run, step};
 use crate::statement::{Halt, RunEnd};
 use f66_check::CheckedUnit;
 use f66_tree::Stmt;
-use ground::{List, Memory, Text};
+use ground::Memory;
 use ports::Whole;
+use record_tape::Lines;
 use std::alloc::{AllocError, Global};
 
 /// The output of a run, its end, and how many statements began.
 #[derive(Debug, Drop)]
 pub struct Walked {
-    /// The records without their byte 10.
-    pub records: List<Text>,
+    pub records: Lines,
     pub end: RunEnd,
     pub begun: u64,
 }

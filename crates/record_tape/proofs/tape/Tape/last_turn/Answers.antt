@@ -13,7 +13,7 @@ use Rattle.record_tape.proofs.tape.Tape.last_turn.Goals as goal
 pub returns-in-Err : goal.returns-in-Err
 returns-in-Err c =
     let fs = c.args.plan.now in
-    let f : Files = record { unread = c.self.inside.input; written = c.self.inside.records.items } in (
+    let f : Files = record { unread = c.self.inside.input; written = c.self.inside.records } in (
       f,
       ap (λ s. to_close (seen fs s)) (sym c.self.view_is) ∙ unclosed_is (hand_of fs c.self.inside.edit) f _ c.in-Err.ensures.turn,
       refl,
@@ -32,7 +32,7 @@ returns-in-Err-2 c =
     let fs = c.args.plan.now in
     let h = hand_of fs c.self.inside.edit in
     let h1 = hand_of fs c.finish.new.self in
-    let f : Files = record { unread = c.self.inside.input; written = c.self.inside.records.items } in
+    let f : Files = record { unread = c.self.inside.input; written = c.self.inside.records } in
     let turned : last_turn h ≡ Ok (Some c.in-Ok-Some.field-0-0, h1) = subst (λ t. last_turn h ≡ Ok (t, h1)) c.in-Ok-Some.field-0-is c.in-Ok-Some.ensures.turn in
     let made : changed_by h1.way h1 f ≡ Err c.in-Err-2.trap = subst (λ r. IsChange r (changed_by h1.way h1 f) (seen fs c.change.new.self)) c.in-Err-2.is (c.in_ok-trap-in-Ok-Some.ensures.record fs) in
     let kept = subst (λ r. OnErr r (c.change.new.self.written ≡ f.written)) c.in-Err-2.is c.in_ok-trap-in-Ok-Some.ensures.written in (
@@ -46,7 +46,7 @@ returns-in-Ok c =
     let fs = c.args.plan.now in
     let h = hand_of fs c.self.inside.edit in
     let h1 = hand_of fs c.finish.new.self in
-    let f : Files = record { unread = c.self.inside.input; written = c.self.inside.records.items } in
+    let f : Files = record { unread = c.self.inside.input; written = c.self.inside.records } in
     let new = seen fs c.change.new.self in
     let turned : last_turn h ≡ Ok (Some c.in-Ok-Some.field-0-0, h1) = subst (λ t. last_turn h ≡ Ok (t, h1)) c.in-Ok-Some.field-0-is c.in-Ok-Some.ensures.turn in
     let made : changed_by h1.way h1 f ≡ Ok (new.hand, files_of new) = subst (λ r. IsChange r (changed_by h1.way h1 f) new) c.in-Ok.is (c.in_ok-trap-in-Ok-Some.ensures.record fs) in

@@ -23,7 +23,7 @@ returns-in_ok-put_char-in-Some-Letter-clause-going c =
 pub returns-in_err-put_int-in-Some-Whole-clause-step : goal.returns-in_err-put_int-in-Some-Whole-clause-step
 returns-in_err-put_int-in-Some-Whole-clause-step c fs =
     let fits : FitsSigned w64 c.args.n = search rules in
-    let new : Reel = record { unread = c.self.inside.input; written = c.self.inside.records.items; stand = c.put_int.new.self } in
+    let new : Reel = record { unread = c.self.inside.input; written = c.self.inside.records; stand = c.put_int.new.self } in
     let old = seen fs c.args.self.now in
     let said0 : put_whole (hand_of fs c.self.inside.edit) c.args.n ≡ Err c.in_err-put_int-in-Some-Whole.field-0.0 = simp to_z-of_z at (c.in_err-put_int-in-Some-Whole.ensures.hand fs) in
     let said : put_whole old.hand c.args.n ≡ Err c.in_err-put_int-in-Some-Whole.field-0.0 = ap (λ s. put_whole (seen fs s).hand c.args.n) (sym c.self.view_is) ∙ said0 in

@@ -14,7 +14,7 @@ use Rattle.record_tape.proofs.tape.Tape.turn.Goals as goal
 pub returns-in-Err-clause-turn : goal.returns-in-Err-clause-turn
 returns-in-Err-clause-turn c =
     let fs = c.args.plan.now in
-    let f : Files = record { unread = c.self.inside.input; written = c.self.inside.records.items } in (
+    let f : Files = record { unread = c.self.inside.input; written = c.self.inside.records } in (
       f,
       ap (λ s. onward c.args.kind (seen fs s)) (sym c.self.view_is) ∙ stopped_is (hand_of fs c.self.inside.edit) c.args.kind f _ c.in-Err.ensures.turn,
       refl,
@@ -41,7 +41,7 @@ returns-in-Err-2-clause-turn c =
     let fs = c.args.plan.now in
     let h = hand_of fs c.self.inside.edit in
     let h1 = hand_of fs c.next_item.new.self in
-    let f : Files = record { unread = c.self.inside.input; written = c.self.inside.records.items } in
+    let f : Files = record { unread = c.self.inside.input; written = c.self.inside.records } in
     let turned : next_turn h c.args.kind ≡ Ok (RecordDone, h1) = subst (λ t. next_turn h c.args.kind ≡ Ok (t, h1)) c.in-Ok-RecordDone.field-0-is c.in-Ok-RecordDone.ensures.turn in
     let made : changed_by h1.way h1 f ≡ Err c.in-Err-2.trap = subst (λ r. IsChange r (changed_by h1.way h1 f) (seen fs c.change.new.self)) c.in-Err-2.is (c.in_ok-trap-in-Ok-RecordDone.ensures.record fs) in
     let kept = subst (λ r. OnErr r (c.change.new.self.written ≡ f.written)) c.in-Err-2.is c.in_ok-trap-in-Ok-RecordDone.ensures.written in (
@@ -55,7 +55,7 @@ returns-in-Ok-clause-turn c =
     let fs = c.args.plan.now in
     let h = hand_of fs c.self.inside.edit in
     let h1 = hand_of fs c.next_item.new.self in
-    let f : Files = record { unread = c.self.inside.input; written = c.self.inside.records.items } in
+    let f : Files = record { unread = c.self.inside.input; written = c.self.inside.records } in
     let new = seen fs c.change.new.self in
     let turned : next_turn h c.args.kind ≡ Ok (RecordDone, h1) = subst (λ t. next_turn h c.args.kind ≡ Ok (t, h1)) c.in-Ok-RecordDone.field-0-is c.in-Ok-RecordDone.ensures.turn in
     let made : changed_by h1.way h1 f ≡ Ok (new.hand, files_of new) = subst (λ r. IsChange r (changed_by h1.way h1 f) new) c.in-Ok.is (c.in_ok-trap-in-Ok-RecordDone.ensures.record fs) in
