@@ -60,9 +60,9 @@ pub fn eft_in_memory(
         Comes result Status.InputFault (MayBe told Status.InputFault) (MustBe told Status.InputFault) (Status.LibraryFault ∷ Status.OutputFault ∷ Status.Memory ∷ [])) }
     ensures shown { IsOfText result → IsShown (command_of (texts words.now.items)) (Some (held_bytes library.old.texts)) (HasGiven (λ source. Some source.left) (λ source. source.faults) input.old input.new) result
         (λ bytes. out.new.held ≡ out.old.held ++ bytes) (λ bytes. diag.new.held ≡ diag.old.held ++ bytes) }
-    // With no failing fetch on its list the library is never at fault.
     // The program that wants a record beyond the last has read all.
     ensures at_end { result ≡ Status.Trapped EndOfInput → input.new.left ≡ [] }
+    // With no failing fetch on its list the library is never at fault.
     ensures no_fault { library.old.failing ≡ [] → library.old.faults ≡ 0 → result ≢ Status.LibraryFault }
 {
     eft(alloc, words, library, input, out, diag)

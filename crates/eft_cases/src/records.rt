@@ -29,6 +29,84 @@ fn expect_records(
     Ok(())
 }
 
+/// Whole arrays by edits `A1` that follow one another: their characters go as they would one by one.
+#[test]
+fn characters_of_arrays(rt: HostRuntime) -> Result<(), Fail> {
+    let three = "integer a(3)\nread(5,8) a\nwrite(6,9) a\n9 format(3a1)\n";
+    let rows = [
+        ("8 format(3a1)", "xyz\n", 0, "xyz\n", ""),
+        ("8 format(3a1)", "x\n", 0, "x  \n", ""),
+        ("8 format(3a1)", "wxyz\n", 0, "wxy\n", ""),
+        ("8 format(a1, 2x, 2a1)", "p12qr\n", 0, "pqr\n", ""),
+        ("8 format(2(a1, 1x))", "p1q2r\ns\n", 0, "pqs\n", ""),
+        ("8 format(2a1/a1)", "ab\nc\n", 0, "abc\n", ""),
+        ("8 format(2a1)", "abx\ncd\n", 0, "abc\n", ""),
+        (
+            "8 format(3a1)",
+            "a\tb\n",
+            18,
+            "",
+            "trap 8 BadCharacter at p.r:2\n",
+        ),
+        (
+            "8 format(2a1)",
+            "ab\n",
+            16,
+            "",
+            "trap 6 EndOfInput at p.r:2\n",
+        ),
+    ];
+    for (format, input, code, out, diag) in rows {
+        let body = format!(in rt.alloc(); "{three}{format}")?;
+        expect_records(&rt, rt.alloc(), &[(body.as_str(), input, code, out, diag)])?;
+    }
+    let rows = [
+        (
+            "integer a(3)\nread(5,8) a\nwrite(6,9) a\n8 format(i2, 2a1)\n9 format(3i4)",
+            "12xy\n",
+            0,
+            "  12 120 121\n",
+            "",
+        ),
+        (
+            "integer a(3)\na(1) = 65\na(2) = 66\na(3) = 67\nwrite(6,9) a\n9 format(2a1)",
+            "",
+            0,
+            "AB\nC\n",
+            "",
+        ),
+        (
+            "integer a(3)\na(1) = 65\na(3) = 67\nwrite(6,9) a\n9 format(3a1)",
+            "",
+            15,
+            "",
+            "trap 5 Undefined at p.r:4\n",
+        ),
+        (
+            "integer a(2)\na(1) = 65\na(2) = 31\nwrite(6,9) a\n9 format(2a1)",
+            "",
+            18,
+            "",
+            "trap 8 BadCharacter at p.r:4\n",
+        ),
+        (
+            "integer a(133)\ndo i = 1, 133\na(i) = 65\nwrite(6,9) a\n9 format(132a1, a1)",
+            "",
+            24,
+            "",
+            "trap 14 LongRecord at p.r:4\n",
+        ),
+        (
+            "logical b(2)\nb(1) = .true.\nb(2) = .true.\nwrite(6,9) b\n9 format(2a1)",
+            "",
+            23,
+            "",
+            "trap 13 FormatMismatch at p.r:4\n",
+        ),
+    ];
+    expect_records(&rt, rt.alloc(), &rows)
+}
+
 #[test]
 fn written_fields(rt: HostRuntime) -> Result<(), Fail> {
     let rows = [

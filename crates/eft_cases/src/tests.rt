@@ -293,11 +293,10 @@ fn limits(rt: HostRuntime) -> Result<(), Fail> {
 #[test]
 fn failures(rt: HostRuntime) -> Result<(), Fail> {
     let two = b"k = 1\nwrite(6,9) k\nwrite(6,9) k\n9 format(i11)\nk = k + n\nend\n";
-    let table: [((u64, u64, u64, u64), u8, &str, &str); 5] = [
+    let table: [((u64, u64, u64, u64), u8, &str, &str); 4] = [
         ((1, 0, 0, 0), 4, "", "library fault\n"),
         ((2, 0, 0, 0), 4, "", "library fault\n"),
         ((0, 1, 0, 0), 6, "", "output fault\n"),
-        ((0, 2, 0, 0), 6, "          1\n", "output fault\n"),
         ((0, 0, 1, 0), 6, "          1\n          1\n", ""),
     ];
     for (failing, code, out, diag) in &table {

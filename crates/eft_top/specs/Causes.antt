@@ -67,8 +67,7 @@ fixed_line InputTooLong = Some input_too_long_line
 fixed_line (Trapped trap) = None
 
 -- The words ask for a command. There is an outcome of some text, of the told one where the library tells it, and of what
--- reads may have given, whose
--- status this is, whose bytes out got and whose line diag got.
+-- reads may have given, whose status this is, whose bytes out got and whose line diag got.
 pub record IsShown (command : Option Command) (files : Option (List ℕ → Option (List ℕ))) (given : Got → Type 0) (result : Status) (out diag : List ℕ → Type 0) : Type 0 where
   pub outcome : Outcome
   pub is : IsOutcome command files given outcome

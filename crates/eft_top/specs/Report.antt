@@ -1,7 +1,7 @@
 -- What a report shows.
 use Rattle.std.specs.Prelude.{◌≡◌, ℕ, List, Some, Bool, true, false}
 use Rattle.std.specs.declared.option.Option.{Option}
-use Rattle.ports.specs.Left.{joined}
+use Rattle.ports.specs.Records.{output_bytes}
 use Rattle.f66_tree.specs.World.{Shown}
 use Rattle.f66_tree.specs.Views.{lines_of}
 use Rattle.f66_tree.specs.OneUnit.{executed}
@@ -20,7 +20,7 @@ line_bytes (Fixed text) = text.now
 -- it shows this outcome
 pub record IsReport (report : Report) (outcome : Outcome) : Type 0 where
   pub status : Some report.status ≡ status_of outcome
-  pub records : joined report.records.items ≡ out_of outcome
+  pub records : output_bytes report.records ≡ out_of outcome
   pub line : line_bytes report.line ≡ line_of outcome
 
 -- it shows what came of a command

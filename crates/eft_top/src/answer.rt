@@ -1,6 +1,6 @@
 // What a call has to show: the words are read, the text is compiled, the input is read, and the unit is walked over it.
 ghost use Rattle.std.specs.Prelude.{◌≡◌, false, IfOk, IsErrOf};
-ghost use Rattle.ports.specs.Left.{joined};
+ghost use Rattle.ports.specs.Records.{output_bytes};
 ghost use Rattle.eft_top.specs.Words.{command_of, texts, asked_command, Run};
 ghost use Rattle.eft_top.specs.Causes.{NeedsNoInput};
 ghost use Rattle.eft_top.specs.Input.{Got as AllGot, HasGiven, HasRead, got_of, is_too_long};
@@ -28,7 +28,7 @@ pub fn answer_to<L: Library, S: Source>(
     ensures input { HasRead (S.left input.old) (S.left input.new) }
     ensures unread { NeedsNoInput result.status → input.new ≡ input.old }
     ensures story { (story : Story) × Came story (command_of (texts words.now.items)) (L.files library.old) (L.faults library.old) (L.faults library.new)
-        (HasGiven S.left S.faults input.old input.new) result.status (joined result.records.items) (line_bytes result.line) }
+        (HasGiven S.left S.faults input.old input.new) result.status (output_bytes result.records) (line_bytes result.line) }
 {
     let Some(asked) = read_words(words) else {
         return Report::fixed(

@@ -1,7 +1,5 @@
 // What a call has to show, before anything is put.
 ghost use Rattle.std.specs.Prelude.{◌≡◌, ◌++◌, ◌∷◌, [], true, ℕ, List, IfOk, take};
-ghost use Rattle.ports.specs.Left.{joined};
-ghost use Rattle.ports.specs.Records.{output_bytes};
 ghost use Rattle.f66_tree.specs.World.{Shown};
 ghost use Rattle.unit_walk.specs.Shows.{shown_of};
 ghost use Rattle.rat_front.specs.Verdict.{name_of as name_of_file};
@@ -11,6 +9,7 @@ ghost use Rattle.eft_top.specs.Report.{IsReport, line_bytes};
 use crate::Status;
 use crate::lines::{fault_text, limit_text, stop_text, trap_text};
 use ground::{Fault, Text, Trap};
+use record_tape::Lines;
 use std::alloc::{AllocError, Global};
 use unit_walk::{RunEnd, Walked};
 
@@ -32,11 +31,11 @@ impl Line {
     }
 }
 
-/// A status, the pieces for out and the line for diag.
+/// A status, the records for out and the line for diag.
 #[derive(Debug, Drop)]
 pub struct Report {
     pub status: Status,
-    pub records: Vec<Vec<u8>>,
+    pub records: Lines,
     pub line: Line,
 }
 
@@ -44,12 +43,12 @@ impl Report {
     /// A status whose line says all.
     pub fn fixed(alloc: Global, status: Status, line: &'static str) -> Report
         ensures status { result.status ≡ status }
-        ensures records { joined result.records.items ≡ [] }
+        ensures records { result.records ≡ [] }
         ensures line { line_bytes result.line ≡ line.entry.now }
     {
         Report {
             status,
-            records: Vec::new(alloc),
+            records: Lines::new(alloc),
             line: Line::Fixed(line),
         }
     }
@@ -60,7 +59,7 @@ impl Report {
     {
         Ok(Report {
             status: Status::SourceFault,
-            records: Vec::new(alloc),
+            records: Lines::new(alloc),
             line: Line::Made(fault_text(alloc, fault, file.as_bytes())?),
         })
     }
@@ -96,7 +95,7 @@ impl Report {
         };
         Ok(Report {
             status,
-            records: pieces(alloc, &records)?,
+            records,
             line,
         })
     }
@@ -110,17 +109,4 @@ fn name_of(files: &[Text], number: u16) -> &[u8]
         Some(name) => name.as_bytes(),
         None => b"",
     }
-}
-
-/// The records, each with its byte 10.
-fn pieces(alloc: Global, records: &[Text]) -> Result<Vec<Vec<u8>>, AllocError>
-    ensures { IfOk result (λ pieces. joined pieces.items ≡ output_bytes records.now) }
-{
-    let mut pieces = Vec::new(alloc);
-    for record in records {
-        let mut piece = record.as_bytes().to_vec(alloc)?;
-        piece.push(b'\n')?;
-        pieces.push(piece)?;
-    }
-    Ok(pieces)
 }

@@ -17,8 +17,8 @@ use crate::deliver::deliver;
 use ports::{Failed, Library, Sink, Source};
 use std::alloc::Global;
 
-/// All that the program does. The words are those after the program's name; out gets the records of a run, one put
-/// each, and diag at most one line. The input is read whole before a run begins. Want of memory may come at any time before the first put.
+/// All that the program does. The words are those after the program's name; out gets the records of a run in one
+/// put, and diag at most one line. The input is read whole before a run begins. Want of memory may come at any time before the first put.
 pub fn eft<L: Library, S: Source, K: Sink, D: Sink>(
     alloc: Global,
     words: &Vec<String>,
@@ -69,7 +69,7 @@ pub fn eft<L: Library, S: Source, K: Sink, D: Sink>(
     ensures unread { NeedsNoInput result → input.new ≡ input.old }
 {
     let report = answer_to(alloc, words, library, input);
-    match deliver(&report.records, report.line.as_bytes(), out, diag) {
+    match deliver(report.records.as_bytes(), report.line.as_bytes(), out, diag) {
         Ok(()) => report.status,
         Err(Failed) => Status::OutputFault,
     }
