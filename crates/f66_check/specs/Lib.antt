@@ -1,3 +1,4 @@
+-- The definitions that the contracts of f66_check cite.
 pub mod CheckRules
 pub mod Answers
 pub mod SoundRuns

@@ -1,3 +1,4 @@
+-- The lemmas of f66_names.
 mod Examples
 pub mod FormulaLemmas
 pub mod TableLemmas

@@ -1,3 +1,4 @@
+-- The definitions that the contracts of f66_names cite.
 pub mod Shapes
 pub mod Declaring
 pub mod Sorts

@@ -1,3 +1,4 @@
+-- The lemmas of f66_tree.
 pub mod Prefixes
 pub mod Stores
 pub mod EditingLemmas

@@ -1,3 +1,4 @@
+-- The definitions that the contracts of f66_tree cite.
 pub mod Fields
 pub mod Fielded
 pub mod Turns

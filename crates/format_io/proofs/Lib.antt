@@ -1,3 +1,4 @@
+-- The lemmas of format_io.
 pub mod Walks
 pub mod Plans
 pub mod Hands

@@ -1,3 +1,4 @@
+-- The definitions that the contracts of format_io cite.
 pub mod Places
 pub mod Answers
 pub mod OneField

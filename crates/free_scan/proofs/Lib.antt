@@ -1,3 +1,4 @@
+-- The lemmas of free_scan.
 mod Examples
 mod Readings
 pub mod StepLemmas

@@ -1,3 +1,4 @@
+-- The definitions that the contracts of free_scan cite.
 pub mod Characters
 pub mod Quotes
 pub mod Lines

@@ -1,3 +1,4 @@
+-- The lemmas of grammar.
 pub mod BoolLemmas
 pub mod ListLemmas
 pub mod StackLemmas

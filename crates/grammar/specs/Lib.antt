@@ -1,3 +1,4 @@
+-- The definitions that the contracts of grammar cite.
 pub mod Grammar
 pub mod Limits
 pub mod Lookahead

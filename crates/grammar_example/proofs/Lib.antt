@@ -1,1 +1,2 @@
+-- The lemmas of grammar_example.
 pub mod TableLemmas

@@ -1,3 +1,4 @@
+-- The definitions that the contracts of grammar_example cite.
 pub mod Table
 pub mod ParseTable
 pub mod LookaheadTables

@@ -1,3 +1,4 @@
+-- The definitions that the contracts of ground cite.
 pub mod Arithmetic
 pub mod Content
 pub mod FaultNames

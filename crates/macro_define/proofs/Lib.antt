@@ -1,3 +1,4 @@
+-- The lemmas of macro_define.
 mod Examples
 mod ListLemmas
 mod FileLemmas

@@ -1,3 +1,4 @@
+-- The definitions that the contracts of macro_define cite.
 pub mod Made
 pub mod Macros
 pub mod Defines

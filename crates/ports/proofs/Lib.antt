@@ -1,3 +1,4 @@
+-- The lemmas of ports.
 pub mod Pieces
 pub mod CounterLines
 pub mod PutsInARow

@@ -1,3 +1,4 @@
+-- The definitions that the contracts of ports cite.
 pub mod Causes
 pub mod Puts
 pub mod Held

@@ -1,3 +1,4 @@
+-- The definitions that the contracts of rat_check cite.
 pub mod Parts
 pub mod Said
 pub mod Rules

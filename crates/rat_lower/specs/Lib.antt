@@ -1,3 +1,4 @@
+-- The definitions that the contracts of rat_lower cite.
 pub mod Code
 pub mod OneUnit
 pub mod Checked

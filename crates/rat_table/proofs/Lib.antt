@@ -1,1 +1,2 @@
+-- The lemmas of rat_table.
 pub mod TableLemmas

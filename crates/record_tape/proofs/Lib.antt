@@ -1,3 +1,4 @@
+-- The lemmas of record_tape.
 pub mod Turning
 pub mod Ending
 pub mod Steps

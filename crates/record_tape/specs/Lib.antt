@@ -1,3 +1,4 @@
+-- The definitions that the contracts of record_tape cite.
 pub mod Cutting
 pub mod Reels
 pub mod Moves

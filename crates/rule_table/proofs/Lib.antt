@@ -1,3 +1,4 @@
+-- The lemmas of rule_table.
 pub mod WordLemmas
 pub mod FirstLemmas
 pub mod RuleLemmas

@@ -1,3 +1,4 @@
+-- The definitions that the contracts of rule_table cite.
 pub mod Words
 pub mod First
 pub mod FaultRules

@@ -1,3 +1,4 @@
+-- The value stays under the name unless one was there.
 use Rattle.std.proofs.Common.{arith, ◌∙◌}
 use Rattle.std.proofs.lemmas.Map.Text.{hash_map_updates_str}
 use Rattle.rule_table.proofs.WordLemmas.{note_once}

@@ -1,3 +1,4 @@
+-- The areas before are copied.
 use Rattle.std.proofs.Common.{◌≡◌, map, take}
 use Rattle.f66_tree.specs.Views.{area_of}
 use Rattle.f66_tree.proofs.declaration.copy_areas.Given as goal

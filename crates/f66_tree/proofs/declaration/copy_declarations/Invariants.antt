@@ -1,3 +1,4 @@
+-- The declarations before are copied.
 use Rattle.std.proofs.Common.{◌≡◌, map, take}
 use Rattle.f66_tree.specs.Views.{declared_of}
 use Rattle.f66_tree.proofs.declaration.copy_declarations.Given as goal

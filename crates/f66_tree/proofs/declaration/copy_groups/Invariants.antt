@@ -1,3 +1,4 @@
+-- The groups before are copied.
 use Rattle.std.proofs.Common.{◌≡◌, map, take}
 use Rattle.f66_tree.specs.Views.{formula_of}
 use Rattle.f66_tree.proofs.declaration.copy_groups.Given as goal

@@ -1,3 +1,4 @@
+-- The parameters before are copied.
 use Rattle.std.proofs.Common.{◌≡◌, map, take}
 use Rattle.f66_tree.specs.Views.{par_of}
 use Rattle.f66_tree.proofs.declaration.copy_pars.Given as goal

@@ -1,3 +1,4 @@
+-- The parts before are copied.
 use Rattle.std.proofs.Common.{◌≡◌, map, take}
 use Rattle.f66_tree.specs.Views.{preset_of}
 use Rattle.f66_tree.proofs.declaration.copy_presets.Given as goal

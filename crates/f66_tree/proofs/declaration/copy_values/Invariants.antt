@@ -1,3 +1,4 @@
+-- The initial values before are copied.
 use Rattle.std.proofs.Common.{◌≡◌, map, take}
 use Rattle.f66_tree.specs.Views.{initial_of}
 use Rattle.f66_tree.proofs.declaration.copy_values.Given as goal

@@ -1,3 +1,4 @@
+-- The copy of an element, or of a function reference, is one of the same name and list.
 use Rattle.f66_tree.proofs.Rows.{item_copied}
 use Rattle.f66_tree.proofs.expression.+copy.Goals as goal
 

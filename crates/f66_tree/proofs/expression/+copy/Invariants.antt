@@ -1,3 +1,4 @@
+-- The expressions before are copied.
 use Rattle.std.proofs.Common.{◌≡◌, map, take}
 use Rattle.f66_tree.specs.Views.{formula_of}
 use Rattle.f66_tree.proofs.expression.+copy.Given as goal

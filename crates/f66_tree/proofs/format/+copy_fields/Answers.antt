@@ -1,3 +1,4 @@
+-- The copy of a group is one of the same count and fields.
 use Rattle.f66_tree.proofs.Rows.{group_copied}
 use Rattle.f66_tree.proofs.format.+copy_fields.Goals as goal
 

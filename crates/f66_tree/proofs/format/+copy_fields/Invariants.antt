@@ -1,3 +1,4 @@
+-- The fields before are copied.
 use Rattle.std.proofs.Common.{◌≡◌, map, take}
 use Rattle.f66_tree.specs.Views.{field_then}
 use Rattle.f66_tree.proofs.format.+copy_fields.Given as goal

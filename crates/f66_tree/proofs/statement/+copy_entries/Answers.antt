@@ -1,3 +1,4 @@
+-- The copy of an implied DO is one of the same list, variable and parameters.
 use Rattle.f66_tree.proofs.Rows.{many_copied}
 use Rattle.f66_tree.proofs.statement.+copy_entries.Goals as goal
 

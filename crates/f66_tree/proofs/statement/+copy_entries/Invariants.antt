@@ -1,3 +1,4 @@
+-- The items before are copied.
 use Rattle.std.proofs.Common.{◌≡◌, map, take}
 use Rattle.f66_tree.specs.Views.{entry_of}
 use Rattle.f66_tree.proofs.statement.+copy_entries.Given as goal

@@ -1,3 +1,4 @@
+-- The name's size is what is passed, and the size of the name in what is left.
 use Rattle.std.proofs.Common.{◌≡◌, ◌+◌, drop, None}
 use Rattle.free_scan.specs.IncludeNames.{name_size}
 use Rattle.free_scan.proofs.include_names.name_size.Given as goal

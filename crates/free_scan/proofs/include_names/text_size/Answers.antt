@@ -1,3 +1,4 @@
+-- A byte more of the text is passed.
 use Rattle.std.proofs.Common.{arith}
 use Rattle.std.proofs.lemmas.Grind.{common_steps}
 use Rattle.free_scan.proofs.StepLemmas.{text_size-drop}

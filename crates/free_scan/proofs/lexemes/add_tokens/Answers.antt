@@ -1,3 +1,4 @@
+-- The tokens of the line are those so far, and those of the characters that are left.
 use Rattle.std.proofs.Common.{◌≡◌, ◌+◌, ◌≤◌, [], ◌∷◌, ◌++◌, ap, sym, ◌∙◌, arith, length, drop, get_or, append_assoc}
 use Rattle.std.proofs.lemmas.Grind.{common_steps}
 use Rattle.ground.specs.declared.token.Token.{Token}

@@ -1,3 +1,4 @@
+-- A number past the greatest one stays past it with every digit more.
 use Rattle.std.proofs.Common.{arith}
 use Rattle.std.proofs.lemmas.Grind.{common_steps}
 use Rattle.free_scan.proofs.StepLemmas.{value_after-ge}

@@ -1,3 +1,4 @@
+-- The value of all digits is that of those left, behind the value so far.
 use Rattle.std.proofs.Common.{◌≡◌, drop}
 use Rattle.free_scan.specs.Lexemes.{value_after}
 use Rattle.free_scan.proofs.lexemes.value.Given as goal

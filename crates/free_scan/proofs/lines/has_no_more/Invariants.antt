@@ -1,3 +1,4 @@
+-- What is passed is blank.
 use Rattle.std.proofs.Common.{◌≡◌, drop}
 use Rattle.free_scan.specs.Lines.{has_no_more}
 use Rattle.free_scan.proofs.lines.has_no_more.Given as goal

@@ -1,3 +1,4 @@
+-- A part that is dropped, one that joins a line, and one more character.
 use Rattle.std.proofs.Common.{◌≡◌, ◌+◌, ◌≤◌, get_or, drop, length, arith}
 use Rattle.std.proofs.lemmas.Grind.{common_steps}
 use Rattle.free_scan.specs.declared.lines.Part.TheVariants.{Dropped, Joined, Kept}

@@ -1,3 +1,4 @@
+-- The text of the literal is the text so far, and that of the bytes that are left.
 use Rattle.std.proofs.Common.{◌≡◌, ◌++◌, drop, false}
 use Rattle.free_scan.specs.Quotes.{literal}
 use Rattle.free_scan.proofs.quotes.literal.Given as goal

@@ -1,3 +1,4 @@
+-- The size of the literal is what is passed, and the size of what is left.
 use Rattle.std.proofs.Common.{◌≡◌, drop, false}
 use Rattle.free_scan.specs.Quotes.{longer, quoted}
 use Rattle.free_scan.proofs.quotes.measure.Given as goal

@@ -1,3 +1,4 @@
+-- A line with an include word: its tokens, its outcome, and where the next line begins.
 use Rattle.std.proofs.Common.{◌≡◌, ◌+◌, ◌++◌, ap, subst, ◌∙◌, arith, length, cond, Some, None}
 use Rattle.std.specs.Prelude.{OnOk, IfOk, Result, Ok, Err}
 use Rattle.std.specs.declared.alloc.AllocError.{AllocError}

@@ -1,3 +1,4 @@
+-- The text goes on behind a line, or stops there.
 use Rattle.std.proofs.Common.{◌≡◌, ap, sym, subst, ◌+◌, ◌≤◌, ◌∙◌, arith, length, drop, Some}
 use Rattle.free_scan.specs.declared.scanner.Outcome.TheVariants.{Goes as GoesOn, Stops as StopsThere}
 use Rattle.free_scan.specs.Lexemes.{Reading, with_tokens}

@@ -1,3 +1,4 @@
+-- The parentheses open behind all tokens are those behind the tokens left, and no more than one a token.
 use Rattle.std.proofs.Common.{◌≡◌, ◌+◌, ◌≤◌, drop}
 use Rattle.free_scan.specs.Tokens.{open_after_all}
 use Rattle.free_scan.proofs.scanner.open_after_all.Given as goal

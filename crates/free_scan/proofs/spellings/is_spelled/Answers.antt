@@ -1,3 +1,4 @@
+-- Characters that end too early do not spell it.
 use Rattle.std.proofs.Common.{arith}
 use Rattle.std.proofs.lemmas.Grind.{common_steps}
 use Rattle.free_scan.proofs.StepLemmas.{is_spelled-short}

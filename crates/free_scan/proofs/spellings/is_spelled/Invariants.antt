@@ -1,3 +1,4 @@
+-- What is passed of the spelling stands there.
 use Rattle.std.proofs.Common.{◌≡◌, ◌≤◌, length, drop}
 use Rattle.free_scan.specs.Spellings.{is_spelled}
 use Rattle.free_scan.proofs.spellings.is_spelled.Given as goal

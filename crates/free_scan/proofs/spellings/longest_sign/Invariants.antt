@@ -1,3 +1,4 @@
+-- No spelling before is at the front of the characters.
 use Rattle.std.proofs.Common.{◌≡◌, drop}
 use Rattle.std.specs.Prelude.{map}
 use Rattle.free_scan.specs.Spellings.{longest_sign, spellings}

@@ -1,3 +1,4 @@
+-- Why `finish` keeps its clauses: each turn takes an item off the stack.
 use Rattle.std.proofs.Common.{◌≡◌, ◌∷◌, [], length, drop, arith, ap, refl}
 use Rattle.grammar.specs.Stack.{item, items, innermost, below, outer_shares}
 use Rattle.grammar.proofs.ListLemmas.{nil_of, some_of, none_of}

@@ -1,3 +1,4 @@
+-- The stack comes from the first one without a token; each turn takes an item away.
 use Rattle.std.proofs.Common.{length}
 use Rattle.grammar.specs.Stack.{items}
 use Rattle.grammar.proofs.RunLemmas.{ComesTo}

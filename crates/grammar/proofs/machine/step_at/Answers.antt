@@ -1,3 +1,4 @@
+-- One step of the machine, by the item on top of its stack.
 use Rattle.std.proofs.Common.{◌≡◌, ◌∷◌, [], ap, ◌∙◌, sym, subst, refl, drop, arith, None, Some, rules}
 use Rattle.grammar.specs.declared.language.Symbol.TheVariants.{Terminal, Nonterminal}
 use Rattle.grammar.specs.Descent.{left, behind, with_value, whole, Linked}

@@ -1,3 +1,4 @@
+-- No turn before the first, and each turn is a step.
 use Rattle.std.proofs.Common.{subst}
 use Rattle.grammar.specs.Stack.{items, Stepped, StaysLinked}
 use Rattle.grammar.proofs.RunLemmas.{turns_none, turns_then, turns_take, turns_refuse}

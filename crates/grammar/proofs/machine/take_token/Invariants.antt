@@ -1,3 +1,4 @@
+-- The turns so far lead from the first stack to this one, which stays linked.
 use Rattle.grammar.specs.Descent.{Turns, Linked}
 use Rattle.grammar.specs.Stack.{items, distance}
 use Rattle.grammar.proofs.machine.take_token.Given as goal

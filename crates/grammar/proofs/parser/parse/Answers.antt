@@ -1,3 +1,4 @@
+-- The stack before the first token, behind each one, and behind the last.
 use Rattle.std.proofs.Common.{◌≡◌, ◌∷◌, [], ap, ◌∙◌, sym, subst, length, arith}
 use Rattle.std.specs.Prelude.{MatchBool}
 use Rattle.grammar.specs.declared.language.Event.TheVariants.{Open}

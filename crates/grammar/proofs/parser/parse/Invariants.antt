@@ -1,3 +1,4 @@
+-- The stack is the one that the tokens before lead to.
 use Rattle.std.proofs.Common.{take}
 use Rattle.grammar.specs.Stack.{items}
 use Rattle.grammar.proofs.RunLemmas.{Reached}

@@ -1,3 +1,4 @@
+-- The values of the innermost production are the last ones in the list.
 use Rattle.std.proofs.Common.{◌≡◌, length, take, arith}
 use Rattle.std.proofs.lemmas.List.{length-take}
 use Rattle.grammar.specs.Stack.{held}

@@ -1,3 +1,4 @@
+-- A production that is done gives its value to the one around it.
 use Rattle.std.proofs.Common.{ap, ◌∙◌, ◌∷◌, drop}
 use Rattle.grammar.specs.Descent.{with_value, whole}
 use Rattle.grammar.specs.Stack.{item, innermost, below, outer_shares}

@@ -1,3 +1,4 @@
+-- The value is built from the parts of the innermost production.
 use Rattle.std.proofs.Common.{ap, ◌∙◌}
 use Rattle.grammar.proofs.StackLemmas.{split_parts, split_rest}
 use Rattle.grammar.proofs.stack.make.Goals as goal

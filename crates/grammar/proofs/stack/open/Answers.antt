@@ -1,3 +1,4 @@
+-- A production that begins has no value yet, and shares none of those in the list.
 use Rattle.std.proofs.Common.{ap, ◌∙◌, ◌∷◌, []}
 use Rattle.grammar.specs.Descent.{opened}
 use Rattle.grammar.specs.Stack.{piled, held, shares}

@@ -1,3 +1,4 @@
+-- A value more is the innermost production's.
 use Rattle.std.proofs.Common.{◌≡◌, suc, ap, ◌∙◌, ◌∷◌, []}
 use Rattle.grammar.specs.Stack.{piled, held, shares}
 use Rattle.grammar.proofs.ListLemmas.{piled-append}

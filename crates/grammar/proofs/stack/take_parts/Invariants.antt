@@ -1,3 +1,4 @@
+-- The values taken so far and those left are all values, in their order.
 use Rattle.std.proofs.Common.{reverse}
 use Rattle.grammar.specs.Stack.{IsSplit}
 use Rattle.grammar.proofs.stack.take_parts.Given as goal

@@ -1,3 +1,4 @@
+-- The text of one value more is put behind the text so far.
 use Rattle.std.proofs.Common.{◌≡◌, ◌+◌, [], ◌∷◌, ◌++◌, ap, ◌∙◌, sym, take, add-one, append_assoc}
 use Rattle.std.proofs.Math.Seq.{take-suc}
 use Rattle.grammar.specs.Stack.{piled}

@@ -1,3 +1,4 @@
+-- The text is the one at the beginning with the texts of the values before.
 use Rattle.std.proofs.Common.{◌≡◌, ◌++◌, [], take}
 use Rattle.grammar.specs.Stack.{piled}
 use Rattle.grammar_example.specs.Outline.{text_of, joined}

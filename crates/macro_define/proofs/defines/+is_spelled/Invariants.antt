@@ -1,3 +1,4 @@
+-- The word gets shorter.
 use Rattle.std.proofs.Common.{length}
 use Rattle.macro_define.proofs.defines.+is_spelled.Given as goal
 

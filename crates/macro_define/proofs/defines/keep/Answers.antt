@@ -1,3 +1,4 @@
+-- The table with the definition is the old one with the name and its text.
 use Rattle.std.proofs.Common.{ap, ◌∙◌, map}
 use Rattle.macro_define.proofs.TableLemmas.{table-insert}
 use Rattle.macro_define.proofs.defines.keep.Goals as goal

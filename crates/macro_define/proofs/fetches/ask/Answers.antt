@@ -1,3 +1,4 @@
+-- The library is asked for each name but the empty one.
 use Rattle.std.proofs.Common.{◌≡◌, subst, rules, ◌==◌, false, true, length, ◌∷◌, List, ℕ, []}
 use Rattle.std.specs.Prelude.{IfSome}
 use Rattle.ports.specs.Held.{fetched}

@@ -1,3 +1,4 @@
+-- Why `fetch_file` keeps its clauses.
 use Rattle.std.proofs.Common.{subst, Ok, Err, None, Some, ℕ, List}
 use Rattle.std.specs.Prelude.{Option, Vec}
 use Rattle.std.specs.declared.alloc.Global.{Global}

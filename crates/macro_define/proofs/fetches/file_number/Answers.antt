@@ -1,3 +1,4 @@
+-- The number of a file is its place among those that were noted, or the next one.
 use Rattle.std.proofs.Common.{ap, sym, ◌∙◌, min}
 use Rattle.std.specs.Option.{option_map_or}
 use Rattle.std.specs.Str.{bytes_eq}

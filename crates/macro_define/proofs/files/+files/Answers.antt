@@ -1,3 +1,4 @@
+-- Why `add_include`, `add_part` and `add_file` keep their clauses.
 use Rattle.std.proofs.Common.{◌≡◌, ◌==◌, ◌-◌, ◌≤◌, ℕ, List, [], ◌∷◌, length, refl, sym, ◌∙◌, ap, subst, arith, Ok, Err, rules, nat_lt, false, true}
 use Rattle.std.specs.Prelude.{Result}
 use Rattle.ground.specs.declared.token.Token.{Token}

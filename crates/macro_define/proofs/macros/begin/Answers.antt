@@ -1,3 +1,4 @@
+-- A macro that is in use already, one too many in use, and one that begins.
 use Rattle.std.proofs.Common.{◌≡◌, ◌==◌, false, sym, ◌∙◌, ap, [], ◌++◌, ◌∷◌, Ok, rules}
 use Rattle.std.specs.List.{list_any}
 use Rattle.macro_define.specs.Made.{counted, made}

@@ -1,3 +1,4 @@
+-- What is made of the next token.
 use Rattle.std.proofs.Common.{◌≡◌, sym, [], ◌++◌, ◌∷◌, ◌+◌, rules, subst, Result}
 use Rattle.ground.specs.declared.fault.Fault.{Fault}
 use Rattle.macro_define.specs.Made.{Goes, Made, made}

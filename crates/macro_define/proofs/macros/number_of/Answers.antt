@@ -1,3 +1,4 @@
+-- The number of a macro is the place of its entry.
 use Rattle.std.proofs.Common.{sym, ◌∙◌, map}
 use Rattle.std.specs.Str.{bytes_eq}
 use Rattle.macro_define.proofs.ListLemmas.{position-map}

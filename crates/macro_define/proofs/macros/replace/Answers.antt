@@ -1,3 +1,4 @@
+-- What is made in place of a word that a macro names.
 use Rattle.std.proofs.Common.{◌≡◌, sym, ◌∙◌, ap, [], ◌++◌, ◌∷◌, length, Ok, rules, List}
 use Rattle.macro_define.specs.declared.macros.Use.{Use}
 use Rattle.macro_define.specs.Made.{made}

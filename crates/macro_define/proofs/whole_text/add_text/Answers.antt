@@ -1,3 +1,4 @@
+-- A text that fails to come in, one too long, and one whose tokens are added.
 use Rattle.std.proofs.Common.{ℕ, List, subst, Ok, Err, false, true}
 use Rattle.macro_define.specs.Expansion.{fetched_file, file_made, include_made, text_made}
 use Rattle.macro_define.specs.Gathered.{Fetches, Gathers, world}

@@ -1,3 +1,4 @@
+-- The tokens of the whole text, or its first fault.
 use Rattle.std.proofs.Common.{◌≡◌, refl, Ok, Err, []}
 use Rattle.macro_define.specs.declared.whole_text.Gathered.{Gathered}
 use Rattle.macro_define.specs.Answers.{knows}

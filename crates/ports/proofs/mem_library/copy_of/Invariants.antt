@@ -1,3 +1,4 @@
+-- No entry before has this name.
 use Rattle.std.proofs.Common.{◌≡◌, drop}
 use Rattle.ports.specs.Held.{held_bytes, texts_of}
 use Rattle.ports.proofs.mem_library.copy_of.Given as goal

@@ -1,3 +1,4 @@
+-- The spelling gets shorter.
 use Rattle.std.proofs.Common.{length}
 use Rattle.rat_table.proofs.terminals.+is_spelled.Given as goal
 

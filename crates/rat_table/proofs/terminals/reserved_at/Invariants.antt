@@ -1,3 +1,4 @@
+-- No spelling before is this word.
 use Rattle.std.proofs.Common.{◌≡◌, drop}
 use Rattle.std.specs.Prelude.{map}
 use Rattle.rat_table.specs.Words.{reserved, terminal_in}
