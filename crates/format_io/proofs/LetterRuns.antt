@@ -93,19 +93,21 @@ field_grows (suc n) line =
     ∙ ap (λ v. get_or line 0 32 ∷ (field n (drop 1 line) ++ v ∷ [])) (get_next line n)
     ∙ sym (ap (λ v. v ++ get_or line (suc n) 32 ∷ []) (field_next n line))
 
+-- the next one takes another content
+pub seam_set : {A : Type 0} (xs old : List A) (i : ℕ) (x d : A) → length xs ≡ i → i < length old → set (xs ++ drop i old) i x ≡ (xs ++ x ∷ []) ++ drop (i + 1) old
+seam_set xs old i x d n lt =
+    let behind = drop (suc i) old in
+    ap (λ v. set (xs ++ v) i x) (drop-cons old i d lt)
+    ∙ ap (λ v. set (xs ++ get_or old i d ∷ behind) v x) (sym n)
+    ∙ set-append_seam xs (get_or old i d) behind x
+    ∙ sym (append_assoc xs (x ∷ []) behind)
+    ∙ ap (λ v. (xs ++ x ∷ []) ++ drop v old) (let e : suc i ≡ i + 1 = omega arith in e)
+
 -- the next cell takes a character
 pub cell_set : (cs : List ℕ) (cells : List (Option Value)) (i c : ℕ) → length cs ≡ i → i < length cells
     → set (map cell_of cs ++ drop i cells) i (cell_of c) ≡ map cell_of (cs ++ c ∷ []) ++ drop (i + 1) cells
 cell_set cs cells i c n lt =
-    let xs : List (Option Value) = map cell_of cs in
-    let behind : List (Option Value) = drop (suc i) cells in
-    let here : length xs ≡ i = length-map cs cell_of ∙ n in
-    ap (λ v. set (xs ++ v) i (cell_of c)) (drop-cons cells i None lt)
-    ∙ ap (λ v. set (xs ++ get_or cells i None ∷ behind) v (cell_of c)) (sym here)
-    ∙ set-append_seam xs (get_or cells i None) behind (cell_of c)
-    ∙ sym (append_assoc xs (cell_of c ∷ []) behind)
-    ∙ ap (λ v. v ++ behind) (sym (map-append cell_of cs (c ∷ [])))
-    ∙ ap (λ v. map cell_of (cs ++ c ∷ []) ++ drop v cells) (let e : suc i ≡ i + 1 = omega arith in e)
+    seam_set (map cell_of cs) cells i (cell_of c) None (length-map cs cell_of ∙ n) lt ∙ ap (λ v. v ++ drop (i + 1) cells) (sym (map-append cell_of cs (c ∷ [])))
 
 drop_next : (n : ℕ) (line : List ℕ) → drop n (drop 1 line) ≡ drop (suc n) line
 drop_next zero line = refl

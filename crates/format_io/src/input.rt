@@ -26,6 +26,16 @@ fn with_sign(negative: bool, n: u32) -> i64
     if negative { -(n as i64) } else { n as i64 }
 }
 
+/// The character at a column of a record, which is extended by blanks.
+fn column(line: &[u8], i: usize) -> u8
+    ensures { result ≡ get_or line.now i 32 }
+{
+    match line.get(i) {
+        Some(byte) => *byte,
+        None => b' ',
+    }
+}
+
 /// The record at the front of a buffer.
 fn copy_into(buffer: &mut [u8], bytes: &[u8])
     requires { length bytes.now ≤ length buffer.old }
@@ -100,16 +110,11 @@ impl Input {
         }
     }
 
-    /// The character at a column, where the record is extended by blanks.
+    /// The character at a column.
     fn at(&self, i: usize) -> u8
-        requires { i ≤ 65535 }
         ensures { result ≡ get_or self.now i 32 }
     {
-        if i < self.end - self.first {
-            self.bytes[self.first + i]
-        } else {
-            b' '
-        }
+        column(self.as_slice(), i)
     }
 
     /// The first column of a field that isn't blank.
@@ -201,12 +206,12 @@ impl Input {
 
     /// The next characters come into these cells, as many as are letters. How many.
     pub fn letters(&self, cells: &mut [Option<Value>]) -> usize
-        requires { length cells.old ≤ 65535 }
         ensures within { result ≤ length cells.old }
         ensures came { (cs : List ℕ) × All IsLetter cs × (cs ≡ field result self.now) × (cells.new ≡ map cell_of cs ++ drop result cells.old) }
     {
+        let line = self.as_slice();
         for i in 0..cells.len() {
-            let code = self.at(i);
+            let code = column(line, i);
             if code < 32 || code > 126 {
                 return i;
             }

@@ -1,5 +1,5 @@
 // The record in hand of a WRITE: at most 132 characters, and what edits put at its end.
-ghost use Rattle.std.specs.Prelude.{◌≡◌, ℕ, ◌+◌, ◌<◌, ◌≤◌, List, [], ◌∷◌, ◌++◌, length, take, map, replicate, nat_le, All, IfSome};
+ghost use Rattle.std.specs.Prelude.{◌≡◌, ℕ, ◌+◌, ◌<◌, ◌≤◌, List, [], ◌∷◌, ◌++◌, length, take, drop, map, replicate, nat_le, All, IfSome};
 ghost use Rattle.f66_tree.specs.Fielded.{whole_text, truth_text};
 ghost use Rattle.f66_tree.specs.Turns.{extended, with_letter};
 ghost use Rattle.format_io.specs.Answers.{Writes};
@@ -17,6 +17,23 @@ fn letter_in(cell: &Option<Value>) -> Option<u8>
         Some(Value::Int(code)) if 32 <= *code && *code <= 126 => Some(*code as u8),
         _ => None,
     }
+}
+
+/// The characters of the first of these cells come to the first of these bytes, as many as hold codes of characters and
+/// have room. How many.
+fn letters_into(bytes: &mut [u8], cells: &[Option<Value>]) -> usize
+    ensures within { result ≤ length cells.now }
+    ensures room { length bytes.new ≡ length bytes.old }
+    ensures letters { (cs : List ℕ) × All IsLetter cs × (take result cells.now ≡ map cell_of cs) × (bytes.new ≡ cs ++ drop result bytes.old) }
+{
+    let most = cells.len().min(bytes.len());
+    for i in 0..most {
+        let Some(byte) = letter_in(&cells[i]) else {
+            return i;
+        };
+        bytes[i] = byte;
+    }
+    most
 }
 
 /// At most 132 characters.
@@ -153,16 +170,9 @@ impl Output {
         ensures room { 0 < result → length self.new ≤ 132 }
         ensures pushed { (cs : List ℕ) × All IsLetter cs × (take result cells.now ≡ map cell_of cs) × (self.new ≡ self.old ++ cs) }
     {
-        for i in 0..cells.len() {
-            let Some(byte) = letter_in(&cells[i]) else {
-                return i;
-            };
-            if !self.has_room(1) {
-                return i;
-            }
-            self.push(byte);
-        }
-        cells.len()
+        let count = letters_into(&mut self.bytes[self.len..], cells);
+        self.len += count;
+        count
     }
 
     /// The character of a code.

@@ -1,6 +1,7 @@
 -- What names are declared to be, by the tables of a unit.
 use Rattle.std.proofs.Common.{◌≡◌, ℕ, Bool, true, false, ◌&&◌, nat_le, List, [], ◌∷◌, Option, Some, None, refl, sym, ◌∙◌, ap, if◌then◌else◌}
 use Rattle.std.proofs.lemmas.Bool.{and_parts}
+use Rattle.std.proofs.lemmas.Slice.Eq.{bytes_eq-Decides}
 use Rattle.std.specs.Option.{option_or}
 use Rattle.std.specs.Str.{bytes_eq}
 use Rattle.std.specs.HashMap.{HashMap, get_by}
@@ -8,10 +9,10 @@ use Rattle.std.specs.Borrow.{Bor}
 use Rattle.ground.specs.declared.value.Kind.TheVariants.{Integer as AnInteger}
 use Rattle.f66_tree.specs.declared.declaration.TypeWord.{TypeWord}
 use Rattle.f66_tree.specs.declared.declaration.TypeWord.TheVariants.{Integer, Other}
-use Rattle.f66_tree.specs.declared.declaration.Par as memory
 use Rattle.f66_tree.specs.Forms.{Text, Par, Declared, Act, Types, Dimensions, Commons, Line}
 use Rattle.f66_tree.specs.Units.{Note, is_note, notes_of, kind_by, kind_of, by_letter, type_in, typed_by, lists, sizes_of, sizes_by as sizes_given, sizes_in, if_any}
-use Rattle.unit_walk.specs.Declarations.{in_main, type_by, first_type, some_sizes, first_sizes_in, sizes_by, first_sizes, sizes_under, kind_from, sizes_at, AreTypes, AreSizes}
+use Rattle.unit_walk.specs.Declarations.{in_main, type_by, first_type, some_sizes, first_sizes_in, sizes_by, first_sizes, sizes_under, kind_from, sizes_at, AreTypes, AreSizes, AreKinds}
+use Rattle.unit_walk.specs.declared.names.Shape.{Shape}
 use Rattle.unit_walk.specs.Walked.{are_dimensions, are_declared, is_walked, are_walked}
 
 -- ---- types ----
@@ -85,12 +86,32 @@ first_from x (s ∷ notes) none = from_or (sizes_by x s.act) (first_sizes x note
     by_act (Commons areas) is others = cc is
     by_act _ is others = refl
 
-at_under : (o : Option (Bor (List memory.Par))) → sizes_at o ≡ sizes_from (sizes_under o) []
+at_under : (o : Option Shape) → sizes_at o ≡ sizes_from (sizes_under o) []
 at_under None = refl
-at_under (Some s) = refl
+at_under (Some a) = refl
 
-pub sizes_named : {S : Type 0} (notes : List Note) (sizes : HashMap (Bor (List ℕ)) (Bor (List memory.Par)) S) → NoCommons notes → AreSizes notes sizes → (x : Text) → sizes_at (get_by (λ k. bytes_eq x k.now) sizes) ≡ sizes_of x notes
+pub sizes_named : {S : Type 0} (notes : List Note) (sizes : HashMap (Bor (List ℕ)) Shape S) → NoCommons notes → AreSizes notes sizes → (x : Text) → sizes_at (get_by (λ k. bytes_eq x k.now) sizes) ≡ sizes_of x notes
 sizes_named notes sizes none are x = at_under (get_by (λ k. bytes_eq x k.now) sizes) ∙ ap (λ u. sizes_from u []) (are x) ∙ first_from x notes none
+
+-- the type of an array is the one that its name is declared with
+pub array_kinds : {S T : Type 0} (notes : List Note) (types : HashMap (Bor (List ℕ)) TypeWord S) (arrays : HashMap (Bor (List ℕ)) Shape T) → AreTypes notes types → AreKinds types arrays
+    → (x : Text) (a : Shape) → get_by (λ k. bytes_eq x k.now) arrays ≡ Some a → a.kind ≡ kind_of (in_main notes) x
+array_kinds notes types arrays are kinds x a found = kinds x a found ∙ kinds_named notes types are x
+
+-- one array more, under a name that was not there, has the type of its name
+pub kinds_noted : {S T : Type 0} (types : HashMap (Bor (List ℕ)) TypeWord S) (old new : HashMap (Bor (List ℕ)) Shape T) (x : Text) (a : Shape)
+    → ((q : Text) → get_by (λ k. bytes_eq q k.now) new ≡ option_or (get_by (λ k. bytes_eq q k.now) old) (if bytes_eq q x then Some a else None))
+    → a.kind ≡ kind_from (get_by (λ k. bytes_eq x k.now) types) → AreKinds types old → AreKinds types new
+kinds_noted types old new x a noted kind before q b found = by_old (get_by (λ k. bytes_eq q k.now) old) refl (bytes_eq q x) refl (sym (noted q) ∙ found)
+  where
+    by_old : (o : Option Shape) → get_by (λ k. bytes_eq q k.now) old ≡ o → (t : Bool) → bytes_eq q x ≡ t → option_or o (if t then Some a else None) ≡ Some b
+        → b.kind ≡ kind_from (get_by (λ k. bytes_eq q k.now) types)
+    by_old (Some d) there t same is = before q b (there ∙ is)
+    by_old None there true same is =
+        let here : q ≡ x = (bytes_eq-Decides q x).0 same in
+        let b_is : a ≡ b = cc is in
+        ap (λ s. s.kind) (sym b_is) ∙ kind ∙ ap (λ y. kind_from (get_by (λ k. bytes_eq y k.now) types)) (sym here)
+    by_old None there false same is = cc is
 
 pub no_commons : (notes : List Note) (lines : List Line) → are_walked notes lines ≡ true → NoCommons (notes_of lines)
 no_commons notes [] walked = tt

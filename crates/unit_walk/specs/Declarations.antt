@@ -7,11 +7,11 @@ use Rattle.std.specs.Borrow.{Bor}
 use Rattle.ground.specs.declared.value.Kind.{Kind}
 use Rattle.ground.specs.declared.value.Kind.TheVariants.{Integer}
 use Rattle.f66_tree.specs.declared.declaration.TypeWord.{TypeWord}
-use Rattle.f66_tree.specs.declared.declaration.Par as memory
 use Rattle.f66_tree.specs.Forms.{Text, Par, Declared, MainUnit, Act, Types, Dimensions, Line}
 use Rattle.f66_tree.specs.Units.{Note, Context, notes_of, lists, kind_by, kind_of, sizes_of}
 use Rattle.f66_tree.specs.Views.{par_of}
 use Rattle.unit_walk.specs.declared.names.Names.{Names}
+use Rattle.unit_walk.specs.declared.names.Shape.{Shape}
 
 abbrev pub in_main : List Note → Context
 in_main notes = record { header = MainUnit; notes = notes }
@@ -51,12 +51,12 @@ abbrev pub first_sizes : Text → List Note → Option (List Par)
 first_sizes x [] = None
 first_sizes x (s ∷ notes) = option_or (sizes_by x s.act) (first_sizes x notes)
 
-abbrev pub sizes_under : Option (Bor (List memory.Par)) → Option (List Par)
+abbrev pub sizes_under : Option Shape → Option (List Par)
 sizes_under None = None
-sizes_under (Some s) = Some (map par_of s.now)
+sizes_under (Some a) = Some (map par_of a.sizes.now)
 
-abbrev pub AreSizes : {S : Type 0} → List Note → HashMap (Bor (List ℕ)) (Bor (List memory.Par)) S → Type 0
-AreSizes notes sizes = (x : Text) → sizes_under (get_by (λ k. bytes_eq x k.now) sizes) ≡ first_sizes x notes
+abbrev pub AreSizes : {S : Type 0} → List Note → HashMap (Bor (List ℕ)) Shape S → Type 0
+AreSizes notes arrays = (x : Text) → sizes_under (get_by (λ k. bytes_eq x k.now) arrays) ≡ first_sizes x notes
 
 -- ---- both, as the definition has them ----
 
@@ -64,10 +64,15 @@ abbrev pub kind_from : Option TypeWord → Kind
 kind_from None = Integer
 kind_from (Some t) = kind_by t
 
-abbrev pub sizes_at : Option (Bor (List memory.Par)) → List Par
+abbrev pub sizes_at : Option Shape → List Par
 sizes_at None = []
-sizes_at (Some s) = map par_of s.now
+sizes_at (Some a) = map par_of a.sizes.now
+
+-- each array has the type that its name has by these
+abbrev pub AreKinds : {S T : Type 0} → HashMap (Bor (List ℕ)) TypeWord S → HashMap (Bor (List ℕ)) Shape T → Type 0
+AreKinds types arrays = (x : Text) (a : Shape) → get_by (λ k. bytes_eq x k.now) arrays ≡ Some a → a.kind ≡ kind_from (get_by (λ k. bytes_eq x k.now) types)
 
 pub record AreNames (notes : List Note) (names : Names) : Type 0 where
   pub types : (x : Text) → kind_from (get_by (λ k. bytes_eq x k.now) names.types) ≡ kind_of (in_main notes) x
-  pub sizes : (x : Text) → sizes_at (get_by (λ k. bytes_eq x k.now) names.sizes) ≡ sizes_of x notes
+  pub sizes : (x : Text) → sizes_at (get_by (λ k. bytes_eq x k.now) names.arrays) ≡ sizes_of x notes
+  pub kinds : (x : Text) (a : Shape) → get_by (λ k. bytes_eq x k.now) names.arrays ≡ Some a → a.kind ≡ kind_of (in_main notes) x

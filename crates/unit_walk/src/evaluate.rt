@@ -68,12 +68,12 @@ fn applied(plan: &Plan<'_>, places: &Places<'_>, name: &Name, list: &[Expr]) -> 
     ensures is { result ≡ value (context_of (lines_of plan.now.code.now)) (values_in places.now.cells) (Applied name.now (formulas_of list.now)) }
     ensures range { IfOk result IsSmall }
 {
-    let sizes = plan.names.sizes_of(name);
-    if sizes.is_empty() {
+    let shape = plan.names.shape_of(name);
+    if shape.sizes.is_empty() {
         refer(plan, places, name, list)
     } else {
-        let offset = element(plan, places, sizes, list)?;
-        places.load(plan.names.kind_of(name), name, offset)
+        let offset = element(plan, places, shape.sizes, list)?;
+        places.load(shape.kind, name, offset)
     }
 }
 

@@ -198,11 +198,13 @@ fn named<'a>(
     ensures goes { IfOk result (λ done. Goes (lines_of plan.now.code.now) plan.now.limit editing.now.format.now (λ s w. item_of s (main_at editing.now.place) editing.now.way (Variable name.now) w) run.old done run.new) }
     ensures kept { IfOk result (λ done. Kept (lines_of plan.now.code.now) plan.now.limit editing.now.way run.old done run.new) }
 {
-    let sizes = plan.names.sizes_of(name);
-    if sizes.is_empty() {
-        content(alloc, plan, run, editing, Target { name, offset: 0 })
+    let shape = plan.names.shape_of(name);
+    if shape.sizes.is_empty() {
+        let target = Target { name, offset: 0 };
+        content(alloc, plan, run, editing, shape.kind, target)
     } else {
-        row(alloc, plan, run, editing, name, places_of(sizes))
+        let places = places_of(shape.sizes);
+        row(alloc, plan, run, editing, shape.kind, name, places)
     }
 }
 
@@ -222,7 +224,10 @@ fn element<'a>(
     ensures kept { IfOk result (λ done. Kept (lines_of plan.now.code.now) plan.now.limit editing.now.way run.old done run.new) }
 {
     match target_of(plan, &run.places, e) {
-        Ok(target) => content(alloc, plan, run, editing, target),
+        Ok(target) => {
+            let kind = plan.names.kind_of(target.name);
+            content(alloc, plan, run, editing, kind, target)
+        }
         Err(stuck) => Ok(Err(end_by(stuck, editing.place))),
     }
 }
@@ -233,16 +238,17 @@ fn row<'a>(
     plan: &Plan<'a>,
     run: &mut Run<'a>,
     editing: &Editing<'_>,
+    kind: Kind,
     name: &'a Name,
     places: usize,
 ) -> Result<Result<(), Halt>, AllocError>
+    requires kind { kind ≡ kind_of (context_of (lines_of plan.now.code.now)) name.now }
     requires places { places ≡ places_in (sizes_in name.now (notes_of (lines_of plan.now.code.now))) }
     requires plan { IsPlan plan.now }
     requires ready { Ready (lines_of plan.now.code.now) plan.now.limit editing.now.way run.old }
     ensures goes { IfOk result (λ done. Goes (lines_of plan.now.code.now) plan.now.limit editing.now.format.now (λ s w. row_of s (main_at editing.now.place) editing.now.way (kind_of (context_of (lines_of plan.now.code.now)) name.now) (Held 0 name.now 0) places 0 w) run.old done run.new) }
     ensures kept { IfOk result (λ done. Kept (lines_of plan.now.code.now) plan.now.limit editing.now.way run.old done run.new) }
 {
-    let kind = plan.names.kind_of(name);
     let mut offset = 0;
     while offset < places {
         match some(alloc, plan, run, editing, kind, name, offset, places)? {
@@ -277,7 +283,8 @@ fn some<'a>(
     if count > 0 {
         return Ok(Ok(count));
     }
-    match content(alloc, plan, run, editing, Target { name, offset: from })? {
+    let target = Target { name, offset: from };
+    match content(alloc, plan, run, editing, kind, target)? {
         Ok(()) => Ok(Ok(1)),
         Err(halt) => Ok(Err(halt)),
     }
@@ -324,14 +331,15 @@ fn content<'a>(
     plan: &Plan<'a>,
     run: &mut Run<'a>,
     editing: &Editing<'_>,
+    kind: Kind,
     target: Target<'a>,
 ) -> Result<Result<(), Halt>, AllocError>
+    requires kind { kind ≡ kind_of (context_of (lines_of plan.now.code.now)) target.name.now }
     requires plan { IsPlan plan.now }
     requires ready { Ready (lines_of plan.now.code.now) plan.now.limit editing.now.way run.old }
     ensures goes { IfOk result (λ done. Goes (lines_of plan.now.code.now) plan.now.limit editing.now.format.now (λ s w. edited s (main_at editing.now.place) editing.now.way (kind_of (context_of (lines_of plan.now.code.now)) target.entry.name.now) (Held 0 target.entry.name.now target.entry.offset) w) run.old done run.new) }
     ensures kept { IfOk result (λ done. Kept (lines_of plan.now.code.now) plan.now.limit editing.now.way run.old done run.new) }
 {
-    let kind = plan.names.kind_of(target.name);
     match run.tape.due(editing.format, kind)? {
         Ok(()) => match editing.way {
             Way::Reading => received(alloc, plan, run, editing, target),

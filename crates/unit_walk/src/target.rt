@@ -57,10 +57,10 @@ fn element_of(
     requires range { AllInRange (values_in places.now.cells) }
     ensures { result ≡ element_in (context_of (lines_of plan.now.code.now)) (values_in places.now.cells) name.now (sort_of (context_of (lines_of plan.now.code.now)) name.now) (values_of (context_of (lines_of plan.now.code.now)) (values_in places.now.cells) (formulas_of list.now)) }
 {
-    let sizes = plan.names.sizes_of(name);
-    if sizes.is_empty() {
+    let shape = plan.names.shape_of(name);
+    if shape.sizes.is_empty() {
         Err(Stuck::Wrong)
     } else {
-        element(plan, places, sizes, list)
+        element(plan, places, shape.sizes, list)
     }
 }

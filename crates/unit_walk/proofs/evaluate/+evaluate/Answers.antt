@@ -40,14 +40,14 @@ evaluate-returns-in-Item-clause-is t c =
 pub applied-element-requires : goal.applied-element-requires
 applied-element-requires t c =
     let notes : List Note = notes_of (lines_of c.args.plan.now.code.now) in
-    let same : map par_of c.sizes_of-sizes.result.now ≡ sizes_of c.args.name.now notes = c.sizes_of-sizes.ensures notes c.requires.plan.names in
-    let fit : are_dimensions (map par_of c.sizes_of-sizes.result.now) ≡ true = subst (λ (ns : List Par). are_dimensions ns ≡ true) (sym same) (sizes_fit notes (lines_of c.args.plan.now.code.now) c.requires.plan.walked c.args.name.now) in
-    let full : 0 < length c.sizes_of-sizes.result.now = search rules in
-    let count : is_count (array_or (map par_of c.sizes_of-sizes.result.now) c.args.name.now) (formulas_of c.args.list.now) ≡ true =
+    let same : map par_of c.shape_of-shape.result.sizes.now ≡ sizes_of c.args.name.now notes = c.shape_of-shape.ensures.sizes notes c.requires.plan.names in
+    let fit : are_dimensions (map par_of c.shape_of-shape.result.sizes.now) ≡ true = subst (λ (ns : List Par). are_dimensions ns ≡ true) (sym same) (sizes_fit notes (lines_of c.args.plan.now.code.now) c.requires.plan.walked c.args.name.now) in
+    let full : 0 < length c.shape_of-shape.result.sizes.now = search rules in
+    let count : is_count (array_or (map par_of c.shape_of-shape.result.sizes.now) c.args.name.now) (formulas_of c.args.list.now) ≡ true =
     subst (λ (ns : List Par). is_count (array_or ns c.args.name.now) (formulas_of c.args.list.now) ≡ true) (sym same)
     (and_parts (is_count (array_or (sizes_of c.args.name.now notes) c.args.name.now) (formulas_of c.args.list.now)) (are_formulas notes (formulas_of c.args.list.now)) c.requires.walked).0 in
-    let fits : Fits c.sizes_of-sizes.result.now = dimensions_fit c.sizes_of-sizes.result.now fit in
-    (search rules, (c.requires.plan, ((and_parts (is_count (array_or (sizes_of c.args.name.now notes) c.args.name.now) (formulas_of c.args.list.now)) (are_formulas notes (formulas_of c.args.list.now)) c.requires.walked).1, (few_length c.args.list.now (array_few c.sizes_of-sizes.result.now c.args.name.now (formulas_of c.args.list.now) full count), (fits.pars, (fits.few, (fits.places, c.requires.range)))))))
+    let fits : Fits c.shape_of-shape.result.sizes.now = dimensions_fit c.shape_of-shape.result.sizes.now fit in
+    (search rules, (c.requires.plan, ((and_parts (is_count (array_or (sizes_of c.args.name.now notes) c.args.name.now) (formulas_of c.args.list.now)) (are_formulas notes (formulas_of c.args.list.now)) c.requires.walked).1, (few_length c.args.list.now (array_few c.shape_of-shape.result.sizes.now c.args.name.now (formulas_of c.args.list.now) full count), (fits.pars, (fits.few, (fits.places, c.requires.range)))))))
 
 pub refer-arguments-requires : goal.refer-arguments-requires
 refer-arguments-requires t c =

@@ -8,7 +8,7 @@ use Rattle.f66_tree.specs.declared.editing.Way.{Way}
 use Rattle.f66_tree.specs.declared.editing.Way.TheVariants.{Reading, Writing}
 use Rattle.f66_tree.specs.Fields.{Fields}
 use Rattle.f66_tree.specs.Forms.{Line}
-use Rattle.f66_tree.specs.Units.{Held, notes_of, kind_of}
+use Rattle.f66_tree.specs.Units.{Held, kind_of}
 use Rattle.f66_tree.specs.Records.{due}
 use Rattle.f66_tree.specs.Statements.{taped, transfer, edited}
 use Rattle.f66_tree.specs.Views.{lines_of}
@@ -42,8 +42,8 @@ returns-in-Reading-clause-goes c =
     let run : Run = c.args.run.now in
     let mid : Run = record { places = run.places; passes = run.passes; tape = c.due.new.self; begun = run.begun } in
     let k : Kind = kind_of (context_of code) x in
-    let kind : c.kind_of-kind.result ≡ k = c.kind_of-kind.ensures (notes_of code) c.requires.plan.names in
-    let is_due : Goes code limit fs (λ s w. taped p (due k) w) run (Ok tt) mid = due_goes code limit fs p run mid c.kind_of-kind.result k c.in_ok-due.field-0 (Ok tt) kind c.in-Ok.is c.in_ok-due.ensures.step refl refl in
+    let kind : c.args.kind ≡ k = c.requires.kind in
+    let is_due : Goes code limit fs (λ s w. taped p (due k) w) run (Ok tt) mid = due_goes code limit fs p run mid c.args.kind k c.in_ok-due.field-0 (Ok tt) kind c.in-Ok.is c.in_ok-due.ensures.step refl refl in
     if_ok _ _ c.received.result (λ done goes. subst (λ (way : Way). Goes code limit fs (λ s w. edited s (main_at p) way k (Held 0 x o) w) run done c.received.new.run) (sym c.in-Reading.is)
     (goes_then code limit fs (λ s w. taped p (due k) w) (λ s w. transfer s (main_at p) Reading k (Held 0 x o) w) run mid done c.received.new.run is_due goes)) c.received.ensures.goes
 
@@ -58,8 +58,8 @@ returns-in-Writing-clause-goes c =
     let run : Run = c.args.run.now in
     let mid : Run = record { places = run.places; passes = run.passes; tape = c.due.new.self; begun = run.begun } in
     let k : Kind = kind_of (context_of code) x in
-    let kind : c.kind_of-kind.result ≡ k = c.kind_of-kind.ensures (notes_of code) c.requires.plan.names in
-    let is_due : Goes code limit fs (λ s w. taped p (due k) w) run (Ok tt) mid = due_goes code limit fs p run mid c.kind_of-kind.result k c.in_ok-due.field-0 (Ok tt) kind c.in-Ok.is c.in_ok-due.ensures.step refl refl in
+    let kind : c.args.kind ≡ k = c.requires.kind in
+    let is_due : Goes code limit fs (λ s w. taped p (due k) w) run (Ok tt) mid = due_goes code limit fs p run mid c.args.kind k c.in_ok-due.field-0 (Ok tt) kind c.in-Ok.is c.in_ok-due.ensures.step refl refl in
     subst (λ (way : Way). Goes code limit fs (λ s w. edited s (main_at p) way k (Held 0 x o) w) run c.sent.result c.sent.new.run) (sym c.in-Writing.is)
     (goes_then code limit fs (λ s w. taped p (due k) w) (λ s w. transfer s (main_at p) Writing k (Held 0 x o) w) run mid c.sent.result c.sent.new.run is_due
     (subst (λ (j : Kind). Goes code limit fs (λ s w. transfer s (main_at p) Writing j (Held 0 x o) w) mid c.sent.result c.sent.new.run) kind c.sent.ensures.goes))
@@ -76,7 +76,7 @@ returns-in-Err-clause-goes c =
     let run : Run = c.args.run.now in
     let mid : Run = record { places = run.places; passes = run.passes; tape = c.due.new.self; begun = run.begun } in
     let k : Kind = kind_of (context_of code) x in
-    let kind : c.kind_of-kind.result ≡ k = c.kind_of-kind.ensures (notes_of code) c.requires.plan.names in
-    let is_due = due_goes code limit fs p run mid c.kind_of-kind.result k c.in_ok-due.field-0 (Err c.in-Err.trap) kind c.in-Err.is c.in_ok-due.ensures.step refl refl in
+    let kind : c.args.kind ≡ k = c.requires.kind in
+    let is_due = due_goes code limit fs p run mid c.args.kind k c.in_ok-due.field-0 (Err c.in-Err.trap) kind c.in-Err.is c.in_ok-due.ensures.step refl refl in
     subst (λ (h : Halt). Goes code limit fs (λ s w. edited s (main_at p) way k (Held 0 x o) w) run (Err h) mid) (sym c.stopped.ensures)
     (goes_no_further code limit fs (λ s w. taped p (due k) w) (λ s w. transfer s (main_at p) way k (Held 0 x o) w) run (end_of_stuck (stuck.Trapped c.in-Err.trap) p) mid is_due)
