@@ -4,7 +4,7 @@ use Rattle.f66_tree.specs.World.{Record}
 use Rattle.f66_tree.specs.Views.{lines_of}
 use Rattle.f66_tree.specs.OneUnit.{executed}
 use Rattle.f66_tree.specs.Agreement.{Agrees}
-use Rattle.rat_tree.specs.Commands.{Commands}
+use Rattle.rat_tree.specs.Syntax.{Commands}
 use Rattle.rat_lower.specs.OneUnit.{means}
 use Rattle.rat_front.specs.declared.compile.Compiled.{Compiled}
 use Rattle.eft_top.specs.declared.report.Report.{Report}

@@ -9,7 +9,7 @@ use Rattle.rat_front.specs.Verdict.{Verdict, Refuses, Accepts}
 use Rattle.rat_front.proofs.OneVerdict.{one_verdict}
 use Rattle.eft_top.specs.declared.status.Status.{Status}
 use Rattle.eft_top.specs.declared.status.Status.TheVariants.{SourceFault, LibraryFault, InputFault, OutputFault, Memory, Trapped as IsTrapped}
-use Rattle.rat_tree.specs.Commands.{Commands}
+use Rattle.rat_tree.specs.Syntax.{Commands}
 use Rattle.eft_top.specs.Words.{Command, Run}
 use Rattle.eft_top.specs.Input.{Got, is_too_long}
 use Rattle.eft_top.specs.Outcome.{Outcome, RunsIn, ComesOf, is_end_of_input, trap_status, IsOutcomeOf, IsOutcome, IfAsked, status_of, end_status}

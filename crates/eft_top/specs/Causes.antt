@@ -6,7 +6,7 @@ use Rattle.eft_top.specs.declared.status.Status.TheVariants.{Done, Usage, Source
 use Rattle.eft_top.specs.Lines.{usage_line, library_fault_line, memory_line, output_fault_line, input_too_long_line}
 use Rattle.eft_top.specs.Input.{Got}
 use Rattle.eft_top.specs.Words.{Command}
-use Rattle.eft_top.specs.Outcome.{Outcome, status_of, out_of, line_of, IsOutcome}
+use Rattle.eft_top.specs.Outcome.{Outcome, status_of, out_of, diag_line, IsOutcome}
 
 abbrev pub IsOneOf : Status → List Status → Type 0
 IsOneOf status [] = ⊥
@@ -73,7 +73,7 @@ pub record IsShown (command : Option Command) (files : Option (List ℕ → Opti
   pub is : IsOutcome command files given outcome
   pub status : Some result ≡ status_of outcome
   pub on_out : out (out_of outcome)
-  pub on_diag : diag (line_of outcome)
+  pub on_diag : diag (diag_line outcome)
 
 abbrev pub IsLineOf : List ℕ → List (List ℕ) → Type 0
 IsLineOf line [] = ⊥
@@ -88,5 +88,5 @@ pub record ForOut (command : Option Command) (files : Option (List ℕ → Optio
 -- what diag was to get: a line that says all, or the line of an outcome; and P of it
 pub record ForDiag (command : Option Command) (files : Option (List ℕ → Option (List ℕ))) (given : Got → Type 0) (P : List ℕ → Type 0) : Type 0 where
   pub line : List ℕ
-  pub planned : IsLineOf line (output_fault_line ∷ usage_line ∷ library_fault_line ∷ memory_line ∷ []) ⊎ ((outcome : Outcome) × IsOutcome command files given outcome × (line ≡ line_of outcome))
+  pub planned : IsLineOf line (output_fault_line ∷ usage_line ∷ library_fault_line ∷ memory_line ∷ []) ⊎ ((outcome : Outcome) × IsOutcome command files given outcome × (line ≡ diag_line outcome))
   pub holds : P line

@@ -7,13 +7,13 @@ use Rattle.ground.specs.declared.trap.Trap.{Trap}
 use Rattle.ground.specs.declared.trap.Trap.TheVariants.{EndOfInput}
 use Rattle.ports.specs.Records.{output_bytes}
 use Rattle.f66_tree.specs.World.{Record, Shown, End, Ended, GoesOn, Lost, Done, Stopped, Trapped, Wrong}
-use Rattle.f66_tree.specs.Forms.{Line}
+use Rattle.f66_tree.specs.Syntax.{Line}
 use Rattle.f66_tree.specs.OneUnit.{executed}
 use Rattle.f66_tree.specs.Agreement.{Agrees}
-use Rattle.rat_tree.specs.Commands.{Commands}
+use Rattle.rat_tree.specs.Syntax.{Commands}
 use Rattle.rat_lower.specs.OneUnit.{means}
 use Rattle.macro_define.specs.Answers.{Known, Holds, IsOf}
-use Rattle.rat_front.specs.Verdict.{Verdict, Refuses, Accepts, Becomes, name_of}
+use Rattle.rat_front.specs.Verdict.{Verdict, Refuses, Accepts, Becomes, file_name}
 use Rattle.eft_top.specs.declared.status.Status.{Status}
 use Rattle.eft_top.specs.declared.status.Status.TheVariants.{SourceFault, Done as IsDone, Stopped as IsStopped, Trapped as IsTrapped, StepLimit, InputFault, InputTooLong}
 use Rattle.eft_top.specs.Lines.{fault_line, trap_line, stop_line, limit_line, input_fault_line, input_too_long_line}
@@ -81,7 +81,7 @@ end_status failed GoesOn = Some StepLimit
 end_status failed Lost = None
 
 abbrev pub trap_end_line : List (List ℕ) → Bool → Trap → Place → List ℕ
-trap_end_line files failed trap place = if failed && is_end_of_input trap then input_fault_line else trap_line trap (name_of files place.file) place.line
+trap_end_line files failed trap place = if failed && is_end_of_input trap then input_fault_line else trap_line trap (file_name files place.file) place.line
 
 abbrev pub end_line : List (List ℕ) → ℕ → Bool → End → List ℕ
 end_line files limit failed (Ended (Stopped n)) = stop_line n
@@ -100,7 +100,7 @@ out_of (HasFault fault file) = []
 out_of HasLongInput = []
 out_of (Runs files limit failed run) = output_bytes run.records
 
-abbrev pub line_of : Outcome → List ℕ
-line_of (HasFault fault file) = fault_line fault file
-line_of HasLongInput = input_too_long_line
-line_of (Runs files limit failed run) = end_line files limit failed run.end
+abbrev pub diag_line : Outcome → List ℕ
+diag_line (HasFault fault file) = fault_line fault file
+diag_line HasLongInput = input_too_long_line
+diag_line (Runs files limit failed run) = end_line files limit failed run.end

@@ -11,7 +11,7 @@ use Rattle.eft_top.specs.declared.report.Line.TheVariants.{Made, Fixed}
 use Rattle.eft_top.specs.declared.report.Report.{Report}
 use Rattle.eft_top.specs.Words.{Command}
 use Rattle.eft_top.specs.Input.{Got, is_too_long, records_of}
-use Rattle.eft_top.specs.Outcome.{Outcome, HasLongInput, Runs, status_of, out_of, line_of, IsOutcome}
+use Rattle.eft_top.specs.Outcome.{Outcome, HasLongInput, Runs, status_of, out_of, diag_line, IsOutcome}
 
 abbrev pub line_bytes : Line → List ℕ
 line_bytes (Made text) = text.items
@@ -21,10 +21,10 @@ line_bytes (Fixed text) = text.now
 pub record IsReport (report : Report) (outcome : Outcome) : Type 0 where
   pub status : Some report.status ≡ status_of outcome
   pub records : output_bytes report.records ≡ out_of outcome
-  pub line : line_bytes report.line ≡ line_of outcome
+  pub line : line_bytes report.line ≡ diag_line outcome
 
 -- it shows what came of a command
-pub record Tells (command : Command) (files : Option (List ℕ → Option (List ℕ))) (given : Got → Type 0) (report : Report) : Type 0 where
+pub record ReportsOutcome (command : Command) (files : Option (List ℕ → Option (List ℕ))) (given : Got → Type 0) (report : Report) : Type 0 where
   pub outcome : Outcome
   pub is : IsOutcome (Some command) files given outcome
   pub shows : IsReport report outcome

@@ -9,7 +9,7 @@ use Rattle.eft_top.specs.declared.status.Status.TheVariants.{Usage, LibraryFault
 use Rattle.eft_top.specs.Lines.{usage_line, library_fault_line, memory_line}
 use Rattle.eft_top.specs.Words.{Command}
 use Rattle.eft_top.specs.Input.{Got}
-use Rattle.eft_top.specs.Outcome.{Outcome, status_of, out_of, line_of, IsOutcome}
+use Rattle.eft_top.specs.Outcome.{Outcome, status_of, out_of, diag_line, IsOutcome}
 
 pub data Story : Type 0 where
   BadWords : Story
@@ -23,7 +23,7 @@ Came BadWords command files before now given status out line = (command ≡ None
 Came NotFetched command files before now given status out line = ((command ≡ None) → ⊥) × Rose before now × (status ≡ LibraryFault) × (out ≡ []) × (line ≡ library_fault_line)
 Came NoMemory command files before now given status out line = ((command ≡ None) → ⊥) × (status ≡ Memory) × (out ≡ []) × (line ≡ memory_line)
 Came (Shows outcome) command files before now given status out line =
-    IsOutcome command files given outcome × (now ≡ before) × (Some status ≡ status_of outcome) × (out ≡ out_of outcome) × (line ≡ line_of outcome)
+    IsOutcome command files given outcome × (now ≡ before) × (Some status ≡ status_of outcome) × (out ≡ out_of outcome) × (line ≡ diag_line outcome)
 
 -- a failed fetch has raised the count, and an answer leaves it
 abbrev pub Caused : {T : Type 0} → ℕ → ℕ → Result T FetchFault → Type 0

@@ -5,7 +5,7 @@ ghost use Rattle.eft_top.specs.Words.{command_of, texts, asked_command, Run};
 ghost use Rattle.eft_top.specs.Causes.{NeedsNoInput};
 ghost use Rattle.eft_top.specs.Input.{Got as AllGot, HasGiven, HasRead, got_of, is_too_long};
 ghost use Rattle.eft_top.specs.Story.{Story, Came, Caused};
-ghost use Rattle.eft_top.specs.Report.{ReportsOn, Tells, line_bytes};
+ghost use Rattle.eft_top.specs.Report.{ReportsOn, ReportsOutcome, line_bytes};
 
 use crate::Status;
 use crate::input::{Got, read_input};
@@ -13,7 +13,7 @@ use crate::report::Report;
 use crate::words::{Asked, read_words};
 use ground::Memory;
 use ports::{FetchFault, Library, Source};
-use rat_front::{Compiled, GatherRefusal, compile_text};
+use rat_front::{Compiled, TextRefusal, compile_text};
 use std::alloc::Global;
 use unit_walk::walk;
 
@@ -50,7 +50,7 @@ fn report_of<L: Library, S: Source>(
     library: &mut L,
     input: &mut S,
 ) -> Result<Report, FetchFault>
-    ensures tells { IfOk result (Tells (asked_command asked.entry) (L.files library.old) (HasGiven S.left S.faults input.old input.new)) }
+    ensures tells { IfOk result (ReportsOutcome (asked_command asked.entry) (L.files library.old) (HasGiven S.left S.faults input.old input.new)) }
     ensures becomes { L.becomes library.old library.new }
     ensures input { HasRead (S.left input.old) (S.left input.new) }
     ensures unread { IfOk result (λ report. NeedsNoInput report.status → input.new ≡ input.old) }
@@ -70,7 +70,7 @@ fn run_file<L: Library, S: Source>(
     library: &mut L,
     input: &mut S,
 ) -> Result<Report, FetchFault>
-    ensures tells { IfOk result (Tells (Run limit file.now) (L.files library.old) (HasGiven S.left S.faults input.old input.new)) }
+    ensures tells { IfOk result (ReportsOutcome (Run limit file.now) (L.files library.old) (HasGiven S.left S.faults input.old input.new)) }
     ensures becomes { L.becomes library.old library.new }
     ensures input { HasRead (S.left input.old) (S.left input.new) }
     ensures unread { IfOk result (λ report. NeedsNoInput report.status → input.new ≡ input.old) }
@@ -82,9 +82,9 @@ fn run_file<L: Library, S: Source>(
             Ok(report) => Ok(report),
             Err(Memory) => Err(FetchFault::Memory),
         },
-        Err(GatherRefusal::Fault(fault, name)) => Ok(Report::of_fault(alloc, fault, &name)?),
-        Err(GatherRefusal::Library) => Err(FetchFault::Failed),
-        Err(GatherRefusal::Memory) => Err(FetchFault::Memory),
+        Err(TextRefusal::Fault(fault, name)) => Ok(Report::of_fault(alloc, fault, &name)?),
+        Err(TextRefusal::Library) => Err(FetchFault::Failed),
+        Err(TextRefusal::Memory) => Err(FetchFault::Memory),
     }
 }
 

@@ -2,7 +2,7 @@
 ghost use Rattle.std.specs.Prelude.{◌≡◌, ◌++◌, ◌∷◌, [], true, ℕ, List, IfOk, take};
 ghost use Rattle.f66_tree.specs.World.{Shown};
 ghost use Rattle.unit_walk.specs.Shows.{shown_of};
-ghost use Rattle.rat_front.specs.Verdict.{name_of as name_of_file};
+ghost use Rattle.rat_front.specs.Verdict.{file_name as name_of_file};
 ghost use Rattle.eft_top.specs.Outcome.{HasFault, Runs};
 ghost use Rattle.eft_top.specs.Report.{IsReport, line_bytes};
 

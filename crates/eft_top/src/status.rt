@@ -1,6 +1,6 @@
 // How a call of the program ends.
 ghost use Rattle.std.specs.Prelude.{◌≡◌};
-ghost use Rattle.eft_top.specs.Codes.{code_of};
+ghost use Rattle.eft_top.specs.Codes.{exit_code};
 
 use ground::Trap;
 
@@ -34,7 +34,7 @@ pub enum Status {
 impl Status {
     /// The exit code of the process.
     pub fn code(&self) -> u8
-        ensures { result ≡ code_of self.now }
+        ensures { result ≡ exit_code self.now }
     {
         match self {
             Status::Done => 0,

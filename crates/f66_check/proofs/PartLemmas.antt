@@ -12,7 +12,7 @@ use Rattle.rule_table.specs.First.{IsFirst, IsClean}
 use Rattle.rule_table.specs.FaultRules.{first_rule}
 use Rattle.rule_table.specs.Words.{first_place, is_some_and}
 use Rattle.rule_table.proofs.RuleLemmas.{part_first, part_clean}
-use Rattle.f66_tree.specs.Forms.{Act, Line, Routine}
+use Rattle.f66_tree.specs.Syntax.{Act, Line, Routine}
 use Rattle.f66_tree.specs.Units.{Context, is_main}
 use Rattle.f66_tree.specs.Views.{act_of, line_of, lines_of, header_of, routine_of}
 use Rattle.f66_tree.specs.declared.statement.Stmt.{Stmt}
@@ -26,7 +26,7 @@ use Rattle.f66_names.specs.DeclarationViews.{context_in, acts_in}
 use Rattle.f66_flow.proofs.PlaceLemmas.{first_place-map}
 use Rattle.f66_flow.specs.declared.scope.Scope.{Scope}
 use Rattle.f66_flow.specs.FlowRules.{breaks_flow, breaks_flow_at}
-use Rattle.f66_sound.specs.SoundUnits.{acts_of}
+use Rattle.f66_soundness.specs.SoundUnits.{acts_in_unit}
 use Rattle.f66_check.specs.CheckRules.{context_of, breaks_line, breaks_part, breaks_at, unbuilt_line, first_unbuilt}
 use Rattle.f66_check.specs.Answers.{place_at, IsFaultless, IsFirstKind}
 
@@ -80,16 +80,16 @@ all_clean w c acts all n h before (suc i) k =
 
 -- ---- a unit as its tables see it ----
 
-acts_are : (all : List Stmt) → acts_of (lines_of all) ≡ map (λ s. act_of s.kind) all
+acts_are : (all : List Stmt) → acts_in_unit (lines_of all) ≡ map (λ s. act_of s.kind) all
 acts_are [] = refl
 acts_are (s ∷ rest) = ap (λ acts. act_of s.kind ∷ acts) (acts_are rest)
 
 -- what the statements of a unit say, and what its names mean, by the tables of its names
 pub acts_told : (d : Declarations) (unit : Unit) (sayings : List Saying) → d.sayings.now ≡ sayings →
-    said_by sayings ≡ map (λ s. act_of s.kind) unit.statements.items → acts_in d ≡ acts_of (lines_of unit.statements.items)
+    said_by sayings ≡ map (λ s. act_of s.kind) unit.statements.items → acts_in d ≡ acts_in_unit (lines_of unit.statements.items)
 acts_told d unit sayings e h = ap said_by e ∙ h ∙ sym (acts_are unit.statements.items)
 
-pub context_told : (d : Declarations) (unit : Unit) → d.header.now ≡ unit.header → acts_in d ≡ acts_of (lines_of unit.statements.items) → context_in d ≡ context_of (routine_of unit)
+pub context_told : (d : Declarations) (unit : Unit) → d.header.now ≡ unit.header → acts_in d ≡ acts_in_unit (lines_of unit.statements.items) → context_in d ≡ context_of (routine_of unit)
 context_told d unit e h = ap (λ x. context_by (header_of x) (acts_in d)) e ∙ ap (context_by (header_of unit.header)) h
 
 -- the first statement that is not built, by the tables of names
@@ -121,18 +121,18 @@ first_told w u (Some r) built told = subst (λ m. IsFirstKind m w u r.0 r.1) (sy
 
 -- what the rules tell of a main whose statements are built
 told_of : (w : Scope) (u : Routine) (c : Context) (acts : List Act) (lines : List Line) (o : Option (ℕ × FaultKind)) → is_main u.header ≡ true →
-    c ≡ context_of u → acts ≡ acts_of u.lines → lines ≡ u.lines → unbuilt_line (context_of u) u.lines ≡ None →
+    c ≡ context_of u → acts ≡ acts_in_unit u.lines → lines ≡ u.lines → unbuilt_line (context_of u) u.lines ≡ None →
     MatchOption o (IsClean (breaks_part w c acts lines)) (λ r. IsFirst fault_number (breaks_part w c acts lines) r.0 r.1) →
     MatchOption o (IsFaultless w u) (λ r. IsFirstKind (first_unbuilt u) w u r.0 r.1)
 told_of w u c acts lines o main same_context same_acts same_lines found told =
     first_told w u o (all_built u main found)
-    (subst (λ d. MatchOption o (IsClean (breaks_part w d (acts_of u.lines) u.lines)) (λ r. IsFirst fault_number (breaks_part w d (acts_of u.lines) u.lines) r.0 r.1)) same_context
+    (subst (λ d. MatchOption o (IsClean (breaks_part w d (acts_in_unit u.lines) u.lines)) (λ r. IsFirst fault_number (breaks_part w d (acts_in_unit u.lines) u.lines) r.0 r.1)) same_context
     (subst (λ xs. MatchOption o (IsClean (breaks_part w c xs u.lines)) (λ r. IsFirst fault_number (breaks_part w c xs u.lines) r.0 r.1)) same_acts
     (subst (λ ys. MatchOption o (IsClean (breaks_part w c acts ys)) (λ r. IsFirst fault_number (breaks_part w c acts ys) r.0 r.1)) same_lines told)))
 
 -- the same of what the rules answer, or of want of memory
 pub told_by : (w : Scope) (u : Routine) (c : Context) (acts : List Act) (lines : List Line) (r : Result (Option (ℕ × FaultKind)) AllocError) → is_main u.header ≡ true →
-    c ≡ context_of u → acts ≡ acts_of u.lines → lines ≡ u.lines → unbuilt_line (context_of u) u.lines ≡ None →
+    c ≡ context_of u → acts ≡ acts_in_unit u.lines → lines ≡ u.lines → unbuilt_line (context_of u) u.lines ≡ None →
     IfOk r (λ o. MatchOption o (IsClean (breaks_part w c acts lines)) (λ p. IsFirst fault_number (breaks_part w c acts lines) p.0 p.1)) →
     IfOk r (λ o. MatchOption o (IsFaultless w u) (λ p. IsFirstKind (first_unbuilt u) w u p.0 p.1))
 told_by w u c acts lines (Ok o) main same_context same_acts same_lines found told = told_of w u c acts lines o main same_context same_acts same_lines found told

@@ -10,7 +10,7 @@ use Rattle.ground.specs.declared.fault.Refusal.{Refusal}
 use Rattle.ground.specs.declared.fault.Refusal.TheVariants.{Fault as AFault, Memory}
 use Rattle.rule_table.specs.First.{IsFirst, IsClean}
 use Rattle.rule_table.specs.FaultRules.{limit_of}
-use Rattle.f66_tree.specs.Forms.{Routine}
+use Rattle.f66_tree.specs.Syntax.{Routine}
 use Rattle.f66_flow.specs.declared.scope.Scope.{Scope}
 use Rattle.f66_flow.specs.declared.scope.Scope.TheVariants.{Whole}
 use Rattle.f66_check.specs.CheckRules.{breaks_at, first_unbuilt}

@@ -3,18 +3,18 @@ use Rattle.std.specs.Prelude.{ℕ, zero, suc, ◌+◌, Bool, not, ◌||◌, List
 use Rattle.std.specs.List.{slice_get}
 use Rattle.ground.specs.declared.fault.FaultKind.{FaultKind}
 use Rattle.rule_table.specs.Words.{first_place, is_some_and}
-use Rattle.f66_tree.specs.Forms.{Act, Line, Routine}
+use Rattle.f66_tree.specs.Syntax.{Act, Line, Routine}
 use Rattle.f66_tree.specs.Units.{Context, is_main}
 use Rattle.f66_names.specs.Declaring.{context_by}
 use Rattle.f66_names.specs.Rules.{breaks_name}
 use Rattle.f66_names.specs.BuiltActs.{is_built}
 use Rattle.f66_flow.specs.FlowRules.{breaks_flow, header_breaks_flow}
 use Rattle.f66_flow.specs.declared.scope.Scope.{Scope}
-use Rattle.f66_sound.specs.SoundUnits.{acts_of}
+use Rattle.f66_soundness.specs.SoundUnits.{acts_in_unit}
 
 -- what the names of a unit mean in it
 abbrev pub context_of : Routine → Context
-context_of u = context_by u.header (acts_of u.lines)
+context_of u = context_by u.header (acts_in_unit u.lines)
 
 -- what the statement s with the number i, from 0, of a unit of these statements breaks
 abbrev pub breaks_line : Scope → Context → List Act → List Line → ℕ → Line → FaultKind → Bool
@@ -27,7 +27,7 @@ breaks_part w c acts lines (suc i) k = is_some_and (λ s. breaks_line w c acts l
 
 -- the part of the unit with this number breaks the rule k
 abbrev pub breaks_at : Scope → Routine → ℕ → FaultKind → Bool
-breaks_at w u n k = breaks_part w (context_of u) (acts_of u.lines) u.lines n k
+breaks_at w u n k = breaks_part w (context_of u) (acts_in_unit u.lines) u.lines n k
 
 -- the place of the first statement that is not built
 abbrev pub unbuilt_line : Context → List Line → Option ℕ

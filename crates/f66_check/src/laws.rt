@@ -1,6 +1,6 @@
 // The law of sound units. The functions do nothing: their contracts are the law.
 ghost use Rattle.f66_tree.specs.Views.{routine_of};
-ghost use Rattle.f66_sound.specs.SoundUnits.{RunsRightly};
+ghost use Rattle.f66_soundness.specs.SoundUnits.{RunsRightly};
 ghost use Rattle.f66_check.specs.SoundRuns.{SoundRunsRightly};
 
 use crate::CheckedUnit;

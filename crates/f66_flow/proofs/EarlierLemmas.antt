@@ -7,7 +7,7 @@ use Rattle.std.proofs.lemmas.Option.{slice_get-map, unwrap_or-slice_get}
 use Rattle.ground.specs.declared.fault.FaultKind.{FaultKind}
 use Rattle.ground.specs.declared.fault.FaultKind.TheVariants.{DoNesting}
 use Rattle.rule_table.specs.Words.{is_some_and}
-use Rattle.f66_tree.specs.Forms.{Line}
+use Rattle.f66_tree.specs.Syntax.{Line}
 use Rattle.f66_flow.specs.Acts.{branches}
 use Rattle.f66_flow.specs.Ranges.{end_at, holds, range_end, range_ends}
 use Rattle.f66_flow.specs.Innermost.{IsNested}

@@ -5,10 +5,10 @@ use Rattle.std.proofs.lemmas.Option.{slice_get-map}
 use Rattle.rule_table.specs.Words.{first_place, last_place}
 use Rattle.rule_table.proofs.WordLemmas.{find-first_place}
 use Rattle.f66_tree.specs.declared.statement.Stmt.{Stmt}
-use Rattle.f66_tree.specs.Forms.{Line}
+use Rattle.f66_tree.specs.Syntax.{Line}
 use Rattle.f66_tree.specs.Views.{act_of, line_of, lines_of}
 use Rattle.f66_tree.specs.Execution.{has_label}
-use Rattle.f66_flow.specs.Ranges.{place_of, named, range_end}
+use Rattle.f66_flow.specs.Ranges.{label_place, named, range_end}
 
 pub first_place-map : {X Y : Type 0} (test : Y → Bool) (f : X → Y) (xs : List X) → first_place test (map f xs) ≡ first_place (λ x. test (f x)) xs
 first_place-map test f [] = refl
@@ -19,11 +19,11 @@ last_place-map test f [] = refl
 last_place-map test f (x ∷ xs) = grind (arith, last_place-map test f xs)
 
 -- the statement at the place that a label names, and none where it names none
-pub named_at : (xs : List Stmt) (l p : ℕ) → place_of (lines_of xs) l ≡ Some p → option_map line_of (slice_get xs p) ≡ named (lines_of xs) l
+pub named_at : (xs : List Stmt) (l p : ℕ) → label_place (lines_of xs) l ≡ Some p → option_map line_of (slice_get xs p) ≡ named (lines_of xs) l
 named_at xs l p e =
     sym (find-first_place (λ s. has_label l s.label) (lines_of xs) ∙ ap (option_and_then (slice_get (lines_of xs))) e ∙ slice_get-map line_of xs p)
 
-pub named_nowhere : (xs : List Stmt) (l : ℕ) → place_of (lines_of xs) l ≡ None → None ≡ named (lines_of xs) l
+pub named_nowhere : (xs : List Stmt) (l : ℕ) → label_place (lines_of xs) l ≡ None → None ≡ named (lines_of xs) l
 named_nowhere xs l e = sym (find-first_place (λ s. has_label l s.label) (lines_of xs) ∙ ap (option_and_then (slice_get (lines_of xs))) e)
 
 -- a place that a label names is one of the list
@@ -36,7 +36,7 @@ first_place-within : {X : Type 0} (test : X → Bool) (xs : List X) (p : ℕ) �
 first_place-within test [] p e = absurd (cc)
 first_place-within test (x ∷ xs) p e = within_parts (test x) (first_place test xs) (length xs) p (λ q h. first_place-within test xs q h) e
 
-pub named_within : (xs : List Stmt) (l p : ℕ) → place_of (lines_of xs) l ≡ Some p → p < length xs
+pub named_within : (xs : List Stmt) (l p : ℕ) → label_place (lines_of xs) l ≡ Some p → p < length xs
 named_within xs l p e = first_place-within (λ s. has_label l s.label) xs p (sym (first_place-map (λ s. has_label l s.label) line_of xs) ∙ e)
 
 -- where ranges end, by the trees in memory

@@ -3,10 +3,10 @@ use Rattle.std.specs.Prelude.{ℕ, Bool, true, false, not, nat_lt, ◌==◌, ◌
 use Rattle.std.specs.List.{slice_get, list_any}
 use Rattle.ground.specs.declared.fault.FaultKind.{FaultKind}
 use Rattle.ground.specs.declared.fault.FaultKind.TheVariants.{Syntax, BadLabel, DoNesting}
-use Rattle.f66_tree.specs.Forms.{Act, Loops, Line}
+use Rattle.f66_tree.specs.Syntax.{Act, Loop, Line}
 use Rattle.rule_table.specs.Words.{first_place, last_place, is_some_and, is_below, is_number}
 use Rattle.f66_flow.specs.Acts.{is_executable, is_specification, is_data, is_format, is_transfer, ends_no_range, branches, formats_named}
-use Rattle.f66_flow.specs.Ranges.{place_of, named, range_end, range_ends, end_at, holds, some_below}
+use Rattle.f66_flow.specs.Ranges.{label_place, named, range_end, range_ends, end_at, holds, some_below}
 use Rattle.f66_flow.specs.declared.scope.Scope.{Scope}
 use Rattle.f66_flow.specs.declared.scope.Scope.TheVariants.{Whole, Part}
 
@@ -25,7 +25,7 @@ lacks_transfer lines i a = is_number i (last_place (λ s. is_executable s.act) l
 
 -- a label that is not from 1 to 99999, or that an earlier statement has
 abbrev pub has_bad_label : List Line → ℕ → Line → Bool
-has_bad_label lines i s = is_some_and (λ l. l == 0 || (nat_lt 99999 l || is_below i (place_of lines l))) s.label
+has_bad_label lines i s = is_some_and (λ l. l == 0 || (nat_lt 99999 l || is_below i (label_place lines l))) s.label
 
 -- a label that names no executable statement
 abbrev pub leads_nowhere : List Line → ℕ → Bool
@@ -41,15 +41,15 @@ leads_wrong lines a = list_any (leads_nowhere lines) (branches a) || list_any (n
 
 -- a DO whose label names no executable statement
 abbrev pub has_no_end : List Line → Act → Bool
-has_no_end lines (Loops l x a b c) = leads_nowhere lines l
+has_no_end lines (Loop l x a b c) = leads_nowhere lines l
 has_no_end lines _ = false
 
 -- DO ranges (section 7.1.2.8)
 
 -- a DO whose last statement does not stand behind it, or is one that no range may end with
 abbrev pub ends_wrong : List Line → ℕ → Act → Bool
-ends_wrong lines i (Loops l x a b c) =
-    not (is_some_and (λ t. nat_lt i t) (place_of lines l)) || is_some_and (λ t. ends_no_range t.act) (named lines l)
+ends_wrong lines i (Loop l x a b c) =
+    not (is_some_and (λ t. nat_lt i t) (label_place lines l)) || is_some_and (λ t. ends_no_range t.act) (named lines l)
 ends_wrong lines i _ = false
 
 -- a DO in the range of an earlier one that ends before it
@@ -62,7 +62,7 @@ enters_at lines i t = some_below t (λ d. holds (range_ends lines) d t && not (h
 
 -- a branch from i to the statement that a label names
 abbrev pub enters : List Line → ℕ → ℕ → Bool
-enters lines i l = is_some_and (enters_at lines i) (place_of lines l)
+enters lines i l = is_some_and (enters_at lines i) (label_place lines l)
 
 abbrev pub nests_wrong : List Line → ℕ → Act → Bool
 nests_wrong lines i a = ends_wrong lines i a || (overlaps lines i a || list_any (enters lines i) (branches a))

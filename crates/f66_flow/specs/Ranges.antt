@@ -1,12 +1,12 @@
 -- Where labels lead (X3.9-1966, section 3.4), and the ranges of DO statements (section 7.1.2.8), by places in a whole unit.
 use Rattle.std.specs.Prelude.{ℕ, zero, suc, Bool, false, nat_lt, nat_le, ◌&&◌, ◌||◌, List, Option, None, Some, find, map, slice_index_or}
-use Rattle.f66_tree.specs.Forms.{Act, Loops, Line}
+use Rattle.f66_tree.specs.Syntax.{Act, Loop, Line}
 use Rattle.f66_tree.specs.Execution.{has_label}
 use Rattle.rule_table.specs.Words.{first_place}
 
 -- the place of the statement that a label names, which is the first that has it
-abbrev pub place_of : List Line → ℕ → Option ℕ
-place_of lines l = first_place (λ s. has_label l s.label) lines
+abbrev pub label_place : List Line → ℕ → Option ℕ
+label_place lines l = first_place (λ s. has_label l s.label) lines
 
 -- the statement that a label names
 abbrev pub named : List Line → ℕ → Option Line
@@ -18,7 +18,7 @@ place_or_zero (Some n) = n
 
 -- the place of the last statement of the range that a DO begins; 0, where a range is empty, if there is none
 abbrev pub range_end : List Line → Act → ℕ
-range_end lines (Loops l x a b c) = place_or_zero (place_of lines l)
+range_end lines (Loop l x a b c) = place_or_zero (label_place lines l)
 range_end lines _ = 0
 
 -- where the range that each statement begins ends

@@ -1,6 +1,6 @@
 -- The statements that the tables in memory are of, as plain data.
 use Rattle.std.specs.Prelude.{List}
-use Rattle.f66_tree.specs.Forms.{Line}
+use Rattle.f66_tree.specs.Syntax.{Line}
 use Rattle.f66_tree.specs.Views.{lines_of}
 use Rattle.f66_flow.specs.declared.flow.Flow.{Flow}
 use Rattle.f66_flow.specs.declared.labels.Labels.{Labels}

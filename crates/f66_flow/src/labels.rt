@@ -18,13 +18,13 @@ use std::collections::HashMap;
 pub struct Labels<'a> {
     pub statements: &'a [Stmt],
     pub places: HashMap<u32, usize>,
-    ghost named: { (l : ℕ) → get nat_eq places l ≡ ranges.place_of (lines_of statements.now) l } by { Prim.hlevel props },
+    ghost named: { (l : ℕ) → get nat_eq places l ≡ ranges.label_place (lines_of statements.now) l } by { Prim.hlevel props },
 }
 
 impl<'a> Labels<'a> {
     /// The place of the statement that a label names.
     pub(crate) fn place(&self, label: u32) -> Option<usize>
-        ensures { result ≡ ranges.place_of (lines_of self.now.statements.now) label }
+        ensures { result ≡ ranges.label_place (lines_of self.now.statements.now) label }
     {
         self.places.get(&label).copied()
     }

@@ -6,12 +6,12 @@ use Rattle.std.specs.Option.{option_or}
 use Rattle.std.specs.Str.{bytes_eq}
 use Rattle.rule_table.specs.Words.{find_map}
 use Rattle.f66_tree.specs.declared.declaration.TypeWord.{TypeWord}
-use Rattle.f66_tree.specs.Forms.{Text, Par, Declared, Area, Act, Line, Types, Dimensions, Commons}
+use Rattle.f66_tree.specs.Syntax.{Text, Par, Declared, Area, Act, Line, Typed, Dimension, Common}
 use Rattle.f66_tree.specs.Units.{Note, is_note, notes_of, lists, typed_by, type_in, if_any, sizes_in, sizes_in_areas, sizes_by, sizes_of}
 use Rattle.f66_tree.specs.Evaluation.{known, intrinsics, array_or}
 use Rattle.f66_names.specs.declared.name_form.NameForm.{NameForm}
 use Rattle.f66_names.specs.declared.name_form.NameForm.TheVariants as forms
-use Rattle.f66_names.specs.Declaring.{noted, names, type_given, counted, count_by, count_in}
+use Rattle.f66_names.specs.Declaring.{noted, names, type_given, dimension_count, count_by, count_in}
 use Rattle.f66_names.specs.Sorts.{form_by}
 use Rattle.f66_names.proofs.TableLemmas.{find_map-append, option_or-assoc}
 
@@ -27,7 +27,7 @@ typed_or false t unsaid later = refl
 
 pub type_in-given : (q : Text) (acts : List Act) (unsaid : TypeWord) → type_in q (noted acts) unsaid ≡ unwrap_or (find_map (type_given q) acts) unsaid
 type_in-given q [] unsaid = refl
-type_in-given q (Types t ds ∷ rest) unsaid =
+type_in-given q (Typed t ds ∷ rest) unsaid =
     ap (λ b. if b then t else type_in q (noted rest) unsaid) (lists-any q ds)
     ∙ ap (λ w. if list_any (names q) ds then t else w) (type_in-given q rest unsaid)
     ∙ typed_or (list_any (names q) ds) t unsaid (find_map (type_given q) rest)
@@ -35,35 +35,35 @@ type_in-given q (a ∷ rest) unsaid = type_in-given q rest unsaid
 
 -- ---- dimensions ----
 
-if_any-counted : (ns others : List Par) → counted (if_any ns others) ≡ option_or (counted ns) (counted others)
+if_any-counted : (ns others : List Par) → dimension_count (if_any ns others) ≡ option_or (dimension_count ns) (dimension_count others)
 if_any-counted [] others = refl
 if_any-counted (n ∷ ns) others = refl
 
-sized_or : (b : Bool) (ns later : List Par) (o : Option ℕ) → counted later ≡ o → counted (if b then if_any ns later else later) ≡ option_or (if b then counted ns else None) o
-sized_or true ns later o e = if_any-counted ns later ∙ ap (option_or (counted ns)) e
+sized_or : (b : Bool) (ns later : List Par) (o : Option ℕ) → dimension_count later ≡ o → dimension_count (if b then if_any ns later else later) ≡ option_or (if b then dimension_count ns else None) o
+sized_or true ns later o e = if_any-counted ns later ∙ ap (option_or (dimension_count ns)) e
 sized_or false ns later o e = e
 
-sizes_in-counted : (q : Text) (ds : List Declared) (others : List Par) → counted (sizes_in q ds others) ≡ option_or (find_map (count_by q) ds) (counted others)
+sizes_in-counted : (q : Text) (ds : List Declared) (others : List Par) → dimension_count (sizes_in q ds others) ≡ option_or (find_map (count_by q) ds) (dimension_count others)
 sizes_in-counted q [] others = refl
 sizes_in-counted q (d ∷ ds) others =
-    sized_or (bytes_eq q d.name) d.sizes (sizes_in q ds others) (option_or (find_map (count_by q) ds) (counted others)) (sizes_in-counted q ds others)
-    ∙ sym (option_or-assoc (count_by q d) (find_map (count_by q) ds) (counted others))
+    sized_or (bytes_eq q d.name) d.sizes (sizes_in q ds others) (option_or (find_map (count_by q) ds) (dimension_count others)) (sizes_in-counted q ds others)
+    ∙ sym (option_or-assoc (count_by q d) (find_map (count_by q) ds) (dimension_count others))
 
 sizes_in_areas-counted : (q : Text) (areas : List Area) (others : List Par) →
-    counted (sizes_in_areas q areas others) ≡ option_or (find_map (count_by q) (flat_map (λ a. a.list) areas)) (counted others)
+    dimension_count (sizes_in_areas q areas others) ≡ option_or (find_map (count_by q) (flat_map (λ a. a.list) areas)) (dimension_count others)
 sizes_in_areas-counted q [] others = refl
 sizes_in_areas-counted q (a ∷ areas) others =
     sizes_in-counted q a.list (sizes_in_areas q areas others)
     ∙ ap (option_or (find_map (count_by q) a.list)) (sizes_in_areas-counted q areas others)
-    ∙ sym (option_or-assoc (find_map (count_by q) a.list) (find_map (count_by q) (flat_map (λ b. b.list) areas)) (counted others))
-    ∙ ap (λ o. option_or o (counted others)) (sym (find_map-append (count_by q) a.list (flat_map (λ b. b.list) areas)))
+    ∙ sym (option_or-assoc (find_map (count_by q) a.list) (find_map (count_by q) (flat_map (λ b. b.list) areas)) (dimension_count others))
+    ∙ ap (λ o. option_or o (dimension_count others)) (sym (find_map-append (count_by q) a.list (flat_map (λ b. b.list) areas)))
 
-pub sizes_of-counted : (q : Text) (acts : List Act) → counted (sizes_of q (noted acts)) ≡ find_map (count_in q) acts
+pub sizes_of-counted : (q : Text) (acts : List Act) → dimension_count (sizes_of q (noted acts)) ≡ find_map (count_in q) acts
 sizes_of-counted q [] = refl
-sizes_of-counted q (Types t ds ∷ rest) = sizes_in-counted q ds (sizes_of q (noted rest)) ∙ ap (option_or (find_map (count_by q) ds)) (sizes_of-counted q rest)
-sizes_of-counted q (Dimensions ds ∷ rest) = sizes_in-counted q ds (sizes_of q (noted rest)) ∙ ap (option_or (find_map (count_by q) ds)) (sizes_of-counted q rest)
-sizes_of-counted q (Commons areas ∷ rest) =
-    sizes_in_areas-counted q areas (sizes_of q (noted rest)) ∙ ap (option_or (count_in q (Commons areas))) (sizes_of-counted q rest)
+sizes_of-counted q (Typed t ds ∷ rest) = sizes_in-counted q ds (sizes_of q (noted rest)) ∙ ap (option_or (find_map (count_by q) ds)) (sizes_of-counted q rest)
+sizes_of-counted q (Dimension ds ∷ rest) = sizes_in-counted q ds (sizes_of q (noted rest)) ∙ ap (option_or (find_map (count_by q) ds)) (sizes_of-counted q rest)
+sizes_of-counted q (Common areas ∷ rest) =
+    sizes_in_areas-counted q areas (sizes_of q (noted rest)) ∙ ap (option_or (count_in q (Common areas))) (sizes_of-counted q rest)
 sizes_of-counted q (a ∷ rest) = sizes_of-counted q rest
 
 -- ---- forms ----
@@ -72,7 +72,7 @@ abbrev form_counted : Option ℕ → Text → NameForm
 form_counted (Some n) x = forms.Array n
 form_counted None x = form_by (known intrinsics x)
 
-form_by-counted : (ns : List Par) (x : Text) → form_by (array_or ns x) ≡ form_counted (counted ns) x
+form_by-counted : (ns : List Par) (x : Text) → form_by (array_or ns x) ≡ form_counted (dimension_count ns) x
 form_by-counted [] x = refl
 form_by-counted (n ∷ ns) x = refl
 

@@ -4,8 +4,8 @@ use Rattle.std.proofs.lemmas.Result.{on_ok_weaker}
 use Rattle.f66_tree.specs.declared.declaration.Par.{Par}
 use Rattle.f66_tree.specs.declared.statement.Entry.{Entry}
 use Rattle.f66_tree.specs.declared.statement.Entry.TheVariants as entries
-use Rattle.f66_tree.specs.Forms as forms
-use Rattle.f66_tree.specs.Forms.{Text, Many}
+use Rattle.f66_tree.specs.Syntax as forms
+use Rattle.f66_tree.specs.Syntax.{Text, Many}
 use Rattle.f66_tree.specs.Views.{par_of, entry_of, entries_of}
 use Rattle.f66_tree.proofs.Rows.{many_entry}
 use Rattle.f66_names.specs.Shapes.{are_items, are_some_items}

@@ -8,14 +8,15 @@ use Rattle.f66_tree.specs.declared.declaration.TypeWord.TheVariants.{Integer, Lo
 use Rattle.f66_tree.specs.declared.expression.Operator.TheVariants.{Add, Sub, Mul, Power, Lt, And}
 use Rattle.f66_tree.specs.declared.editing.EditKind.TheVariants as edits
 use Rattle.f66_tree.specs.Fields.{Takes, Blanks, Chars, Slash, Fields, NoField, Single, Group}
-use Rattle.f66_tree.specs.Forms.{Text, Formula, Number, Fact, Variable, Applied, Grouped, Negated, Joined, Nought, Also, Constant, Named, Declared, MainUnit, Entry, One, Many, NoEntry, AndEntry, Act, Assigns, Selects, Chooses, Loops, Passes, Stops, Reads, Writes, Formats, Types, Dimensions, Invokes}
+use Rattle.f66_tree.specs.Syntax.{Text, Formula, Int, Truth, Ref, Item, Not, Pair, NoFormula, AndFormula, Constant, Named, Declared, MainUnit, Entry, One, Many, NoEntry, AndEntry, Act, Assign, Computed, When, Loop, Continue, Stop, Read, Write, Format, Typed, Dimension, Invoke}
 use Rattle.f66_names.specs.Declaring.{context_by}
 use Rattle.f66_names.specs.BuiltActs as built
 use Rattle.f66_names.specs.Rules.{breaks_name}
+use Rattle.f66_tree.specs.Syntax as f66
 
 -- the first rule that the last of some statements breaks
 abbrev last : List Act → ℕ × Act
-last [] = (0, Passes)
+last [] = (0, Continue)
 last (a ∷ []) = (0, a)
 last (a ∷ b ∷ rest) = ((last (b ∷ rest)).0 + 1, (last (b ∷ rest)).1)
 
@@ -26,7 +27,7 @@ abbrev is_built : List Act → Bool
 is_built acts = let at = last acts in built.is_built (context_by MainUnit acts) at.1
 
 abbrev num : ℕ → Formula
-num z = Number (pos z)
+num z = Int (pos z)
 
 abbrev i : Text
 i = codes "I"
@@ -38,10 +39,10 @@ abbrev l : Text
 l = codes "L"
 
 abbrev with_one : Text → Formula → Formula
-with_one x a = Applied x (Also a Nought)
+with_one x a = Item x (AndFormula a NoFormula)
 
 abbrev with_two : Text → Formula → Formula → Formula
-with_two x a b = Applied x (Also a (Also b Nought))
+with_two x a b = Item x (AndFormula a (AndFormula b NoFormula))
 
 abbrev scalar : Text → Declared
 scalar x = record { name = x; sizes = [] }
@@ -51,116 +52,116 @@ sized x n = record { name = x; sizes = Constant (pos n) ∷ [] }
 
 -- LOGICAL L, and DIMENSION K(10)
 abbrev logical : Act
-logical = Types Logical (scalar l ∷ [])
+logical = Typed Logical (scalar l ∷ [])
 
 abbrev array : Act
-array = Dimensions (sized k 10 ∷ [])
+array = Dimension (sized k 10 ∷ [])
 
 abbrev set : Formula → Formula → Act
-set x e = Assigns x e
+set x e = Assign x e
 
 -- I = K + 1, where both are integers
-sound : fault (set (Variable i) (Joined Add (Variable k) (num 1)) ∷ []) ≡ None
+sound : fault (set (Ref i) (Pair Add (Ref k) (num 1)) ∷ []) ≡ None
 sound = refl
 
 -- K(2*I-1) = 1
-element : fault (array ∷ set (with_one k (Joined Sub (Joined Mul (num 2) (Variable i)) (num 1))) (num 1) ∷ []) ≡ None
+element : fault (array ∷ set (with_one k (Pair Sub (Pair Mul (num 2) (Ref i)) (num 1))) (num 1) ∷ []) ≡ None
 element = refl
 
 -- a sum under a product without parentheses
-sum_in_product : fault (set (Variable i) (Joined Mul (Joined Add (Variable i) (num 1)) (num 2)) ∷ []) ≡ Some Syntax
+sum_in_product : fault (set (Ref i) (Pair Mul (Pair Add (Ref i) (num 1)) (num 2)) ∷ []) ≡ Some Syntax
 sum_in_product = refl
 
-sum_in_parentheses : fault (set (Variable i) (Joined Mul (Grouped (Joined Add (Variable i) (num 1))) (num 2)) ∷ []) ≡ None
+sum_in_parentheses : fault (set (Ref i) (Pair Mul (f66.Group (Pair Add (Ref i) (num 1))) (num 2)) ∷ []) ≡ None
 sum_in_parentheses = refl
 
-power_of_power : fault (set (Variable i) (Joined Power (Variable i) (Joined Power (Variable i) (num 2))) ∷ []) ≡ Some Syntax
+power_of_power : fault (set (Ref i) (Pair Power (Ref i) (Pair Power (Ref i) (num 2))) ∷ []) ≡ Some Syntax
 power_of_power = refl
 
-sum_on_the_right : fault (set (Variable i) (Joined Sub (Variable i) (Joined Sub (Variable i) (num 2))) ∷ []) ≡ Some Syntax
+sum_on_the_right : fault (set (Ref i) (Pair Sub (Ref i) (Pair Sub (Ref i) (num 2))) ∷ []) ≡ Some Syntax
 sum_on_the_right = refl
 
-octal : fault (Stops (Some 32768) ∷ []) ≡ Some Syntax
+octal : fault (Stop (Some 32768) ∷ []) ≡ Some Syntax
 octal = refl
 
-loop_under_if : fault (Chooses (Fact true) (Loops 9 i (Constant (pos 1)) (Constant (pos 2)) (Constant (pos 1))) ∷ []) ≡ Some Syntax
+loop_under_if : fault (When (Truth true) (Loop 9 i (Constant (pos 1)) (Constant (pos 2)) (Constant (pos 1))) ∷ []) ≡ Some Syntax
 loop_under_if = refl
 
-seven : fault (set (Variable (codes "INDEXES")) (num 1) ∷ []) ≡ Some NameTooLong
+seven : fault (set (Ref (codes "INDEXES")) (num 1) ∷ []) ≡ Some NameTooLong
 seven = refl
 
-real : fault (set (Variable i) (Variable (codes "X")) ∷ []) ≡ Some OutOfProfileType
+real : fault (set (Ref i) (Ref (codes "X")) ∷ []) ≡ Some OutOfProfileType
 real = refl
 
-real_type : fault (Types Other (scalar i ∷ []) ∷ []) ≡ Some OutOfProfileType
+real_type : fault (Typed Other (scalar i ∷ []) ∷ []) ≡ Some OutOfProfileType
 real_type = refl
 
 -- a declaration counts for the whole unit
-declared_later : fault (Types Integer (scalar (codes "X") ∷ []) ∷ set (Variable i) (Variable (codes "X")) ∷ []) ≡ None
+declared_later : fault (Typed Integer (scalar (codes "X") ∷ []) ∷ set (Ref i) (Ref (codes "X")) ∷ []) ≡ None
 declared_later = refl
 
-logical_sum : fault (logical ∷ set (Variable i) (Joined Add (Variable l) (num 1)) ∷ []) ≡ Some TypeClash
+logical_sum : fault (logical ∷ set (Ref i) (Pair Add (Ref l) (num 1)) ∷ []) ≡ Some TypeClash
 logical_sum = refl
 
-logical_value : fault (logical ∷ set (Variable l) (Joined And (Variable l) (Negated (Joined Lt (Variable i) (num 1)))) ∷ []) ≡ None
+logical_value : fault (logical ∷ set (Ref l) (Pair And (Ref l) (Not (Pair Lt (Ref i) (num 1)))) ∷ []) ≡ None
 logical_value = refl
 
-logical_subscript : fault (logical ∷ array ∷ set (with_one k (Variable l)) (num 1) ∷ []) ≡ Some TypeClash
+logical_subscript : fault (logical ∷ array ∷ set (with_one k (Ref l)) (num 1) ∷ []) ≡ Some TypeClash
 logical_subscript = refl
 
-product_in_subscript : fault (array ∷ set (with_one k (Joined Add (Joined Mul (num 2) (Variable i)) (Joined Mul (Variable i) (num 2)))) (num 1) ∷ []) ≡ Some TypeClash
+product_in_subscript : fault (array ∷ set (with_one k (Pair Add (Pair Mul (num 2) (Ref i)) (Pair Mul (Ref i) (num 2)))) (num 1) ∷ []) ≡ Some TypeClash
 product_in_subscript = refl
 
-whole_array : fault (array ∷ set (Variable i) (Joined Add (Variable k) (num 1)) ∷ []) ≡ Some TypeClash
+whole_array : fault (array ∷ set (Ref i) (Pair Add (Ref k) (num 1)) ∷ []) ≡ Some TypeClash
 whole_array = refl
 
-integer_condition : fault (Chooses (Variable i) Passes ∷ []) ≡ Some TypeClash
+integer_condition : fault (When (Ref i) Continue ∷ []) ≡ Some TypeClash
 integer_condition = refl
 
-index_of_jump : fault (array ∷ Selects (10 ∷ []) k ∷ []) ≡ Some TypeClash
+index_of_jump : fault (array ∷ Computed (10 ∷ []) k ∷ []) ≡ Some TypeClash
 index_of_jump = refl
 
-function_as_item : fault (Writes (Constant (pos 6)) 9 (AndEntry (One (with_one (codes "IABS") (Variable i))) NoEntry) ∷ []) ≡ Some TypeClash
+function_as_item : fault (Write (Constant (pos 6)) 9 (AndEntry (One (with_one (codes "IABS") (Ref i))) NoEntry) ∷ []) ≡ Some TypeClash
 function_as_item = refl
 
 two_subscripts : fault (array ∷ set (with_two k (num 1) (num 1)) (num 1) ∷ []) ≡ Some WrongCount
 two_subscripts = refl
 
-one_argument : fault (set (Variable i) (with_one (codes "MOD") (Variable i)) ∷ []) ≡ Some WrongCount
+one_argument : fault (set (Ref i) (with_one (codes "MOD") (Ref i)) ∷ []) ≡ Some WrongCount
 one_argument = refl
 
-no_dimension : fault (Dimensions (scalar k ∷ []) ∷ []) ≡ Some WrongCount
+no_dimension : fault (Dimension (scalar k ∷ []) ∷ []) ≡ Some WrongCount
 no_dimension = refl
 
-sized_twice : fault (Types Integer (sized k 3 ∷ []) ∷ array ∷ []) ≡ Some DuplicateName
+sized_twice : fault (Typed Integer (sized k 3 ∷ []) ∷ array ∷ []) ≡ Some DuplicateName
 sized_twice = refl
 
-typed_then_sized : fault (Types Integer (scalar k ∷ []) ∷ array ∷ []) ≡ None
+typed_then_sized : fault (Typed Integer (scalar k ∷ []) ∷ array ∷ []) ≡ None
 typed_then_sized = refl
 
-typed_twice : fault (Types Integer (scalar k ∷ scalar k ∷ []) ∷ []) ≡ Some DuplicateName
+typed_twice : fault (Typed Integer (scalar k ∷ scalar k ∷ []) ∷ []) ≡ Some DuplicateName
 typed_twice = refl
 
 -- MOD is a variable first
-variable_as_function : fault (set (Variable (codes "MOD")) (num 1) ∷ set (Variable i) (with_two (codes "MOD") (Variable i) (num 2)) ∷ []) ≡ Some DuplicateName
+variable_as_function : fault (set (Ref (codes "MOD")) (num 1) ∷ set (Ref i) (with_two (codes "MOD") (Ref i) (num 2)) ∷ []) ≡ Some DuplicateName
 variable_as_function = refl
 
-both_classes : fault (set (Variable (codes "MOD")) (with_two (codes "MOD") (Variable i) (num 2)) ∷ []) ≡ Some DuplicateName
+both_classes : fault (set (Ref (codes "MOD")) (with_two (codes "MOD") (Ref i) (num 2)) ∷ []) ≡ Some DuplicateName
 both_classes = refl
 
-no_places : fault (Dimensions (sized k 0 ∷ []) ∷ []) ≡ Some BadConstant
+no_places : fault (Dimension (sized k 0 ∷ []) ∷ []) ≡ Some BadConstant
 no_places = refl
 
-adjustable : fault (Dimensions (record { name = k; sizes = Named i ∷ [] } ∷ []) ∷ []) ≡ Some BadConstant
+adjustable : fault (Dimension (record { name = k; sizes = Named i ∷ [] } ∷ []) ∷ []) ≡ Some BadConstant
 adjustable = refl
 
-wide : fault (Formats (Single 1 (Takes edits.Whole 133) NoField) ∷ []) ≡ Some BadFormat
+wide : fault (Format (Single 1 (Takes edits.Whole 133) NoField) ∷ []) ≡ Some BadFormat
 wide = refl
 
 -- ---- formats ----
 
 abbrev format : Fields → Option FaultKind
-format fs = fault (Formats fs ∷ [])
+format fs = fault (Format fs ∷ [])
 
 abbrev whole : ℕ → ℕ → Fields
 whole n w = Single n (Takes edits.Whole w) NoField
@@ -207,23 +208,23 @@ empty_format = refl
 -- ---- lists ----
 
 abbrev read : Entry → Act
-read e = Reads (Constant (pos 5)) 9 (AndEntry e NoEntry)
+read e = Read (Constant (pos 5)) 9 (AndEntry e NoEntry)
 
 abbrev write : Entry → Act
-write e = Writes (Constant (pos 6)) 9 (AndEntry e NoEntry)
+write e = Write (Constant (pos 6)) 9 (AndEntry e NoEntry)
 
 -- (e,x=1,n)
 abbrev counted : Formula → Text → Entry
 counted e x = Many (AndEntry (One e) NoEntry) x (Constant (pos 1)) (Named (codes "N")) (Constant (pos 1))
 
-read_array : fault (array ∷ read (One (Variable k)) ∷ []) ≡ None
+read_array : fault (array ∷ read (One (Ref k)) ∷ []) ≡ None
 read_array = refl
 
-write_array : fault (array ∷ write (One (Variable k)) ∷ []) ≡ None
+write_array : fault (array ∷ write (One (Ref k)) ∷ []) ≡ None
 write_array = refl
 
 -- ((K(I),I=1,N),J=1,N)
-read_counted : fault (array ∷ read (Many (AndEntry (counted (with_one k (Variable i)) i) NoEntry) (codes "J") (Constant (pos 1)) (Constant (pos 2)) (Constant (pos 1))) ∷ []) ≡ None
+read_counted : fault (array ∷ read (Many (AndEntry (counted (with_one k (Ref i)) i) NoEntry) (codes "J") (Constant (pos 1)) (Constant (pos 2)) (Constant (pos 1))) ∷ []) ≡ None
 read_counted = refl
 
 no_item_counted : fault (read (Many NoEntry i (Constant (pos 1)) (Constant (pos 2)) (Constant (pos 1))) ∷ []) ≡ Some Syntax
@@ -241,19 +242,19 @@ write_function = refl
 function_is_built : is_built (write (One (with_one k (num 1))) ∷ []) ≡ true
 function_is_built = refl
 
-logical_subscript_of_item : fault (logical ∷ array ∷ read (counted (with_one k (Variable l)) i) ∷ []) ≡ Some TypeClash
+logical_subscript_of_item : fault (logical ∷ array ∷ read (counted (with_one k (Ref l)) i) ∷ []) ≡ Some TypeClash
 logical_subscript_of_item = refl
 
-array_as_item_counter : fault (array ∷ write (counted (Variable i) k) ∷ []) ≡ Some NotAssignable
+array_as_item_counter : fault (array ∷ write (counted (Ref i) k) ∷ []) ≡ Some NotAssignable
 array_as_item_counter = refl
 
-logical_item_counter : fault (logical ∷ read (counted (Variable i) l) ∷ []) ≡ Some TypeClash
+logical_item_counter : fault (logical ∷ read (counted (Ref i) l) ∷ []) ≡ Some TypeClash
 logical_item_counter = refl
 
-logical_unit : fault (logical ∷ Reads (Named l) 9 NoEntry ∷ []) ≡ Some TypeClash
+logical_unit : fault (logical ∷ Read (Named l) 9 NoEntry ∷ []) ≡ Some TypeClash
 logical_unit = refl
 
-real_item : fault (write (counted (Variable (codes "X")) i) ∷ []) ≡ Some OutOfProfileType
+real_item : fault (write (counted (Ref (codes "X")) i) ∷ []) ≡ Some OutOfProfileType
 real_item = refl
 
 subscripts_of_item : fault (array ∷ read (One (with_two k (num 1) (num 1))) ∷ []) ≡ Some WrongCount
@@ -261,23 +262,23 @@ subscripts_of_item = refl
 
 -- ---- stores, sizes and what is built ----
 
-array_as_target : fault (array ∷ set (Variable k) (num 1) ∷ []) ≡ Some NotAssignable
+array_as_target : fault (array ∷ set (Ref k) (num 1) ∷ []) ≡ Some NotAssignable
 array_as_target = refl
 
 function_as_target : fault (set (with_one k (num 1)) (num 1) ∷ []) ≡ Some NotAssignable
 function_as_target = refl
 
-array_as_counter : fault (array ∷ Loops 9 k (Constant (pos 1)) (Constant (pos 2)) (Constant (pos 1)) ∷ []) ≡ Some NotAssignable
+array_as_counter : fault (array ∷ Loop 9 k (Constant (pos 1)) (Constant (pos 2)) (Constant (pos 1)) ∷ []) ≡ Some NotAssignable
 array_as_counter = refl
 
-many_places : fault (Dimensions (sized k 32768 ∷ []) ∷ []) ≡ Some Limit
+many_places : fault (Dimension (sized k 32768 ∷ []) ∷ []) ≡ Some Limit
 many_places = refl
 
-function_unbuilt : is_built (set (Variable i) (with_one k (num 1)) ∷ []) ≡ false
+function_unbuilt : is_built (set (Ref i) (with_one k (num 1)) ∷ []) ≡ false
 function_unbuilt = refl
 
 target_built : is_built (set (with_one k (num 1)) (num 1) ∷ []) ≡ true
 target_built = refl
 
-call_unbuilt : is_built (Chooses (Fact true) (Invokes k Nought) ∷ []) ≡ false
+call_unbuilt : is_built (When (Truth true) (Invoke k NoFormula) ∷ []) ≡ false
 call_unbuilt = refl

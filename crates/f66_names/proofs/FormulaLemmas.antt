@@ -3,18 +3,19 @@ use Rattle.std.proofs.Common.{◌≡◌, ◌<◌, ℕ, List, [], ◌∷◌, ◌+
 use Rattle.std.proofs.lemmas.Result.{on_ok_weaker}
 use Rattle.f66_tree.specs.declared.expression.Expr.{Expr}
 use Rattle.f66_tree.specs.declared.expression.Expr.TheVariants.{Item}
-use Rattle.f66_tree.specs.Forms.{Text, Formula, Applied}
+use Rattle.f66_tree.specs.Syntax.{Text, Formula}
 use Rattle.f66_tree.specs.Views.{formula_of, formulas_of}
 use Rattle.f66_tree.proofs.Rows.{item_formula}
 use Rattle.f66_names.specs.declared.name_form.Manner.TheVariants.{With, Stored}
 use Rattle.f66_names.specs.Shapes.{stand_all, are_arguments}
 use Rattle.f66_names.specs.Uses.{Usage, usage, many, uses_of, uses_of_all, uses_of_target}
+use Rattle.f66_tree.specs.Syntax as f66
 
 -- what is said of a name with parentheses in memory
 pub item_seen : {A : Type 0} (f : Formula → A) (e : Expr) (x : Text) (list : Vec Expr Global) (seen : List Expr) → e ≡ Item x list → seen ≡ list.items →
-    f (Applied x (formulas_of seen)) ≡ f (formula_of e)
+    f (f66.Item x (formulas_of seen)) ≡ f (formula_of e)
 item_seen f e x list seen is at =
-    ap (λ es. f (Applied x (formulas_of es))) at ∙ sym (ap (λ a. f (formula_of a)) is ∙ ap f (item_formula x list))
+    ap (λ es. f (f66.Item x (formulas_of es))) at ∙ sym (ap (λ a. f (formula_of a)) is ∙ ap f (item_formula x list))
 
 pub some_arguments : (list : List Expr) → 0 < length list → stand_all (formulas_of list) ≡ are_arguments (formulas_of list)
 some_arguments [] h = absurd (omega arith)

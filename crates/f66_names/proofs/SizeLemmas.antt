@@ -1,7 +1,7 @@
 -- Products up to one more than the limit.
 use Rattle.std.proofs.Common.{◌≡◌, ◌*◌, ◌<◌, ◌+◌, ℕ, drop, get_or, drop-cons, add-one, List, ◌∷◌, length, min, sym, ap, ◌∙◌, arith}
 use Rattle.std.specs.Prelude.{unsigned_abs}
-use Rattle.f66_tree.specs.Forms.{Par, Constant, Named}
+use Rattle.f66_tree.specs.Syntax.{Par, Constant, Named}
 use Rattle.f66_tree.specs.Units.{places_of}
 use Rattle.f66_names.specs.StoreRules.{capped_size}
 

@@ -1,6 +1,6 @@
 -- What a unit's declarations in memory speak of.
 use Rattle.std.specs.Prelude.{List}
-use Rattle.f66_tree.specs.Forms.{Act}
+use Rattle.f66_tree.specs.Syntax.{Act}
 use Rattle.f66_tree.specs.Units.{Context}
 use Rattle.f66_tree.specs.Views.{header_of}
 use Rattle.f66_names.specs.declared.declarations.Declarations.{Declarations}

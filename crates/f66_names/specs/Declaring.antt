@@ -4,7 +4,7 @@ use Rattle.std.specs.List.{list_any, flat_map}
 use Rattle.std.specs.Str.{bytes_eq}
 use Rattle.rule_table.specs.Words.{find_map}
 use Rattle.f66_tree.specs.declared.declaration.TypeWord.{TypeWord}
-use Rattle.f66_tree.specs.Forms.{Text, Par, Declared, Header, Act, Types, Dimensions, Commons}
+use Rattle.f66_tree.specs.Syntax.{Text, Par, Declared, Header, Act, Typed, Dimension, Common}
 use Rattle.f66_tree.specs.Units.{Note, Context, is_note}
 
 -- the statements that are not executed
@@ -24,13 +24,13 @@ is_sized d = nat_lt 0 (length d.sizes)
 
 -- the names whose type a statement gives
 abbrev pub typed_in : Act → List Declared
-typed_in (Types t ds) = ds
+typed_in (Typed t ds) = ds
 typed_in _ = []
 
 -- the names that a type statement or DIMENSION lists
 abbrev pub declared_in : Act → List Declared
-declared_in (Types t ds) = ds
-declared_in (Dimensions ds) = ds
+declared_in (Typed t ds) = ds
+declared_in (Dimension ds) = ds
 declared_in _ = []
 
 -- those with dimensions
@@ -45,23 +45,23 @@ sizes q a = list_any (names q) (sized_in a)
 
 -- the type that a statement gives a name
 abbrev pub type_given : Text → Act → Option TypeWord
-type_given q (Types t ds) = if list_any (names q) ds then Some t else None
+type_given q (Typed t ds) = if list_any (names q) ds then Some t else None
 type_given q _ = None
 
 -- the number of dimensions, where there are some
-abbrev pub counted : List Par → Option ℕ
-counted [] = None
-counted (n ∷ ns) = Some (length (n ∷ ns))
+abbrev pub dimension_count : List Par → Option ℕ
+dimension_count [] = None
+dimension_count (n ∷ ns) = Some (length (n ∷ ns))
 
 -- the number of dimensions that a declaration gives a name
 abbrev pub count_by : Text → Declared → Option ℕ
-count_by q d = if names q d then counted d.sizes else None
+count_by q d = if names q d then dimension_count d.sizes else None
 
 -- all names that a statement lists, those in common blocks among them
 abbrev pub listed_in : Act → List Declared
-listed_in (Types t ds) = ds
-listed_in (Dimensions ds) = ds
-listed_in (Commons areas) = flat_map (λ a. a.list) areas
+listed_in (Typed t ds) = ds
+listed_in (Dimension ds) = ds
+listed_in (Common areas) = flat_map (λ a. a.list) areas
 listed_in _ = []
 
 -- the number of dimensions that a statement gives a name

@@ -7,22 +7,22 @@ use Rattle.f66_tree.specs.declared.expression.Operator.{Operator}
 use Rattle.f66_tree.specs.declared.expression.Operator.TheVariants.{Add, Sub, Mul, And, Or}
 use Rattle.f66_tree.specs.declared.editing.Way.{Way}
 use Rattle.f66_tree.specs.declared.editing.Way.TheVariants.{Reading, Writing}
-use Rattle.f66_tree.specs.Forms.{Text, Formula, Number, Fact, Letter, Variable, Applied, Grouped, Positive, Negative, Negated, Joined, Formulas, Nought, Also, Par, Constant, Named, Entry, One, Many, Entries, NoEntry, AndEntry, Act, Assigns, Selects, Signs, Chooses, Loops, Reads, Writes}
+use Rattle.f66_tree.specs.Syntax.{Text, Formula, Int, Truth, Letter, Ref, Item, Group, Plus, Minus, Not, Pair, Formulas, NoFormula, AndFormula, Par, Constant, Named, Entry, One, Many, Entries, NoEntry, AndEntry, Act, Assign, Computed, Sign, When, Loop, Read, Write}
 use Rattle.f66_tree.specs.Units.{Context, kind_of}
 use Rattle.f66_tree.specs.Built.{is_arithmetic}
 use Rattle.f66_names.specs.declared.name_form.NameForm.{NameForm}
 use Rattle.f66_names.specs.declared.name_form.NameForm.TheVariants as forms
-use Rattle.f66_names.specs.Sorts.{form_of, is_array, is_counter, is_integer}
+use Rattle.f66_names.specs.Sorts.{name_form, is_array_name, is_counter, is_integer}
 
 -- ---- subscripts: c*v+k, c*v-k, c*v, v+k, v-k, v or k ----
 
 abbrev pub is_number : Formula → Bool
-is_number (Number z) = true
+is_number (Int z) = true
 is_number _ = false
 
 -- an integer variable
 abbrev pub is_index : Context → Formula → Bool
-is_index c (Variable x) = is_counter c x
+is_index c (Ref x) = is_counter c x
 is_index c _ = false
 
 abbrev pub is_times : Operator → Bool
@@ -36,21 +36,21 @@ is_plus_or_minus _ = false
 
 -- v or c*v
 abbrev pub is_multiple : Context → Formula → Bool
-is_multiple c (Variable x) = is_counter c x
-is_multiple c (Joined op a b) = is_times op && (is_number a && is_index c b)
+is_multiple c (Ref x) = is_counter c x
+is_multiple c (Pair op a b) = is_times op && (is_number a && is_index c b)
 is_multiple c _ = false
 
 -- v or c*v, with a constant added or taken off
 abbrev pub is_shifted : Context → Formula → Bool
-is_shifted c (Joined op a b) = is_plus_or_minus op && (is_multiple c a && is_number b)
+is_shifted c (Pair op a b) = is_plus_or_minus op && (is_multiple c a && is_number b)
 is_shifted c _ = false
 
 abbrev pub is_subscript : Context → Formula → Bool
 is_subscript c e = is_number e || (is_multiple c e || is_shifted c e)
 
 abbrev pub are_subscripts : Context → Formulas → Bool
-are_subscripts c Nought = true
-are_subscripts c (Also e es) = is_subscript c e && are_subscripts c es
+are_subscripts c NoFormula = true
+are_subscripts c (AndFormula e es) = is_subscript c e && are_subscripts c es
 
 -- ---- the type of an expression ----
 
@@ -89,28 +89,28 @@ kind_applied forms.Plain k fit whole = None
 abbrev mutual
   -- the type of an expression, or None where its operands clash
   pub kind_in : Context → Formula → Option Kind
-  kind_in c (Number z) = Some Integer
-  kind_in c (Fact b) = Some Logical
+  kind_in c (Int z) = Some Integer
+  kind_in c (Truth b) = Some Logical
   kind_in c (Letter l) = None
-  kind_in c (Variable x) = when (not (is_array c x)) (kind_of c x)
-  kind_in c (Applied x es) = kind_applied (form_of c x) (kind_of c x) (are_subscripts c es) (are_integers c es)
-  kind_in c (Grouped a) = kind_in c a
-  kind_in c (Positive a) = when (is_kind Integer (kind_in c a)) Integer
-  kind_in c (Negative a) = when (is_kind Integer (kind_in c a)) Integer
-  kind_in c (Negated a) = when (is_kind Logical (kind_in c a)) Logical
-  kind_in c (Joined op a b) = when (is_kind (operand op) (kind_in c a) && is_kind (operand op) (kind_in c b)) (outcome op)
+  kind_in c (Ref x) = when (not (is_array_name c x)) (kind_of c x)
+  kind_in c (Item x es) = kind_applied (name_form c x) (kind_of c x) (are_subscripts c es) (are_integers c es)
+  kind_in c (Group a) = kind_in c a
+  kind_in c (Plus a) = when (is_kind Integer (kind_in c a)) Integer
+  kind_in c (Minus a) = when (is_kind Integer (kind_in c a)) Integer
+  kind_in c (Not a) = when (is_kind Logical (kind_in c a)) Logical
+  kind_in c (Pair op a b) = when (is_kind (operand op) (kind_in c a) && is_kind (operand op) (kind_in c b)) (outcome op)
 
   pub are_integers : Context → Formulas → Bool
-  are_integers c Nought = true
-  are_integers c (Also e es) = is_kind Integer (kind_in c e) && are_integers c es
+  are_integers c NoFormula = true
+  are_integers c (AndFormula e es) = is_kind Integer (kind_in c e) && are_integers c es
 
 -- ---- statements ----
 
 -- A target takes a value of this type. A whole array, and a name with parentheses that is no array, are no targets,
 -- which is another rule.
 abbrev pub takes_kind : Context → Formula → Kind → Bool
-takes_kind c (Variable x) k = is_array c x || same_kind (kind_of c x) k
-takes_kind c (Applied x es) k = not (is_array c x) || (are_subscripts c es && same_kind (kind_of c x) k)
+takes_kind c (Ref x) k = is_array_name c x || same_kind (kind_of c x) k
+takes_kind c (Item x es) k = not (is_array_name c x) || (are_subscripts c es && same_kind (kind_of c x) k)
 takes_kind c _ k = true
 
 abbrev pub is_counting : Context → Par → Bool
@@ -120,9 +120,9 @@ is_counting c (Named x) = is_counter c x
 -- An item is a variable, an array, or an element. A name with parentheses that is no array clashes in a WRITE; into one of a
 -- READ nothing can be stored, which is another rule.
 abbrev pub is_listed : Way → Context → Formula → Bool
-is_listed way c (Variable x) = true
-is_listed Writing c (Applied x es) = is_array c x && are_subscripts c es
-is_listed Reading c (Applied x es) = not (is_array c x) || are_subscripts c es
+is_listed way c (Ref x) = true
+is_listed Writing c (Item x es) = is_array_name c x && are_subscripts c es
+is_listed Reading c (Item x es) = not (is_array_name c x) || are_subscripts c es
 is_listed way c _ = true
 
 -- the variable and the parameters of a DO are integers
@@ -140,11 +140,11 @@ abbrev mutual
 
 -- the statement has an operand, a subscript, an argument or a value of another type than it asks for
 abbrev pub clashes : Context → Act → Bool
-clashes c (Assigns x e) = not (is_some_and (takes_kind c x) (kind_in c e))
-clashes c (Selects ls x) = not (is_counter c x)
-clashes c (Signs e l m k) = not (is_kind Integer (kind_in c e))
-clashes c (Chooses e a) = not (is_kind Logical (kind_in c e)) || clashes c a
-clashes c (Loops l x p q r) = not (counts c x p q r)
-clashes c (Reads u l es) = not (is_counting c u && are_entries Reading c es)
-clashes c (Writes u l es) = not (is_counting c u && are_entries Writing c es)
+clashes c (Assign x e) = not (is_some_and (takes_kind c x) (kind_in c e))
+clashes c (Computed ls x) = not (is_counter c x)
+clashes c (Sign e l m k) = not (is_kind Integer (kind_in c e))
+clashes c (When e a) = not (is_kind Logical (kind_in c e)) || clashes c a
+clashes c (Loop l x p q r) = not (counts c x p q r)
+clashes c (Read u l es) = not (is_counting c u && are_entries Reading c es)
+clashes c (Write u l es) = not (is_counting c u && are_entries Writing c es)
 clashes c _ = false

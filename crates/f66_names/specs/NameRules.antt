@@ -5,7 +5,7 @@ use Rattle.std.specs.Str.{bytes_eq}
 use Rattle.rule_table.specs.Words.{first_place, find_map, is_below, is_some_and, repeats}
 use Rattle.f66_tree.specs.declared.declaration.TypeWord.{TypeWord}
 use Rattle.f66_tree.specs.declared.declaration.TypeWord.TheVariants as words
-use Rattle.f66_tree.specs.Forms.{Text, Declared, Act, Types, Dimensions}
+use Rattle.f66_tree.specs.Syntax.{Text, Declared, Act, Typed, Dimension}
 use Rattle.f66_tree.specs.Units.{Context}
 use Rattle.f66_names.specs.declared.name_form.NameForm.{NameForm}
 use Rattle.f66_names.specs.declared.name_form.NameForm.TheVariants as forms
@@ -14,7 +14,7 @@ use Rattle.f66_names.specs.declared.name_form.Class.TheVariants.{Scalar, Functio
 use Rattle.f66_names.specs.declared.name_form.Manner.{Manner}
 use Rattle.f66_names.specs.declared.name_form.Manner.TheVariants.{Alone, With, Stored}
 use Rattle.f66_names.specs.Declaring.{types, sizes, typed_in, declared_in, sized_in, is_sized}
-use Rattle.f66_names.specs.Sorts.{form_of, type_of, takes}
+use Rattle.f66_names.specs.Sorts.{name_form, type_of, takes}
 use Rattle.f66_names.specs.Uses.{Usage, uses_in}
 
 -- a name passes a test that the statement declares or uses
@@ -31,7 +31,7 @@ is_other words.Other = true
 is_other _ = false
 
 abbrev pub gives_other : Act → Bool
-gives_other (Types t ds) = is_other t
+gives_other (Typed t ds) = is_other t
 gives_other _ = false
 
 abbrev pub has_other_type : Context → Act → Bool
@@ -42,8 +42,8 @@ abbrev pub has_many_sizes : Declared → Bool
 has_many_sizes d = nat_lt 3 (length d.sizes)
 
 abbrev pub has_wrong_sizes : Act → Bool
-has_wrong_sizes (Types t ds) = list_any has_many_sizes ds
-has_wrong_sizes (Dimensions ds) = list_any (λ d. not (is_sized d) || has_many_sizes d) ds
+has_wrong_sizes (Typed t ds) = list_any has_many_sizes ds
+has_wrong_sizes (Dimension ds) = list_any (λ d. not (is_sized d) || has_many_sizes d) ds
 has_wrong_sizes _ = false
 
 -- subscripts or arguments are too many or too few
@@ -54,7 +54,7 @@ miscounts_by (forms.Array m) (Stored n) = not (takes (forms.Array m) n)
 miscounts_by f (Stored n) = false
 
 abbrev pub miscounts : Context → Usage → Bool
-miscounts c u = miscounts_by (form_of c u.name) u.manner
+miscounts c u = miscounts_by (name_form c u.name) u.manner
 
 abbrev pub has_wrong_count : Context → Act → Bool
 has_wrong_count c a = has_wrong_sizes a || list_any (miscounts c) (uses_in a)
@@ -78,7 +78,7 @@ class_by (forms.Intrinsic a) (With n) = Some Function
 class_by f _ = None
 
 abbrev pub class_used : Context → Usage → Option Class
-class_used c u = class_by (form_of c u.name) u.manner
+class_used c u = class_by (name_form c u.name) u.manner
 
 abbrev pub class_given : Context → Text → Usage → Option Class
 class_given c q u = if bytes_eq q u.name then class_used c u else None

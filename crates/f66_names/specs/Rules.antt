@@ -3,7 +3,7 @@ use Rattle.std.specs.Prelude.{ℕ, Bool, false, not, List}
 use Rattle.ground.specs.declared.fault.FaultKind.{FaultKind}
 use Rattle.ground.specs.declared.fault.FaultKind.TheVariants.{Syntax, NameTooLong, OutOfProfileType, TypeClash, WrongCount, DuplicateName, BadConstant, BadFormat, NotAssignable, Limit}
 use Rattle.std.specs.List.{list_any}
-use Rattle.f66_tree.specs.Forms.{Act, Formula}
+use Rattle.f66_tree.specs.Syntax.{Act, Formula}
 use Rattle.f66_tree.specs.Units.{Context}
 use Rattle.f66_names.specs.Shapes.{has_shape, stands}
 use Rattle.f66_names.specs.Sorts.{type_of}

@@ -4,9 +4,10 @@ use Rattle.std.specs.List.{list_all}
 use Rattle.f66_tree.specs.declared.expression.Operator.{Operator}
 use Rattle.f66_tree.specs.declared.expression.Operator.TheVariants.{Add, Sub, Mul, Div, Power, And, Or}
 use Rattle.f66_tree.specs.Fields.{Step, Chars, Fields, NoField, Single, Group}
-use Rattle.f66_tree.specs.Forms.{Text, Formula, Number, Fact, Letter, Variable, Applied, Grouped, Positive, Negative, Negated, Joined, Formulas, Nought, Also, Par, Constant, Named, Declared, Entry, One, Many, Entries, NoEntry, AndEntry, Act, Assigns, Selects, Signs, Chooses, Loops, Stops, Reads, Writes, Formats, Types, Dimensions}
+use Rattle.f66_tree.specs.Syntax.{Text, Formula, Int, Truth, Letter, Ref, Item, Plus, Minus, Not, Pair, Formulas, NoFormula, AndFormula, Par, Constant, Named, Declared, Entry, One, Many, Entries, NoEntry, AndEntry, Act, Assign, Computed, Sign, When, Loop, Stop, Read, Write, Format, Typed, Dimension}
 use Rattle.f66_tree.specs.Units.{is_note}
 use Rattle.f66_tree.specs.Built.{is_constant}
+use Rattle.f66_tree.specs.Syntax as f66
 
 abbrev pub is_capital : ℕ → Bool
 is_capital c = nat_le 65 c && nat_le c 90
@@ -63,30 +64,30 @@ right_level _ = 4
 -- a text of the grammar at this level
 abbrev mutual
   pub stands : ℕ → Formula → Bool
-  stands n (Number z) = is_constant z
-  stands n (Fact b) = true
+  stands n (Int z) = is_constant z
+  stands n (Truth b) = true
   stands n (Letter c) = false
-  stands n (Variable x) = is_name x
-  stands n (Applied x es) = is_name x && are_arguments es
-  stands n (Grouped a) = stands 0 a
-  stands n (Positive a) = nat_le n 4 && stands 5 a
-  stands n (Negative a) = nat_le n 4 && stands 5 a
-  stands n (Negated a) = nat_le n 2 && stands 3 a
-  stands n (Joined op a b) = nat_le n (level op) && (stands (left_level op) a && stands (right_level op) b)
+  stands n (Ref x) = is_name x
+  stands n (Item x es) = is_name x && are_arguments es
+  stands n (f66.Group a) = stands 0 a
+  stands n (Plus a) = nat_le n 4 && stands 5 a
+  stands n (Minus a) = nat_le n 4 && stands 5 a
+  stands n (Not a) = nat_le n 2 && stands 3 a
+  stands n (Pair op a b) = nat_le n (level op) && (stands (left_level op) a && stands (right_level op) b)
 
   pub stand_all : Formulas → Bool
-  stand_all Nought = true
-  stand_all (Also e es) = stands 0 e && stand_all es
+  stand_all NoFormula = true
+  stand_all (AndFormula e es) = stands 0 e && stand_all es
 
   -- one expression or more
   pub are_arguments : Formulas → Bool
-  are_arguments Nought = false
-  are_arguments (Also e es) = stands 0 e && stand_all es
+  are_arguments NoFormula = false
+  are_arguments (AndFormula e es) = stands 0 e && stand_all es
 
 -- a variable, or a name with arguments or subscripts
 abbrev pub is_named : Formula → Bool
-is_named (Variable x) = true
-is_named (Applied x es) = true
+is_named (Ref x) = true
+is_named (Item x es) = true
 is_named _ = false
 
 abbrev pub is_place : Formula → Bool
@@ -135,8 +136,8 @@ are_declared (d ∷ ds) = list_all is_declared (d ∷ ds)
 
 -- an executable statement that is neither DO nor a logical IF (section 7.1.2.3)
 abbrev pub is_branch : Act → Bool
-is_branch (Chooses e a) = false
-is_branch (Loops l x a b c) = false
+is_branch (When e a) = false
+is_branch (Loop l x a b c) = false
 is_branch a = not (is_note a)
 
 -- five octal digits (section 7.1.2.7)
@@ -146,15 +147,15 @@ is_stop (Some n) = nat_le n 32767
 
 -- a statement of the grammar
 abbrev pub has_shape : Act → Bool
-has_shape (Assigns x e) = is_place x && stands 0 e
-has_shape (Selects ls x) = is_name x
-has_shape (Signs e l m k) = stands 0 e
-has_shape (Chooses e a) = stands 0 e && (is_branch a && has_shape a)
-has_shape (Loops l x a b c) = is_name x && (is_parameter a && (is_parameter b && is_parameter c))
-has_shape (Stops n) = is_stop n
-has_shape (Reads u l es) = is_parameter u && are_items es
-has_shape (Writes u l es) = is_parameter u && are_items es
-has_shape (Formats fs) = are_printed fs
-has_shape (Types t ds) = are_declared ds
-has_shape (Dimensions ds) = are_declared ds
+has_shape (Assign x e) = is_place x && stands 0 e
+has_shape (Computed ls x) = is_name x
+has_shape (Sign e l m k) = stands 0 e
+has_shape (When e a) = stands 0 e && (is_branch a && has_shape a)
+has_shape (Loop l x a b c) = is_name x && (is_parameter a && (is_parameter b && is_parameter c))
+has_shape (Stop n) = is_stop n
+has_shape (Read u l es) = is_parameter u && are_items es
+has_shape (Write u l es) = is_parameter u && are_items es
+has_shape (Format fs) = are_printed fs
+has_shape (Typed t ds) = are_declared ds
+has_shape (Dimension ds) = are_declared ds
 has_shape _ = true

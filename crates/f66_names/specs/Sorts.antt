@@ -3,7 +3,7 @@ use Rattle.std.specs.Prelude.{ℕ, Bool, true, false, not, ◌&&◌, ◌==◌, n
 use Rattle.ground.specs.declared.value.Kind.{Kind}
 use Rattle.ground.specs.declared.value.Kind.TheVariants as kinds
 use Rattle.f66_tree.specs.declared.declaration.TypeWord.{TypeWord}
-use Rattle.f66_tree.specs.Forms.{Text}
+use Rattle.f66_tree.specs.Syntax.{Text}
 use Rattle.f66_tree.specs.Units.{Context, type_in, by_header, kind_of}
 use Rattle.f66_tree.specs.Evaluation.{Sort, AnArray, AnIntrinsic, AFunction, Intrinsic, Iabs, Mod, Isign, Idim, Max0, Min0, sort_of}
 use Rattle.f66_names.specs.declared.name_form.Arity.{Arity}
@@ -24,15 +24,15 @@ form_by (AnArray ns) = forms.Array (length ns)
 form_by (AnIntrinsic f) = forms.Intrinsic (arity f)
 form_by AFunction = forms.Plain
 
-abbrev pub form_of : Context → Text → NameForm
-form_of c x = form_by (sort_of c x)
+abbrev pub name_form : Context → Text → NameForm
+name_form c x = form_by (sort_of c x)
 
 abbrev pub is_array_form : NameForm → Bool
 is_array_form (forms.Array n) = true
 is_array_form _ = false
 
-abbrev pub is_array : Context → Text → Bool
-is_array c x = is_array_form (form_of c x)
+abbrev pub is_array_name : Context → Text → Bool
+is_array_name c x = is_array_form (name_form c x)
 
 -- the type of a name, which may be outside the profile
 abbrev pub type_of : Context → Text → TypeWord
@@ -55,4 +55,4 @@ is_integer kinds.Logical = false
 
 -- an integer variable
 abbrev pub is_counter : Context → Text → Bool
-is_counter c x = not (is_array c x) && is_integer (kind_of c x)
+is_counter c x = not (is_array_name c x) && is_integer (kind_of c x)

@@ -4,10 +4,10 @@ use Rattle.std.specs.List.{list_any}
 use Rattle.f66_tree.specs.declared.editing.Way.{Way}
 use Rattle.f66_tree.specs.declared.editing.Way.TheVariants.{Reading, Writing}
 use Rattle.f66_tree.specs.Fields.{Step, Takes, Blanks, Chars, Slash, Fields, NoField, Single, Group}
-use Rattle.f66_tree.specs.Forms.{Formula, Variable, Applied, Par, Constant, Named, Declared, Entry, One, Many, Entries, NoEntry, AndEntry, Act, Assigns, Chooses, Loops, Reads, Writes, Formats}
+use Rattle.f66_tree.specs.Syntax.{Formula, Ref, Item, Par, Constant, Named, Declared, Entry, One, Many, Entries, NoEntry, AndEntry, Act, Assign, When, Loop, Read, Write, Format}
 use Rattle.f66_tree.specs.Units.{Context, places_of}
 use Rattle.f66_names.specs.Declaring.{declared_in}
-use Rattle.f66_names.specs.Sorts.{is_array}
+use Rattle.f66_names.specs.Sorts.{is_array_name}
 
 -- a dimension of zero, or one that is a name: in a main unit no dimension is adjustable
 abbrev pub is_bad_size : Par → Bool
@@ -40,24 +40,24 @@ are_fit zero (Group n inside fs) = false
 are_fit (suc deep) (Group n inside fs) = is_between 1 999 n && (are_fit deep inside && are_fit (suc deep) fs)
 
 -- groups nest at most two deep inside the outer parentheses
-abbrev pub is_format : Fields → Bool
-is_format fs = are_fit 2 fs
+abbrev pub is_sound_format : Fields → Bool
+is_sound_format fs = are_fit 2 fs
 
 abbrev pub has_bad_format : Act → Bool
-has_bad_format (Formats fs) = not (is_format fs)
+has_bad_format (Format fs) = not (is_sound_format fs)
 has_bad_format _ = false
 
 -- ---- stores ----
 
 -- a variable or an element, and no whole array
 abbrev pub is_assignable : Context → Formula → Bool
-is_assignable c (Variable x) = not (is_array c x)
-is_assignable c (Applied x es) = is_array c x
+is_assignable c (Ref x) = not (is_array_name c x)
+is_assignable c (Item x es) = is_array_name c x
 is_assignable c _ = false
 
 -- into what is read something is stored: a variable, an array, or an element
 abbrev pub is_readable : Context → Formula → Bool
-is_readable c (Applied x es) = is_array c x
+is_readable c (Item x es) = is_array_name c x
 is_readable c _ = true
 
 abbrev pub stores_item : Way → Context → Formula → Bool
@@ -68,18 +68,18 @@ stores_item Writing c e = true
 abbrev mutual
   pub stores_entry : Way → Context → Entry → Bool
   stores_entry way c (One e) = stores_item way c e
-  stores_entry way c (Many es x p q r) = store_entries way c es && not (is_array c x)
+  stores_entry way c (Many es x p q r) = store_entries way c es && not (is_array_name c x)
 
   pub store_entries : Way → Context → Entries → Bool
   store_entries way c NoEntry = true
   store_entries way c (AndEntry e es) = stores_entry way c e && store_entries way c es
 
 abbrev pub stores_wrong : Context → Act → Bool
-stores_wrong c (Assigns x e) = not (is_assignable c x)
-stores_wrong c (Loops l x p q r) = is_array c x
-stores_wrong c (Chooses e a) = stores_wrong c a
-stores_wrong c (Reads u l es) = not (store_entries Reading c es)
-stores_wrong c (Writes u l es) = not (store_entries Writing c es)
+stores_wrong c (Assign x e) = not (is_assignable c x)
+stores_wrong c (Loop l x p q r) = is_array_name c x
+stores_wrong c (When e a) = stores_wrong c a
+stores_wrong c (Read u l es) = not (store_entries Reading c es)
+stores_wrong c (Write u l es) = not (store_entries Writing c es)
 stores_wrong c _ = false
 
 -- ---- sizes ----

@@ -2,7 +2,7 @@
 ghost use Rattle.std.specs.Prelude.{◌≡◌, ◌&&◌};
 ghost use Rattle.f66_tree.specs.Fields.{NoField, Group};
 ghost use Rattle.f66_tree.specs.Views.{field_then, fields_of, act_of};
-ghost use Rattle.f66_names.specs.StoreRules.{is_between, are_fit, is_format, has_bad_format};
+ghost use Rattle.f66_names.specs.StoreRules.{is_between, are_fit, is_sound_format, has_bad_format};
 
 use f66_tree::{Field, StmtKind};
 
@@ -17,7 +17,7 @@ pub fn has_bad_format(kind: &StmtKind) -> bool
 }
 
 fn is_format(fields: &[Field]) -> bool
-    ensures { result ≡ is_format (fields_of fields.now) }
+    ensures { result ≡ is_sound_format (fields_of fields.now) }
 {
     are_fit(2, fields)
 }

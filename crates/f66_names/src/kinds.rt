@@ -2,7 +2,7 @@
 ghost use Rattle.std.specs.Prelude.{◌≡◌};
 ghost use Rattle.rule_table.specs.Words.{is_some_and};
 ghost use Rattle.f66_tree.specs.Views.{formula_of, formulas_of, par_of, entry_of, entries_of, act_of};
-ghost use Rattle.f66_tree.specs.Forms.{Applied, Many};
+ghost use Rattle.f66_tree.specs.Syntax.{Item, Many};
 ghost use Rattle.f66_tree.specs.Built.{is_arithmetic};
 ghost use Rattle.f66_names.specs.Kinds.{is_number, is_index, is_times, is_plus_or_minus, is_multiple, is_shifted, is_subscript, are_subscripts, same_kind, is_kind, is_connective, operand, outcome, when, kind_applied, kind_in, are_integers, takes_kind, is_counting, is_listed, counts, is_entry, are_entries, clashes};
 ghost use Rattle.f66_names.specs.DeclarationViews.{context_in};
@@ -87,7 +87,7 @@ fn kind_in(declarations: &Declarations, e: &Expr) -> Option<Kind>
 
 #[cycle(kind_in)]
 fn kind_of_item(declarations: &Declarations, name: &Name, list: &[Expr]) -> Option<Kind>
-    ensures { result ≡ kind_in (context_in declarations.now) (Applied name.now (formulas_of list.now)) }
+    ensures { result ≡ kind_in (context_in declarations.now) (Item name.now (formulas_of list.now)) }
 {
     let fit = are_subscripts(declarations, list);
     let whole = are_integers(declarations, list);
@@ -278,7 +278,7 @@ fn takes_kind(declarations: &Declarations, target: &Expr, kind: Kind) -> bool
 }
 
 fn takes_element(declarations: &Declarations, name: &Name, list: &[Expr], kind: Kind) -> bool
-    ensures { result ≡ takes_kind (context_in declarations.now) (Applied name.now (formulas_of list.now)) kind }
+    ensures { result ≡ takes_kind (context_in declarations.now) (Item name.now (formulas_of list.now)) kind }
 {
     !is_array(declarations, name)
         || (are_subscripts(declarations, list) && same_kind(kind_of(declarations, name), kind))
@@ -304,7 +304,7 @@ fn is_listed(way: Way, declarations: &Declarations, e: &Expr) -> bool
 
 /// Whether it is an element, or into what is none is read, which is another rule.
 fn is_listed_element(way: Way, declarations: &Declarations, name: &Name, list: &[Expr]) -> bool
-    ensures { result ≡ is_listed way (context_in declarations.now) (Applied name.now (formulas_of list.now)) }
+    ensures { result ≡ is_listed way (context_in declarations.now) (Item name.now (formulas_of list.now)) }
 {
     match way {
         Way::Writing => is_array(declarations, name) && are_subscripts(declarations, list),

@@ -1,7 +1,7 @@
 // The rule with the smallest number that a statement breaks, or a part of one.
 ghost use Rattle.std.specs.Prelude.{◌≡◌, ℕ, map, not, IfOk};
 ghost use Rattle.rule_table.specs.FaultRules.{first_rule};
-ghost use Rattle.f66_tree.specs.Forms.{Signs, Chooses, Loops, Passes};
+ghost use Rattle.f66_tree.specs.Syntax.{Sign, When, Loop, Continue};
 ghost use Rattle.f66_tree.specs.Views.{formula_of, par_of, act_of};
 ghost use Rattle.f66_names.specs.Uses.{uses_in, uses_of};
 ghost use Rattle.f66_names.specs.ActViews.{act_said};
@@ -100,7 +100,7 @@ pub fn condition_rule(
     e: &Expr,
 ) -> Result<Option<FaultKind>, AllocError>
     ensures { IfOk result
-        (λ o. (i : ℕ) → o ≡ first_rule (breaks_name (context_in names.now.declarations) (acts_in names.now.declarations) i (Chooses (formula_of e.now) Passes))) }
+        (λ o. (i : ℕ) → o ≡ first_rule (breaks_name (context_in names.now.declarations) (acts_in names.now.declarations) i (When (formula_of e.now) Continue))) }
 {
     let fits = has_kind(&names.declarations, Kind::Logical, e);
     expression_rule(alloc, names, fits, e)
@@ -109,7 +109,7 @@ pub fn condition_rule(
 /// What an integer value breaks, as that of an arithmetic IF (section 7.1.2.2).
 pub fn value_rule(alloc: Global, names: &Names, e: &Expr) -> Result<Option<FaultKind>, AllocError>
     ensures { IfOk result
-        (λ o. (i l m k : ℕ) → o ≡ first_rule (breaks_name (context_in names.now.declarations) (acts_in names.now.declarations) i (Signs (formula_of e.now) l m k))) }
+        (λ o. (i l m k : ℕ) → o ≡ first_rule (breaks_name (context_in names.now.declarations) (acts_in names.now.declarations) i (Sign (formula_of e.now) l m k))) }
 {
     let fits = has_kind(&names.declarations, Kind::Integer, e);
     expression_rule(alloc, names, fits, e)
@@ -158,7 +158,7 @@ pub fn counting_rule(
 ) -> Result<Option<FaultKind>, AllocError>
     ensures { IfOk result
         (λ o. (i l : ℕ) → o ≡ first_rule (breaks_name (context_in names.now.declarations) (acts_in names.now.declarations) i
-        (Loops l variable.now (par_of first.now) (par_of last.now) (par_of step.now)))) }
+        (Loop l variable.now (par_of first.now) (par_of last.now) (par_of step.now)))) }
 {
     let uses = uses_of_counting(alloc, variable, first, last, step)?;
     if !is_counting(variable, first, last, step) {

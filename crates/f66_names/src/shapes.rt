@@ -3,7 +3,7 @@ ghost use Rattle.std.specs.Prelude.{◌≡◌, ◌&&◌, ◌||◌, map};
 ghost use Rattle.std.specs.List.{list_all};
 ghost use Rattle.f66_tree.specs.Views.{formula_of, formulas_of, par_of, declared_of, entry_of, entries_of, field_then, fields_of, act_of};
 ghost use Rattle.f66_tree.specs.Fields.{NoField};
-ghost use Rattle.f66_tree.specs.Forms.{Many};
+ghost use Rattle.f66_tree.specs.Syntax.{Many};
 ghost use Rattle.f66_tree.specs.Built.{is_constant};
 ghost use Rattle.f66_names.specs.Shapes.{is_capital, is_digit, is_name, level, left_level, right_level, stands, stand_all, are_arguments, is_named, is_place, is_parameter, is_item, are_items, are_some_items, is_printed, are_printed, is_declared, are_declared, is_branch, is_stop, has_shape};
 

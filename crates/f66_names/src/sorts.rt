@@ -4,7 +4,7 @@ ghost use Rattle.std.specs.Str.{bytes_eq};
 ghost use Rattle.f66_tree.specs.Units.{by_header, by_letter, kind_by, kind_of};
 ghost use Rattle.f66_tree.specs.Views.{header_of};
 ghost use Rattle.f66_tree.specs.Evaluation.{known, intrinsics};
-ghost use Rattle.f66_names.specs.Sorts.{form_by, form_of, is_array, type_of, takes_many, takes, is_integer, is_counter};
+ghost use Rattle.f66_names.specs.Sorts.{form_by, name_form, is_array_name, type_of, takes_many, takes, is_integer, is_counter};
 ghost use Rattle.f66_names.specs.DeclarationViews.{context_in};
 
 use crate::declarations::Declarations;
@@ -14,7 +14,7 @@ use ground::Kind;
 
 /// What a name is: an array, an intrinsic function, or something else.
 pub fn form_of(declarations: &Declarations, name: &Name) -> NameForm
-    ensures { result ≡ form_of (context_in declarations.now) name.now }
+    ensures { result ≡ name_form (context_in declarations.now) name.now }
 {
     match declarations.counts.get(name.as_bytes()) {
         Some(count) => NameForm::Array(*count),
@@ -23,7 +23,7 @@ pub fn form_of(declarations: &Declarations, name: &Name) -> NameForm
 }
 
 pub fn is_array(declarations: &Declarations, name: &Name) -> bool
-    ensures { result ≡ is_array (context_in declarations.now) name.now }
+    ensures { result ≡ is_array_name (context_in declarations.now) name.now }
 {
     matches!(form_of(declarations, name), NameForm::Array(_))
 }

@@ -2,7 +2,7 @@
 ghost use Rattle.std.specs.Prelude.{◌≡◌, ◌≤◌, ◌*◌, map, min};
 ghost use Rattle.std.specs.List.{list_any};
 ghost use Rattle.f66_tree.specs.Views.{formula_of, par_of, declared_of, entry_of, entries_of, act_of};
-ghost use Rattle.f66_tree.specs.Forms.{Par as Bounded, Many};
+ghost use Rattle.f66_tree.specs.Syntax.{Par as Bounded, Many};
 ghost use Rattle.f66_names.specs.StoreRules.{is_bad_size, has_bad_size, has_bad_constant, is_assignable, is_readable, stores_item, stores_entry, store_entries, stores_wrong, is_large, has_large_array, capped_size};
 ghost use Rattle.f66_names.specs.DeclarationViews.{context_in};
 

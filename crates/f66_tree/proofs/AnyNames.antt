@@ -1,7 +1,7 @@
 -- Where a relation does not rest on what names are used: every name may be, and every spot may come of it.
 use Rattle.std.proofs.Common.{List, [], ◌∷◌}
 use Rattle.std.specs.Prelude.{⊤}
-use Rattle.f66_tree.specs.Forms.{Text, Formula, Number, Fact, Letter, Variable, Applied, Grouped, Positive, Negative, Negated, Joined, Formulas, Nought, Also, Par, Constant, Named, Entry, One, Many, Entries, NoEntry, AndEntry, Act, Assigns, Goes, Selects, Signs, Chooses, Loops, Invokes, Passes, Stops, Returns, Reads, Writes, Formats, Types, Dimensions, Commons, Equivalences, Presets, Line}
+use Rattle.f66_tree.specs.Syntax.{Text, Formula, Int, Truth, Letter, Ref, Item, Group, Plus, Minus, Not, Pair, Formulas, NoFormula, AndFormula, Par, Constant, Named, Entry, One, Many, Entries, NoEntry, AndEntry, Act, Assign, Goto, Computed, Sign, When, Loop, Invoke, Continue, Stop, Return, Read, Write, Format, Typed, Dimension, Common, Equivalence, Preset, Line}
 use Rattle.f66_tree.specs.Units.{sizes_of, Spot, Linkage}
 use Rattle.f66_tree.specs.Uses.{Names, NamesOfAll, NameOfPar, NamesOfPars, NamesOfEntry, NamesOfEntries, NamesOfAct, NamesOfLines}
 use Rattle.f66_tree.proofs.Posts.{AllFair, IsScope}
@@ -14,20 +14,20 @@ AnySpot p = ⊤
 
 mutual
   pub any_names : (e : Formula) → Names Any e
-  any_names (Number z) = tt
-  any_names (Fact b) = tt
+  any_names (Int z) = tt
+  any_names (Truth b) = tt
   any_names (Letter c) = tt
-  any_names (Variable x) = tt
-  any_names (Applied x es) = (tt, any_all es)
-  any_names (Grouped a) = any_names a
-  any_names (Positive a) = any_names a
-  any_names (Negative a) = any_names a
-  any_names (Negated a) = any_names a
-  any_names (Joined op a b) = (any_names a, any_names b)
+  any_names (Ref x) = tt
+  any_names (Item x es) = (tt, any_all es)
+  any_names (Group a) = any_names a
+  any_names (Plus a) = any_names a
+  any_names (Minus a) = any_names a
+  any_names (Not a) = any_names a
+  any_names (Pair op a b) = (any_names a, any_names b)
 
   pub any_all : (es : Formulas) → NamesOfAll Any es
-  any_all Nought = tt
-  any_all (Also e es) = (any_names e, any_all es)
+  any_all NoFormula = tt
+  any_all (AndFormula e es) = (any_names e, any_all es)
 
 pub any_par : (n : Par) → NameOfPar Any n
 any_par (Constant z) = tt
@@ -47,24 +47,24 @@ mutual
   any_entries (AndEntry e es) = (any_entry e, any_entries es)
 
 pub any_act : (a : Act) → NamesOfAct Any a
-any_act (Assigns x e) = (any_names x, any_names e)
-any_act (Goes m) = tt
-any_act (Selects ls x) = tt
-any_act (Signs e n m k) = any_names e
-any_act (Chooses e a) = (any_names e, any_act a)
-any_act (Loops m x a b c) = (tt, any_par a, any_par b, any_par c)
-any_act (Invokes x es) = (tt, any_all es)
-any_act Passes = tt
-any_act (Stops n) = tt
-any_act Returns = tt
-any_act (Reads u m es) = (any_par u, any_entries es)
-any_act (Writes u m es) = (any_par u, any_entries es)
-any_act (Formats fs) = tt
-any_act (Types t ds) = tt
-any_act (Dimensions ds) = tt
-any_act (Commons areas) = tt
-any_act (Equivalences es) = tt
-any_act (Presets ps) = tt
+any_act (Assign x e) = (any_names x, any_names e)
+any_act (Goto m) = tt
+any_act (Computed ls x) = tt
+any_act (Sign e n m k) = any_names e
+any_act (When e a) = (any_names e, any_act a)
+any_act (Loop m x a b c) = (tt, any_par a, any_par b, any_par c)
+any_act (Invoke x es) = (tt, any_all es)
+any_act Continue = tt
+any_act (Stop n) = tt
+any_act Return = tt
+any_act (Read u m es) = (any_par u, any_entries es)
+any_act (Write u m es) = (any_par u, any_entries es)
+any_act (Format fs) = tt
+any_act (Typed t ds) = tt
+any_act (Dimension ds) = tt
+any_act (Common areas) = tt
+any_act (Equivalence es) = tt
+any_act (Preset ps) = tt
 
 pub any_lines : (ss : List Line) → NamesOfLines Any ss
 any_lines [] = tt

@@ -4,7 +4,7 @@ use Rattle.std.specs.Str.{bytes_eq}
 use Rattle.ground.specs.declared.place.Place.{Place}
 use Rattle.f66_tree.specs.declared.editing.EditKind.TheVariants as edits
 use Rattle.f66_tree.specs.Fields.{NoField, Single, Takes}
-use Rattle.f66_tree.specs.Forms.{Text, Formula, Number, Variable, Applied, Nought, Also, Constant, Header, MainUnit, One, Entries, NoEntry, AndEntry, Act, Assigns, Writes, Reads, Formats, Line, marked}
+use Rattle.f66_tree.specs.Syntax.{Text, Formula, Int, Ref, Item, NoFormula, AndFormula, Constant, Header, MainUnit, One, Entries, NoEntry, AndEntry, Act, Assign, Write, Read, Format, Line, labelled_line}
 use Rattle.f66_tree.specs.World.{fresh, Shown}
 use Rattle.f66_tree.specs.Units.{notes_of, name_of, Linkage}
 use Rattle.f66_tree.specs.Execution.{f66}
@@ -27,31 +27,31 @@ n = codes "N"
 
 -- a constant, a variable, and an element or value of a name with one argument
 abbrev pub num : ℤ → Formula
-num z = Number z
+num z = Int z
 
 abbrev pub var : Text → Formula
-var x = Variable x
+var x = Ref x
 
 abbrev pub with_one : Text → Formula → Formula
-with_one x a = Applied x (Also a Nought)
+with_one x a = Item x (AndFormula a NoFormula)
 
 abbrev pub set : Text → Formula → Act
-set x a = Assigns (Variable x) a
+set x a = Assign (Ref x) a
 
 -- WRITE (6,9) and READ (5,9) of some variables
 abbrev pub items : List Text → Entries
 items [] = NoEntry
-items (x ∷ xs) = AndEntry (One (Variable x)) (items xs)
+items (x ∷ xs) = AndEntry (One (Ref x)) (items xs)
 
 abbrev pub write : List Text → Act
-write xs = Writes (Constant (pos 6)) 9 (items xs)
+write xs = Write (Constant (pos 6)) 9 (items xs)
 
 abbrev pub read : List Text → Act
-read xs = Reads (Constant (pos 5)) 9 (items xs)
+read xs = Read (Constant (pos 5)) 9 (items xs)
 
 -- 9 FORMAT (I3)
 abbrev pub i3 : Line
-i3 = marked 9 (here 99) (Formats (Single 1 (Takes edits.Whole 3) NoField))
+i3 = labelled_line 9 (here 99) (Format (Single 1 (Takes edits.Whole 3) NoField))
 
 abbrev pub letter : Text → ℕ
 letter [] = 0

@@ -5,21 +5,21 @@ use Rattle.std.specs.Fmt.{digits}
 use Rattle.ground.specs.declared.trap.Trap.TheVariants.{Undefined, EndOfInput, BadField, BadUnit, FormatMismatch, LongRecord, Subscript, BadCharacter}
 use Rattle.f66_tree.specs.declared.editing.EditKind.TheVariants as edits
 use Rattle.f66_tree.specs.Fields.{Fields, NoField, Single, Group, Takes, Blanks, Chars, Slash}
-use Rattle.f66_tree.specs.Forms.{Text, Constant, One, Many, NoEntry, AndEntry, Entries, Writes, Reads, Formats, Dimensions, Stops, Line, bare, marked}
+use Rattle.f66_tree.specs.Syntax.{Text, Constant, One, Many, NoEntry, AndEntry, Entries, Write, Read, Format, Dimension, Stop, Line, unlabelled_line, labelled_line}
 use Rattle.f66_tree.specs.World.{Shown, Ended, Done, Trapped, GoesOn}
 use Rattle.f66_tree.proofs.ExampleParts.{here, i, k, m, n, num, var, with_one, set, items, write, read, i3, main, runs}
 
 abbrev format : Fields → Line
-format fs = marked 9 (here 99) (Formats fs)
+format fs = labelled_line 9 (here 99) (Format fs)
 
 abbrev whole : ℕ → Fields → Fields
 whole w fs = Single 1 (Takes edits.Whole w) fs
 
 abbrev three : List Line
-three = bare (here 1) (set k (num (pos 1))) ∷ bare (here 2) (set m (num (pos 2))) ∷ bare (here 3) (set n (num (pos 3))) ∷ []
+three = unlabelled_line (here 1) (set k (num (pos 1))) ∷ unlabelled_line (here 2) (set m (num (pos 2))) ∷ unlabelled_line (here 3) (set n (num (pos 3))) ∷ []
 
 abbrev written_by : Fields → List Text → Shown
-written_by fs xs = runs (main (bare (here 1) (set k (num (pos 1))) ∷ bare (here 2) (set m (num (pos 2))) ∷ bare (here 3) (set n (num (pos 3))) ∷ bare (here 4) (write xs) ∷ format fs ∷ bare (here 5) (Stops None) ∷ [])) [] 20
+written_by fs xs = runs (main (unlabelled_line (here 1) (set k (num (pos 1))) ∷ unlabelled_line (here 2) (set m (num (pos 2))) ∷ unlabelled_line (here 3) (set n (num (pos 3))) ∷ unlabelled_line (here 4) (write xs) ∷ format fs ∷ unlabelled_line (here 5) (Stop None) ∷ [])) [] 20
 
 -- FORMAT (I3,(I2)) with three items: control goes back to the group
 returns : (written_by (whole 3 (Group 1 (whole 2 NoField) NoField)) (k ∷ m ∷ n ∷ [])).records ≡ codes "  1 2" ∷ codes " 3" ∷ []
@@ -62,7 +62,7 @@ no_character : (written_by (Single 1 (Takes edits.Letter 1) NoField) (k ∷ []))
 no_character = refl
 
 abbrev read_by : Fields → List Text → List Text → Shown
-read_by fs xs input = runs (main (bare (here 1) (read xs) ∷ format fs ∷ bare (here 2) (write xs) ∷ bare (here 3) (Stops None) ∷ [])) input 20
+read_by fs xs input = runs (main (unlabelled_line (here 1) (read xs) ∷ format fs ∷ unlabelled_line (here 2) (write xs) ∷ unlabelled_line (here 3) (Stop None) ∷ [])) input 20
 
 -- blanks within a field are zeros, and a sign with blanks behind it is zero
 reads : (read_by (Single 2 (Takes edits.Whole 3) NoField) (k ∷ m ∷ []) (codes "1 2-" ∷ [])).records ≡ codes "102  0" ∷ []
@@ -80,14 +80,14 @@ text_in_read : (read_by (Single 1 (Chars (codes "NO")) NoField) [] (codes "NO" �
 text_in_read = refl
 
 -- READ (6,9): the unit is tested before a record is taken
-wrong_unit : (runs (main (bare (here 1) (Reads (Constant (pos 6)) 9 (items (k ∷ []))) ∷ i3 ∷ [])) [] 5).end ≡ Ended (Trapped BadUnit (here 1))
+wrong_unit : (runs (main (unlabelled_line (here 1) (Read (Constant (pos 6)) 9 (items (k ∷ []))) ∷ i3 ∷ [])) [] 5).end ≡ Ended (Trapped BadUnit (here 1))
 wrong_unit = refl
 
 -- DIMENSION M(3); READ M with (3I1); WRITE (M(I),I=2,3)
 abbrev array : Entries → List Line
 array es =
-    bare (here 1) (Dimensions (record { name = m; sizes = Constant (pos 3) ∷ [] } ∷ [])) ∷ format (Single 3 (Takes edits.Whole 1) NoField)
-    ∷ bare (here 2) (read (m ∷ [])) ∷ bare (here 3) (Writes (Constant (pos 6)) 9 es) ∷ bare (here 4) (Stops None) ∷ []
+    unlabelled_line (here 1) (Dimension (record { name = m; sizes = Constant (pos 3) ∷ [] } ∷ [])) ∷ format (Single 3 (Takes edits.Whole 1) NoField)
+    ∷ unlabelled_line (here 2) (read (m ∷ [])) ∷ unlabelled_line (here 3) (Write (Constant (pos 6)) 9 es) ∷ unlabelled_line (here 4) (Stop None) ∷ []
 
 abbrev elements : ℕ → ℕ → Entries
 elements a b = AndEntry (Many (AndEntry (One (with_one m (var i))) NoEntry) i (Constant (pos a)) (Constant (pos b)) (Constant (pos 1))) NoEntry

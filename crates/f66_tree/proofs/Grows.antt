@@ -3,12 +3,12 @@ use Rattle.std.proofs.Common.{Bool, true, false, ℕ, zero, suc, List, [], ◌�
 use Rattle.std.specs.Prelude.{⊤}
 use Rattle.ground.specs.declared.place.Place.{Place}
 use Rattle.ground.specs.Content.{Content}
-use Rattle.f66_tree.specs.Forms.{Text, Line}
+use Rattle.f66_tree.specs.Syntax.{Text, Line}
 use Rattle.f66_tree.specs.World.{Record, State, Tape, World, Out, Gives, Halts, bind, Try, Yields, Traps, Fails, IfYields, Move, Moves, Breaks, Misses, AfterMove, settle, moving, holding, taping, take_one, take_from, IsPrefix, choose}
 use Rattle.f66_tree.specs.FirstLaws.{Keeps}
 use Rattle.f66_tree.specs.Units.{Spot, Held, Lent, Linkage, Setting, Frame, is_main, around, moved_to}
 use Rattle.f66_tree.specs.Evaluation.{ticked, stored}
-use Rattle.f66_tree.specs.Statements.{Loop, loop_turn, item_turns}
+use Rattle.f66_tree.specs.Statements.{LoopParameters, loop_turn, item_turns}
 use Rattle.f66_tree.specs.Execution.{Stand, stand, Onward, Progress, fetch, past_end, runnable, no_loops, nowhere, target, exec}
 use Rattle.f66_tree.proofs.Prefixes.{prefix_self, prefix_in}
 use Rattle.f66_tree.proofs.Posts.{IfGives}
@@ -98,10 +98,10 @@ module _ (l : Linkage) (call : ℕ → List Spot → World → Out ⊤) (begin :
   fine : (f : Frames) → Good alone f
   fine f = record { places = tt; actuals = any_fair f.actuals }
 
-  pub turn_grows : (f : Frames) (x : Text) (k : Loop) → Grows _ (loop_turn s (record { unit = f.unit; actuals = f.actuals; place = f.there }) x k)
+  pub turn_grows : (f : Frames) (x : Text) (k : LoopParameters) → Grows _ (loop_turn s (record { unit = f.unit; actuals = f.actuals; place = f.there }) x k)
   turn_grows f x k = turn_holds ⊤ alone G grows_hold f (fine f) x tt k
 
-  pub many_grow : (n : ℕ) (f : Frames) (x : Text) (k : Loop) (body : World → Out ⊤) → Grows ⊤ body → Grows ⊤ (item_turns n s (record { unit = f.unit; actuals = f.actuals; place = f.there }) x k body)
+  pub many_grow : (n : ℕ) (f : Frames) (x : Text) (k : LoopParameters) (body : World → Out ⊤) → Grows ⊤ body → Grows ⊤ (item_turns n s (record { unit = f.unit; actuals = f.actuals; place = f.there }) x k body)
   many_grow zero f x k body h w = prefix_self w.state.tape.written
   many_grow (suc n) f x k body h w =
       bind_grows w (begin w) _ (begins w) (λ _ w1. bind_grows w1 (body w1) _ (h w1) (λ _ w2.

@@ -5,12 +5,12 @@ use Rattle.std.specs.Prelude.{⊤}
 use Rattle.ground.specs.declared.place.Place.{Place}
 use Rattle.ground.specs.declared.trap.Trap.{Trap}
 use Rattle.ground.specs.Content.{Content}
-use Rattle.f66_tree.specs.Forms.{Text, Line}
+use Rattle.f66_tree.specs.Syntax.{Text, Line}
 use Rattle.f66_tree.specs.World.{Record, State, Tape, World, taping, Trapped, End, Ended, GoesOn, Lost, Out, Gives, Halts, bind, Try, Yields, Traps, Fails, Move, Moves, Breaks, Misses, settle, moving, holding, take_one, IsPrefix, choose, shown}
 use Rattle.f66_tree.specs.Units.{Spot, Held, Lent, Linkage, Setting, Frame, is_main}
 use Rattle.f66_tree.specs.Evaluation.{asked, held, stored, store_at}
-use Rattle.f66_tree.specs.Statements.{Loop, loop_turn, taped, took, item_turns}
-use Rattle.f66_tree.specs.Execution.{Stand, stand, Onward, Progress, fetch, past_end, runnable, no_loops, nowhere, start, target, exec, f66}
+use Rattle.f66_tree.specs.Statements.{LoopParameters, loop_turn, taped, taken_content, item_turns}
+use Rattle.f66_tree.specs.Execution.{Stand, stand, Onward, Progress, fetch, past_end, runnable, no_loops, nowhere, first_state, target, exec, f66}
 use Rattle.f66_tree.specs.Laws.{Extends}
 use Rattle.f66_tree.proofs.Prefixes.{prefix_self, prefix_in}
 use Rattle.f66_tree.proofs.Posts.{IfGives}
@@ -135,7 +135,7 @@ module _ (l : Linkage) (call1 call2 : ℕ → List Spot → World → Out ⊤) (
     loads = λ f g k p fair. record { grows = grow2.loads f (free f) k p tt; longer = λ s j c le. moved_there f g (λ q. LongerBy e j (settle f.here (asked k (held l p s.store)) (at s j c)) (settle q (asked k (held l p s.store)) (at s (j + e) c))) (settle_longer e j f.here (asked k (held l p s.store)) s c) };
     stores = λ f g p fair v. record { grows = grow2.stores f (free f) p tt v; longer = λ s j c le. moved_there f g (λ q. LongerBy e j (store_at s1 (here f) p v (at s j c)) (bind (settle q (stored l p v s.store) (at s (j + e) c)) (λ st w1. Gives tt (holding st w1)))) (store_longer l e j f.here p v s c) };
     tapes = λ f g h step. record { grows = grow2.tapes f (free f) h step; longer = λ s j c le. moved_there f g (λ q. LongerBy e j (taped f.here h (at s j c)) (taped q h (at s (j + e) c))) (taped_longer e j f.here (h s.tape) s c) };
-    takes = λ f g h step. record { grows = grow2.takes f (free f) h step; longer = λ s j c le. moved_there f g (λ q. LongerBy e j (took f.here h (at s j c)) (took q h (at s (j + e) c))) (took_longer e j f.here (h s.tape) s c) };
+    takes = λ f g h step. record { grows = grow2.takes f (free f) h step; longer = λ s j c le. moved_there f g (λ q. LongerBy e j (taken_content f.here h (at s j c)) (taken_content q h (at s (j + e) c))) (took_longer e j f.here (h s.tape) s c) };
     ticks = λ h. record { grows = h.grows; longer = h.longer };
     calls = λ u x v ps used eq fair. record { grows = grows2 v ps; longer = calls v ps };
   }
@@ -155,7 +155,7 @@ module _ (l : Linkage) (call1 call2 : ℕ → List Spot → World → Out ⊤) (
   abbrev there : Frames → Frame
   there f = record { unit = f.unit; actuals = f.actuals; place = f.there }
 
-  many_longer : (f : Frames) → Good short_and_long f → (x : Text) (lp : Loop) (b1 b2 : World → Out ⊤) → Grows ⊤ b2 → ((s : State) (k c : ℕ) → k ≤ m → LongerBy e k (b1 (at s k c)) (b2 (at s (k + e) c))) →
+  many_longer : (f : Frames) → Good short_and_long f → (x : Text) (lp : LoopParameters) (b1 b2 : World → Out ⊤) → Grows ⊤ b2 → ((s : State) (k c : ℕ) → k ≤ m → LongerBy e k (b1 (at s k c)) (b2 (at s (k + e) c))) →
       (n1 n2 : ℕ) (s : State) (k c : ℕ) → k ≤ m → k + e < n2 → LongerBy e k (item_turns n1 s1 (here f) x lp b1 (at s k c)) (item_turns n2 s2 (there f) x lp b2 (at s (k + e) c))
   many_longer f good x lp b1 b2 g h zero n2 s k c le lt = many_grow l call2 take_one most2 tick grows2 begin_grows n2 f x lp b2 g (at s (k + e) c)
   many_longer f good x lp b1 b2 g h (suc n1) zero s k c le lt = absurd (omega arith)
@@ -237,9 +237,9 @@ module _ (l : Linkage) (codes : ℕ → List Line) where
       let main : Frame = record { unit = l.main; actuals = []; place = nowhere } in
       let first = stand (codes l.main) no_loops in
       let q : a + (b - a) ≡ b = omega arith in
-      let h = exec_longer (suc a) (suc b) (b - a) main first (start l input) a 0 (omega arith) (omega arith) in
-      shows (exec l codes (suc a) main first (at (start l input) a 0)) (exec l codes (suc b) main first (at (start l input) b 0))
-      (subst (λ v. LongerBy (b - a) a (exec l codes (suc a) main first (at (start l input) a 0)) (exec l codes (suc b) main first (at (start l input) v 0))) q h)
+      let h = exec_longer (suc a) (suc b) (b - a) main first (first_state l input) a 0 (omega arith) (omega arith) in
+      shows (exec l codes (suc a) main first (at (first_state l input) a 0)) (exec l codes (suc b) main first (at (first_state l input) b 0))
+      (subst (λ v. LongerBy (b - a) a (exec l codes (suc a) main first (at (first_state l input) a 0)) (exec l codes (suc b) main first (at (first_state l input) v 0))) q h)
     where
       shows : (p q : Out ⊤) → LongerBy (b - a) a p q → Extends (shown p) (shown q)
       shows (Gives u w) q h = record { over = λ x e1. ap shown (sym h.1); grows = subst (λ v. IsPrefix w.state.tape.written (shown v).records) (sym h.1) (prefix_self w.state.tape.written) }

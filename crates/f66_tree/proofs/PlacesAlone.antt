@@ -4,12 +4,12 @@ use Rattle.std.proofs.Common.{◌≡◌, Bool, true, false, ℕ, zero, suc, List
 use Rattle.std.specs.Prelude.{⊤, map}
 use Rattle.ground.specs.declared.place.Place.{Place}
 use Rattle.ground.specs.Content.{Content}
-use Rattle.f66_tree.specs.Forms.{Text, Line}
+use Rattle.f66_tree.specs.Syntax.{Text, Line}
 use Rattle.f66_tree.specs.World.{Record, Tape, World, Done, Stopped, Trapped, Wrong, Finish, Ended, GoesOn, Lost, Out, Gives, Halts, bind, Try, Yields, Traps, Fails, Move, Moves, Breaks, Misses, settle, moving, holding, taping, take_one, take_from, choose, shown}
 use Rattle.f66_tree.specs.Units.{Spot, Held, Lent, Linkage, Setting, is_main}
 use Rattle.f66_tree.specs.Evaluation.{ticked, asked, held, stored}
-use Rattle.f66_tree.specs.Statements.{Loop, loop_turn, item_turns}
-use Rattle.f66_tree.specs.Execution.{stand, Progress, perform, fetch, past_end, runnable, no_loops, nowhere, start, target, exec, f66}
+use Rattle.f66_tree.specs.Statements.{LoopParameters, loop_turn, item_turns}
+use Rattle.f66_tree.specs.Execution.{stand, Progress, perform, fetch, past_end, runnable, no_loops, nowhere, first_state, target, exec, f66}
 use Rattle.f66_tree.specs.Laws.{placeless, shown_placeless, PlacesTellTrapsAlone}
 use Rattle.f66_tree.proofs.Posts.{IfGives}
 use Rattle.f66_tree.proofs.Related.{same_names, Sides, side1, side2, Frames, one, two, Good, Holds, turn_holds}
@@ -106,7 +106,7 @@ module _ (l : Linkage) (call1 call2 : ℕ → List Spot → World → Out ⊤) (
   pub good : (f : Frames) → Good anywhere f
   good f = record { places = tt; actuals = any_fair f.actuals }
 
-  pub many_alike : (n : ℕ) (f : Frames) (x : Text) (k : Loop) (m1 m2 : World → Out ⊤) → AllAlike ⊤ m1 m2 → AllAlike ⊤ (begin) (begin) → AllAlike ⊤ (item_turns n (side1 anywhere tt) (one f) x k m1) (item_turns n (side2 anywhere) (two f) x k m2)
+  pub many_alike : (n : ℕ) (f : Frames) (x : Text) (k : LoopParameters) (m1 m2 : World → Out ⊤) → AllAlike ⊤ m1 m2 → AllAlike ⊤ (begin) (begin) → AllAlike ⊤ (item_turns n (side1 anywhere tt) (one f) x k m1) (item_turns n (side2 anywhere) (two f) x k m2)
   many_alike zero f x k m1 m2 h b w = refl
   many_alike (suc n) f x k m1 m2 h b w =
       bind_alike (λ _. ⊤) (begin w) (begin w) _ _ (b w) (any (begin w)) (λ _ _ w1. bind_alike (λ _. ⊤) (m1 w1) (m2 w1) _ _ (h w1) (any (m2 w1)) (λ _ _ w2.
@@ -187,7 +187,7 @@ shown_alike (Halts Lost w) q h = ap (λ o. shown_placeless (shown o)) (sym h)
 
 to_placeless : (l : Linkage) (codes : ℕ → List Line) (input : List Record) (n : ℕ) → shown_placeless (f66 l codes input n) ≡ shown_placeless (f66 l (λ v. map placeless (codes v)) input n)
 to_placeless l codes input n =
-    let w : World = record { state = start l input; left = n; count = 0 } in
+    let w : World = record { state = first_state l input; left = n; count = 0 } in
     shown_alike _ _ (exec_alike l codes (suc n) (record { unit = l.main; actuals = []; here = nowhere; there = nowhere }) (codes l.main) (map placeless (codes l.main)) (like_placeless (codes l.main)) no_loops w)
 
 pub places_alone : PlacesTellTrapsAlone

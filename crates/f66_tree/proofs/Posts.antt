@@ -5,7 +5,7 @@ use Rattle.std.specs.Prelude.{if◌then◌else◌, nat_lt, ⊤}
 use Rattle.ground.specs.declared.place.Place.{Place}
 use Rattle.ground.specs.declared.trap.Trap.TheVariants.{Subscript}
 use Rattle.ground.specs.Content.{Content}
-use Rattle.f66_tree.specs.Forms.{Text, Formula, Number, Fact, Letter, Variable, Applied, Grouped, Positive, Negative, Negated, Joined, Formulas, Nought, Also, Par}
+use Rattle.f66_tree.specs.Syntax.{Text, Formula, Int, Truth, Letter, Ref, Item, Group, Plus, Minus, Not, Pair, Formulas, NoFormula, AndFormula, Par}
 use Rattle.f66_tree.specs.World.{World, Out, Gives, Halts, bind, Try, Yields, Traps, Fails, IfYields, settle}
 use Rattle.f66_tree.specs.Units.{dummies_of, position, sizes_of, places_of, Spot, Held, Lent, Linkage, Setting, Frame, around}
 use Rattle.f66_tree.specs.Evaluation.{Sort, AnArray, AnIntrinsic, AFunction, sort_of, base, base_by, given, distance, moved, pars_in, element, place_by, place_of, names_place, actual_of, ticked, value_of, subscripts_of, spots_of}
@@ -75,29 +75,29 @@ module _ (K : ℕ → Text → Type 0) (Fair : Spot → Type 0) (s : Setting) (s
       post_settle Fair f.place (moved s.linked p n) (moved_fair p n fair)))))
 
   pub place_fair : (f : Frame) (e : Formula) (vals : World → Out (List Content)) → Names (K f.unit) e → AllFair Fair f.actuals → Post Fair (place_of s f e vals)
-  place_fair f (Number z) vals used actuals w = tt
-  place_fair f (Fact b) vals used actuals w = tt
+  place_fair f (Int z) vals used actuals w = tt
+  place_fair f (Truth b) vals used actuals w = tt
   place_fair f (Letter c) vals used actuals w = tt
-  place_fair f (Variable x) vals used actuals w = post_settle Fair f.place (base s f x) (base_fair f x used actuals) (ticked s w)
-  place_fair f (Applied x es) vals used actuals w = by_sort (sort_of (around s f) x)
+  place_fair f (Ref x) vals used actuals w = post_settle Fair f.place (base s f x) (base_fair f x used actuals) (ticked s w)
+  place_fair f (Item x es) vals used actuals w = by_sort (sort_of (around s f) x)
     where
       by_sort : (k : Sort) → IfGives Fair (place_by s f x k vals (ticked s w))
       by_sort (AnArray ns) = element_fair f x ns vals used.0 actuals (ticked s w)
       by_sort (AnIntrinsic g) = tt
       by_sort AFunction = tt
-  place_fair f (Grouped a) vals used actuals w = tt
-  place_fair f (Positive a) vals used actuals w = tt
-  place_fair f (Negative a) vals used actuals w = tt
-  place_fair f (Negated a) vals used actuals w = tt
-  place_fair f (Joined op a b) vals used actuals w = tt
+  place_fair f (Group a) vals used actuals w = tt
+  place_fair f (Plus a) vals used actuals w = tt
+  place_fair f (Minus a) vals used actuals w = tt
+  place_fair f (Not a) vals used actuals w = tt
+  place_fair f (Pair op a b) vals used actuals w = tt
 
   actual_fair : (b : Bool) (place : World → Out Spot) (val : World → Out Content) → Post Fair place → Post Fair (actual_of b place val)
   actual_fair true place val h w = h w
   actual_fair false place val h w = post_bind (λ _. ⊤) Fair (val w) _ (post_any (val w)) (λ v _ w1. scope.lent v)
 
   pub spots_fair : (f : Frame) (es : Formulas) → NamesOfAll (K f.unit) es → AllFair Fair f.actuals → Post (AllFair Fair) (spots_of s f es)
-  spots_fair f Nought used actuals w = tt
-  spots_fair f (Also e es) used actuals w =
+  spots_fair f NoFormula used actuals w = tt
+  spots_fair f (AndFormula e es) used actuals w =
       post_bind Fair (AllFair Fair) (actual_of (names_place (around s f) e) (place_of s f e (subscripts_of s f e)) (value_of s f e) (ticked s w)) _
       (actual_fair (names_place (around s f) e) (place_of s f e (subscripts_of s f e)) (value_of s f e) (place_fair f e (subscripts_of s f e) used.0 actuals) (ticked s w)) (λ p fair w1.
       post_bind (AllFair Fair) (AllFair Fair) (spots_of s f es w1) _ (spots_fair f es used.1 actuals w1) (λ ps all w2. (fair, all)))

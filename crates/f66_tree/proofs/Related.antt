@@ -18,17 +18,18 @@ use Rattle.ground.specs.Content.{Content, Nothing, Whole, Truth}
 use Rattle.f66_tree.specs.declared.editing.Way.{Way}
 use Rattle.f66_tree.specs.declared.editing.Way.TheVariants.{Reading, Writing}
 use Rattle.f66_tree.specs.Fields.{Fields}
-use Rattle.f66_tree.specs.Forms.{Text, Formula, Number, Fact, Letter, Variable, Applied, Grouped, Positive, Negative, Negated, Joined, Formulas, Nought, Also, Par, Constant, Named, Entry, One, Many, Entries, NoEntry, AndEntry, Act, Assigns, Goes, Selects, Signs, Chooses, Loops, Invokes, Passes, Stops, Returns, Reads, Writes, Formats, Types, Dimensions, Commons, Equivalences, Presets}
+use Rattle.f66_tree.specs.Syntax.{Text, Formula, Int, Letter, Ref, Item, Group, Plus, Minus, Not, Pair, Formulas, NoFormula, AndFormula, Par, Constant, Named, Entry, One, Many, Entries, NoEntry, AndEntry, Act, Assign, Goto, Computed, Sign, When, Loop, Invoke, Continue, Stop, Return, Read, Write, Format, Typed, Dimension, Common, Equivalence, Preset}
 use Rattle.f66_tree.specs.World.{Record, Tape, World, Done, Stopped, Trapped, Finish, Ended, Wrong, Out, Gives, Halts, bind, Try, Yields, Traps, Fails, IfYields, Move, AfterMove, settle, choose}
 use Rattle.f66_tree.specs.Records.{due, put, take, closed}
 use Rattle.f66_tree.specs.FirstLaws.{Keeps, longer, Unasked, SameTake}
 use Rattle.f66_tree.specs.Units.{is_main, kind_of, format_of, sizes_of, places_of, position, dummies_of, Spot, Held, Lent, Linkage, Setting, Frame}
 use Rattle.f66_tree.specs.Uses.{Names, NamesOfAll, NameOfPar, NamesOfPars, NamesOfEntry, NamesOfEntries, NamesOfAct}
 use Rattle.f66_tree.specs.Evaluation.{Intrinsic, Sort, AnArray, AnIntrinsic, AFunction, known, intrinsics, array_or, is_array, sort_of, base, base_by, load, store_at, variable_in, par_in, pars_in, distance, moved, element, called, referred, place_by, place_of, names_place, actual_of, operate, opposite, denied, same_whole, intrinsic, truth_in, ticked, value_of, values_of, subscripts_of, spots_of, locate, asks}
-use Rattle.f66_tree.specs.Statements.{Exit, Next, To, Back, Loop, fit_loop_in, loop_start, turn_of, loop_turn, transfer, edited, taped, took, row, extent, one_or_row, item, item_turns, items, entry, on_unit, opened_by, record_by, label_at, by_sign_of, returned, invoked, does}
+use Rattle.f66_tree.specs.Statements.{Exit, Normal, To, Back, LoopParameters, fit_loop_in, loop_start, turn_of, loop_turn, transfer, edited, taped, taken_content, row, extent, one_or_row, item, item_turns, items, entry, on_unit, opened_by, record_by, label_at, by_sign_of, returned, invoked, does}
 use Rattle.f66_tree.proofs.EditingLemmas.{records_stay}
 use Rattle.f66_tree.proofs.Unasked.{records_unasked}
 use Rattle.f66_tree.proofs.Posts.{Post, post_any, post_settle, AllFair, IsScope, base_fair, moved_fair, element_fair, place_fair, spots_fair}
+use Rattle.f66_tree.specs.Syntax as f66
 
 -- both sides of a comparison
 pub record Sides (I : Type 0) : Type 1 where
@@ -153,7 +154,7 @@ module _ (I : Type 0) (d : Sides I) (R : (A : Type 0) → (I → World → Out A
     pub loads : (f : Frames) → Good d f → (k : Kind) (p : Spot) → d.Fair p → R Content (λ i. load (s1 i) (one f) k p) (load s2 (two f) k p)
     pub stores : (f : Frames) → Good d f → (p : Spot) → d.Fair p → (c : Content) → R ⊤ (λ i. store_at (s1 i) (one f) p c) (store_at s2 (two f) p c)
     pub tapes : (f : Frames) → Good d f → (h : Tape → Move) → IsStep h → R ⊤ (λ i. taped f.here h) (taped f.there h)
-    pub takes : (f : Frames) → Good d f → (h : Tape → Try (Content × Tape)) → IsTake h → R Content (λ i. took f.here h) (took f.there h)
+    pub takes : (f : Frames) → Good d f → (h : Tape → Try (Content × Tape)) → IsTake h → R Content (λ i. taken_content f.here h) (taken_content f.there h)
     pub ticks : {A : Type 0} {m1 : I → World → Out A} {m2 : World → Out A} → R A m1 m2 → R A (λ i w. m1 i (ticked (s1 i) w)) (λ w. m2 (ticked s2 w))
     pub calls : (u : ℕ) (x : Text) (v : ℕ) (ps : List Spot) → d.K u x → d.linked2.find x ≡ Some v → AllFair d.Fair ps → R ⊤ (λ i. d.call1 i v ps) (d.call2 v ps)
 
@@ -181,16 +182,16 @@ module _ (I : Type 0) (d : Sides I) (R : (A : Type 0) → (I → World → Out A
     sort_same f x used = ap (λ ns. array_or ns x) (r.same.sizes f.unit x used)
 
     place_same : (f : Frames) (e : Formula) → Names (d.K f.unit) e → names_place (l1.context f.unit) e ≡ names_place (l.context f.unit) e
-    place_same f (Number z) used = refl
-    place_same f (Fact b) used = refl
+    place_same f (Int z) used = refl
+    place_same f (f66.Truth b) used = refl
     place_same f (Letter c) used = refl
-    place_same f (Variable x) used = refl
-    place_same f (Applied x es) used = ap is_array (sort_same f x used.0)
-    place_same f (Grouped a) used = refl
-    place_same f (Positive a) used = refl
-    place_same f (Negative a) used = refl
-    place_same f (Negated a) used = refl
-    place_same f (Joined op a b) used = refl
+    place_same f (Ref x) used = refl
+    place_same f (Item x es) used = ap is_array (sort_same f x used.0)
+    place_same f (Group a) used = refl
+    place_same f (Plus a) used = refl
+    place_same f (Minus a) used = refl
+    place_same f (Not a) used = refl
+    place_same f (Pair op a b) used = refl
 
     pub choice : {A : Type 0} {m1 n1 : I → World → Out A} {m2 n2 : World → Out A} → (b : Bool) → R A m1 m2 → R A n1 n2 → R A (λ i w. choose b (m1 i w) (n1 i w)) (λ w. choose b (m2 w) (n2 w))
     choice true h k = h
@@ -240,22 +241,22 @@ module _ (I : Type 0) (d : Sides I) (R : (A : Type 0) → (I → World → Out A
         subst (λ o. R Content (λ i. called (s1 i) (one f) x o (n1 i)) (called s2 (two f) x (l.find x) n2)) (sym (r.same.find f.unit x used)) (called_holds f g x used (l.find x) refl k fair)
 
     place_holds : (f : Frames) → Good d f → (e : Formula) → Names (d.K f.unit) e → {m1 : I → World → Out (List Content)} {m2 : World → Out (List Content)} → R (List Content) m1 m2 → R Spot (λ i. place_of (s1 i) (one f) e (m1 i)) (place_of s2 (two f) e m2)
-    place_holds f g (Number z) used h = r.ends Wrong
-    place_holds f g (Fact b) used h = r.ends Wrong
+    place_holds f g (Int z) used h = r.ends Wrong
+    place_holds f g (f66.Truth b) used h = r.ends Wrong
     place_holds f g (Letter c) used h = r.ends Wrong
-    place_holds f g (Variable x) used h = r.ticks (settles_as f g _ _ (base_same f x))
-    place_holds f g (Applied x es) used {m1} {m2} h =
+    place_holds f g (Ref x) used h = r.ticks (settles_as f g _ _ (base_same f x))
+    place_holds f g (Item x es) used {m1} {m2} h =
         r.ticks (subst (λ o. R Spot (λ i. place_by (s1 i) (one f) x o (m1 i)) (place_by s2 (two f) x (sort_of (l.context f.unit) x) m2)) (sym (sort_same f x used.0)) (by_sort (sort_of (l.context f.unit) x) (sized f x used.0)))
       where
         by_sort : (o : Sort) → SortNames (d.K f.unit) o → R Spot (λ i. place_by (s1 i) (one f) x o (m1 i)) (place_by s2 (two f) x o m2)
         by_sort (AnArray ns) sizes = element_holds f g x used.0 ns sizes h
         by_sort (AnIntrinsic q) sizes = r.ends Wrong
         by_sort AFunction sizes = r.ends Wrong
-    place_holds f g (Grouped a) used h = r.ends Wrong
-    place_holds f g (Positive a) used h = r.ends Wrong
-    place_holds f g (Negative a) used h = r.ends Wrong
-    place_holds f g (Negated a) used h = r.ends Wrong
-    place_holds f g (Joined op a b) used h = r.ends Wrong
+    place_holds f g (Group a) used h = r.ends Wrong
+    place_holds f g (Plus a) used h = r.ends Wrong
+    place_holds f g (Minus a) used h = r.ends Wrong
+    place_holds f g (Not a) used h = r.ends Wrong
+    place_holds f g (Pair op a b) used h = r.ends Wrong
 
     actual_holds : (b : Bool) {m1 : I → World → Out Spot} {m2 : World → Out Spot} {n1 : I → World → Out Content} {n2 : World → Out Content} → R Spot m1 m2 → R Content n1 n2 → R Spot (λ i. actual_of b (m1 i) (n1 i)) (actual_of b m2 n2)
     actual_holds true h k = h
@@ -263,38 +264,38 @@ module _ (I : Type 0) (d : Sides I) (R : (A : Type 0) → (I → World → Out A
 
     mutual
       pub value_holds : (f : Frames) → Good d f → (e : Formula) → Names (d.K f.unit) e → R Content (λ i. value_of (s1 i) (one f) e) (value_of s2 (two f) e)
-      value_holds f g (Number z) used = r.ticks (r.gives (Whole z))
-      value_holds f g (Fact b) used = r.ticks (r.gives (Truth b))
+      value_holds f g (Int z) used = r.ticks (r.gives (Whole z))
+      value_holds f g (f66.Truth b) used = r.ticks (r.gives (Truth b))
       value_holds f g (Letter c) used = r.ticks (r.gives (Whole (pos c)))
-      value_holds f g (Variable x) used = r.ticks (variable_holds f g x used)
-      value_holds f g (Applied x es) used =
+      value_holds f g (Ref x) used = r.ticks (variable_holds f g x used)
+      value_holds f g (Item x es) used =
           r.ticks (subst (λ o. R Content (λ i. referred (s1 i) (one f) x o (values_of (s1 i) (one f) es) (spots_of (s1 i) (one f) es)) (referred s2 (two f) x (sort_of (l.context f.unit) x) (values_of s2 (two f) es) (spots_of s2 (two f) es))) (sym (sort_same f x used.0))
           (referred_holds f g x used.0 (sort_of (l.context f.unit) x) (sized f x used.0) (values_hold f g es used.1) (spots_hold f g es used.1) (spots_fair d.K d.Fair s2 r.scope (two f) es used.1 g.actuals)))
-      value_holds f g (Grouped a) used = r.ticks (value_holds f g a used)
-      value_holds f g (Positive a) used = thens (r.ticks (value_holds f g a used)) (λ v. settles f g (same_whole v))
-      value_holds f g (Negative a) used = thens (r.ticks (value_holds f g a used)) (λ v. settles f g (opposite v))
-      value_holds f g (Negated a) used = thens (r.ticks (value_holds f g a used)) (λ v. settles f g (denied v))
-      value_holds f g (Joined op a b) used = thens (r.ticks (value_holds f g a used.0)) (λ x. thens (value_holds f g b used.1) (λ y. settles f g (operate op x y)))
+      value_holds f g (Group a) used = r.ticks (value_holds f g a used)
+      value_holds f g (Plus a) used = thens (r.ticks (value_holds f g a used)) (λ v. settles f g (same_whole v))
+      value_holds f g (Minus a) used = thens (r.ticks (value_holds f g a used)) (λ v. settles f g (opposite v))
+      value_holds f g (Not a) used = thens (r.ticks (value_holds f g a used)) (λ v. settles f g (denied v))
+      value_holds f g (Pair op a b) used = thens (r.ticks (value_holds f g a used.0)) (λ x. thens (value_holds f g b used.1) (λ y. settles f g (operate op x y)))
 
       pub values_hold : (f : Frames) → Good d f → (es : Formulas) → NamesOfAll (d.K f.unit) es → R (List Content) (λ i. values_of (s1 i) (one f) es) (values_of s2 (two f) es)
-      values_hold f g Nought used = r.gives []
-      values_hold f g (Also e es) used = thens (value_holds f g e used.0) (λ v. thens (values_hold f g es used.1) (λ vs. r.gives (v ∷ vs)))
+      values_hold f g NoFormula used = r.gives []
+      values_hold f g (AndFormula e es) used = thens (value_holds f g e used.0) (λ v. thens (values_hold f g es used.1) (λ vs. r.gives (v ∷ vs)))
 
       subscripts_hold : (f : Frames) → Good d f → (e : Formula) → Names (d.K f.unit) e → R (List Content) (λ i. subscripts_of (s1 i) (one f) e) (subscripts_of s2 (two f) e)
-      subscripts_hold f g (Applied x es) used = values_hold f g es used.1
-      subscripts_hold f g (Number z) used = r.gives []
-      subscripts_hold f g (Fact b) used = r.gives []
+      subscripts_hold f g (Item x es) used = values_hold f g es used.1
+      subscripts_hold f g (Int z) used = r.gives []
+      subscripts_hold f g (f66.Truth b) used = r.gives []
       subscripts_hold f g (Letter c) used = r.gives []
-      subscripts_hold f g (Variable x) used = r.gives []
-      subscripts_hold f g (Grouped a) used = r.gives []
-      subscripts_hold f g (Positive a) used = r.gives []
-      subscripts_hold f g (Negative a) used = r.gives []
-      subscripts_hold f g (Negated a) used = r.gives []
-      subscripts_hold f g (Joined op a b) used = r.gives []
+      subscripts_hold f g (Ref x) used = r.gives []
+      subscripts_hold f g (Group a) used = r.gives []
+      subscripts_hold f g (Plus a) used = r.gives []
+      subscripts_hold f g (Minus a) used = r.gives []
+      subscripts_hold f g (Not a) used = r.gives []
+      subscripts_hold f g (Pair op a b) used = r.gives []
 
       pub spots_hold : (f : Frames) → Good d f → (es : Formulas) → NamesOfAll (d.K f.unit) es → R (List Spot) (λ i. spots_of (s1 i) (one f) es) (spots_of s2 (two f) es)
-      spots_hold f g Nought used = r.gives []
-      spots_hold f g (Also e es) used =
+      spots_hold f g NoFormula used = r.gives []
+      spots_hold f g (AndFormula e es) used =
           thens (r.ticks (subst (λ b. R Spot (λ i. actual_of b (place_of (s1 i) (one f) e (subscripts_of (s1 i) (one f) e)) (value_of (s1 i) (one f) e)) (actual_of (names_place (l.context f.unit) e) (place_of s2 (two f) e (subscripts_of s2 (two f) e)) (value_of s2 (two f) e))) (sym (place_same f e used.0)) (actual_holds (names_place (l.context f.unit) e) (place_holds f g e used.0 (subscripts_hold f g e used.0)) (value_holds f g e used.0)))) (λ p. thens (spots_hold f g es used.1) (λ ps. r.gives (p ∷ ps)))
 
     pub locate_holds : (f : Frames) → Good d f → (e : Formula) → Names (d.K f.unit) e → R Spot (λ i. locate (s1 i) (one f) e) (locate s2 (two f) e)
@@ -306,12 +307,12 @@ module _ (I : Type 0) (d : Sides I) (R : (A : Type 0) → (I → World → Out A
     pub asks_hold : (f : Frames) → Good d f → (e : Formula) → Names (d.K f.unit) e → R Bool (λ i. asks (s1 i) (one f) e) (asks s2 (two f) e)
     asks_hold f g e used = thens (value_holds f g e used) (λ v. settles f g (truth_in v))
 
-    pub start_holds : (f : Frames) → Good d f → (x : Text) (a b c : Par) → d.K f.unit x → NameOfPar (d.K f.unit) a → NameOfPar (d.K f.unit) b → NameOfPar (d.K f.unit) c → R Loop (λ i. loop_start (s1 i) (one f) x a b c) (loop_start s2 (two f) x a b c)
+    pub start_holds : (f : Frames) → Good d f → (x : Text) (a b c : Par) → d.K f.unit x → NameOfPar (d.K f.unit) a → NameOfPar (d.K f.unit) b → NameOfPar (d.K f.unit) c → R LoopParameters (λ i. loop_start (s1 i) (one f) x a b c) (loop_start s2 (two f) x a b c)
     start_holds f g x a b c used ua ub uc =
         base_then f g x used (λ p fair. thens (par_holds f g a ua) (λ va. thens (par_holds f g b ub) (λ vb. thens (par_holds f g c uc) (λ vc.
         thens (settles f g (fit_loop_in va vb vc)) (λ k. thens (r.stores f g p fair va) (λ _. r.gives k))))))
 
-    pub turn_holds : (f : Frames) → Good d f → (x : Text) → d.K f.unit x → (k : Loop) → R Bool (λ i. loop_turn (s1 i) (one f) x k) (loop_turn s2 (two f) x k)
+    pub turn_holds : (f : Frames) → Good d f → (x : Text) → d.K f.unit x → (k : LoopParameters) → R Bool (λ i. loop_turn (s1 i) (one f) x k) (loop_turn s2 (two f) x k)
     turn_holds f g x used k = base_then f g x used (λ p fair. thens (r.loads f g Integer p fair) (λ v. by_content p fair v))
       where
         by_content : (p : Spot) → d.Fair p → (v : Content) → R Bool (λ i. turn_of (s1 i) (one f) p k v) (turn_of s2 (two f) p k v)
@@ -336,24 +337,24 @@ module _ (I : Type 0) (d : Sides I) (R : (A : Type 0) → (I → World → Out A
     one_holds f g way k (n ∷ ns) sizes p fair = thens (pars_hold f g (n ∷ ns) sizes) (λ ds. thens (settles f g (extent ds)) (λ m. row_holds f g way k p fair m 0))
 
     item_holds : (f : Frames) → Good d f → (way : Way) (e : Formula) → Names (d.K f.unit) e → R ⊤ (λ i. item (s1 i) (one f) way e) (item s2 (two f) way e)
-    item_holds f g way (Variable x) used =
-        locate_then f g (Variable x) used (λ p fair.
+    item_holds f g way (Ref x) used =
+        locate_then f g (Ref x) used (λ p fair.
         subst (λ k. R ⊤ (λ i. one_or_row (s1 i) (one f) way k (sizes_of x (l1.context f.unit).notes) p) (one_or_row s2 (two f) way (kind_of (l.context f.unit) x) (sizes_of x (l.context f.unit).notes) p)) (sym (r.same.kinds f.unit x used))
         (subst (λ ns. R ⊤ (λ i. one_or_row (s1 i) (one f) way (kind_of (l.context f.unit) x) ns p) (one_or_row s2 (two f) way (kind_of (l.context f.unit) x) (sizes_of x (l.context f.unit).notes) p)) (sym (r.same.sizes f.unit x used))
         (one_holds f g way (kind_of (l.context f.unit) x) (sizes_of x (l.context f.unit).notes) (r.scope.dimensions f.unit x used) p fair)))
-    item_holds f g way (Applied x es) used =
-        locate_then f g (Applied x es) used (λ p fair.
+    item_holds f g way (Item x es) used =
+        locate_then f g (Item x es) used (λ p fair.
         subst (λ k. R ⊤ (λ i. edited (s1 i) (one f) way k p) (edited s2 (two f) way (kind_of (l.context f.unit) x) p)) (sym (r.same.kinds f.unit x used.0)) (edited_holds f g way (kind_of (l.context f.unit) x) p fair))
-    item_holds f g way (Number z) used = r.ends Wrong
-    item_holds f g way (Fact b) used = r.ends Wrong
+    item_holds f g way (Int z) used = r.ends Wrong
+    item_holds f g way (f66.Truth b) used = r.ends Wrong
     item_holds f g way (Letter c) used = r.ends Wrong
-    item_holds f g way (Grouped a) used = r.ends Wrong
-    item_holds f g way (Positive a) used = r.ends Wrong
-    item_holds f g way (Negative a) used = r.ends Wrong
-    item_holds f g way (Negated a) used = r.ends Wrong
-    item_holds f g way (Joined op a b) used = r.ends Wrong
+    item_holds f g way (Group a) used = r.ends Wrong
+    item_holds f g way (Plus a) used = r.ends Wrong
+    item_holds f g way (Minus a) used = r.ends Wrong
+    item_holds f g way (Not a) used = r.ends Wrong
+    item_holds f g way (Pair op a b) used = r.ends Wrong
 
-    module _ (many : (f : Frames) → Good d f → (x : Text) → d.K f.unit x → (k : Loop) (m1 : I → World → Out ⊤) (m2 : World → Out ⊤) → R ⊤ m1 m2 → R ⊤ (λ i. item_turns (d.most1 i) (s1 i) (one f) x k (m1 i)) (item_turns d.most2 s2 (two f) x k m2)) where
+    module _ (many : (f : Frames) → Good d f → (x : Text) → d.K f.unit x → (k : LoopParameters) (m1 : I → World → Out ⊤) (m2 : World → Out ⊤) → R ⊤ m1 m2 → R ⊤ (λ i. item_turns (d.most1 i) (s1 i) (one f) x k (m1 i)) (item_turns d.most2 s2 (two f) x k m2)) where
       mutual
         items_hold : (f : Frames) → Good d f → (way : Way) (es : Entries) → NamesOfEntries (d.K f.unit) es → R ⊤ (λ i. items (s1 i) (one f) way es) (items s2 (two f) way es)
         items_hold f g way NoEntry used = r.gives tt
@@ -367,35 +368,35 @@ module _ (I : Type 0) (d : Sides I) (R : (A : Type 0) → (I → World → Out A
       record_holds f g way u m es uu used =
           thens (par_holds f g u uu) (λ v. thens (settles f g (on_unit way v)) (λ _.
           thens (subst (λ o. R ⊤ (λ i. taped f.here (opened_by way o)) (taped f.there (opened_by way (format_of m (l.context f.unit).notes)))) (sym (r.same.formats f.unit m)) (r.tapes f g (opened_by way (format_of m (l.context f.unit).notes)) (opened_steps way (format_of m (l.context f.unit).notes)))) (λ _. thens (items_hold f g way es used) (λ _.
-          thens (r.tapes f g closed closed_steps) (λ _. r.gives Next)))))
+          thens (r.tapes f g closed closed_steps) (λ _. r.gives Normal)))))
 
       invoked_holds : (f : Frames) (x : Text) → d.K f.unit x → (o : Option ℕ) → l.find x ≡ o → {m1 : I → World → Out (List Spot)} {m2 : World → Out (List Spot)} → R (List Spot) m1 m2 → Post (AllFair d.Fair) m2 → R Exit (λ i. invoked (s1 i) o (m1 i)) (invoked s2 o m2)
       invoked_holds f x used None e h fair = r.ends Wrong
-      invoked_holds f x used (Some v) e h fair = r.binds {P = AllFair d.Fair} h fair (λ ps all. thens (r.calls f.unit x v ps used e all) (λ _. r.gives Next))
+      invoked_holds f x used (Some v) e h fair = r.binds {P = AllFair d.Fair} h fair (λ ps all. thens (r.calls f.unit x v ps used e all) (λ _. r.gives Normal))
 
       returned_holds : (b : Bool) → R Exit (λ i. returned b) (returned b)
       returned_holds true = r.ends Done
       returned_holds false = r.gives Back
 
       pub does_holds : (f : Frames) → Good d f → (a : Act) → NamesOfAct (d.K f.unit) a → R Exit (λ i. does (s1 i) (one f) a) (does s2 (two f) a)
-      does_holds f g (Assigns x e) used = locate_then f g x used.0 (λ p fair. thens (value_holds f g e used.1) (λ v. thens (r.stores f g p fair v) (λ _. r.gives Next)))
-      does_holds f g (Goes m) used = r.gives (To m)
-      does_holds f g (Selects ls x) used = thens (variable_holds f g x used) (λ v. thens (settles f g (label_at ls v)) (λ m. r.gives (To m)))
-      does_holds f g (Signs e n m k) used = thens (value_holds f g e used) (λ v. thens (settles f g (by_sign_of n m k v)) (λ j. r.gives (To j)))
-      does_holds f g (Chooses e a) used = r.gives Next
-      does_holds f g (Loops m x a b c) used = r.gives Next
-      does_holds f g (Invokes x es) used =
+      does_holds f g (Assign x e) used = locate_then f g x used.0 (λ p fair. thens (value_holds f g e used.1) (λ v. thens (r.stores f g p fair v) (λ _. r.gives Normal)))
+      does_holds f g (Goto m) used = r.gives (To m)
+      does_holds f g (Computed ls x) used = thens (variable_holds f g x used) (λ v. thens (settles f g (label_at ls v)) (λ m. r.gives (To m)))
+      does_holds f g (Sign e n m k) used = thens (value_holds f g e used) (λ v. thens (settles f g (by_sign_of n m k v)) (λ j. r.gives (To j)))
+      does_holds f g (When e a) used = r.gives Normal
+      does_holds f g (Loop m x a b c) used = r.gives Normal
+      does_holds f g (Invoke x es) used =
           subst (λ o. R Exit (λ i. invoked (s1 i) o (spots_of (s1 i) (one f) es)) (invoked s2 (l.find x) (spots_of s2 (two f) es))) (sym (r.same.find f.unit x used.0))
           (invoked_holds f x used.0 (l.find x) refl (spots_hold f g es used.1) (spots_fair d.K d.Fair s2 r.scope (two f) es used.1 g.actuals))
-      does_holds f g Passes used = r.gives Next
-      does_holds f g (Stops None) used = r.ends Done
-      does_holds f g (Stops (Some n)) used = r.ends (Stopped n)
-      does_holds f g Returns used = subst (λ h. R Exit (λ i. returned (is_main h)) (returned (is_main (l.context f.unit).header))) (sym (r.same.header f.unit)) (returned_holds (is_main (l.context f.unit).header))
-      does_holds f g (Reads u m es) used = record_holds f g Reading u m es used.0 used.1
-      does_holds f g (Writes u m es) used = record_holds f g Writing u m es used.0 used.1
-      does_holds f g (Formats fs) used = r.gives Next
-      does_holds f g (Types t ds) used = r.gives Next
-      does_holds f g (Dimensions ds) used = r.gives Next
-      does_holds f g (Commons areas) used = r.gives Next
-      does_holds f g (Equivalences es) used = r.gives Next
-      does_holds f g (Presets ps) used = r.gives Next
+      does_holds f g Continue used = r.gives Normal
+      does_holds f g (Stop None) used = r.ends Done
+      does_holds f g (Stop (Some n)) used = r.ends (Stopped n)
+      does_holds f g Return used = subst (λ h. R Exit (λ i. returned (is_main h)) (returned (is_main (l.context f.unit).header))) (sym (r.same.header f.unit)) (returned_holds (is_main (l.context f.unit).header))
+      does_holds f g (Read u m es) used = record_holds f g Reading u m es used.0 used.1
+      does_holds f g (Write u m es) used = record_holds f g Writing u m es used.0 used.1
+      does_holds f g (Format fs) used = r.gives Normal
+      does_holds f g (Typed t ds) used = r.gives Normal
+      does_holds f g (Dimension ds) used = r.gives Normal
+      does_holds f g (Common areas) used = r.gives Normal
+      does_holds f g (Equivalence es) used = r.gives Normal
+      does_holds f g (Preset ps) used = r.gives Normal

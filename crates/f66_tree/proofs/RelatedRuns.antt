@@ -3,11 +3,11 @@
 use Rattle.std.proofs.Common.{◌≡◌, ℕ, suc, Bool, true, false, true≢false, List, [], ◌∷◌, ◌++◌, length, Option, Some, None, refl, sym, ap, ◌∙◌, subst}
 use Rattle.std.specs.Prelude.{if◌then◌else◌, nat_eq, ⊤}
 use Rattle.ground.specs.declared.place.Place.{Place}
-use Rattle.f66_tree.specs.Forms.{Text, Act, Assigns, Goes, Selects, Signs, Chooses, Loops, Invokes, Passes, Stops, Returns, Reads, Writes, Formats, Types, Dimensions, Commons, Equivalences, Presets, Line}
+use Rattle.f66_tree.specs.Syntax.{Text, Act, Assign, Goto, Computed, Sign, When, Loop, Invoke, Continue, Stop, Return, Read, Write, Format, Typed, Dimension, Common, Equivalence, Preset, Line}
 use Rattle.f66_tree.specs.World.{World, Out, bind}
 use Rattle.f66_tree.specs.Units.{is_note, Setting}
 use Rattle.f66_tree.specs.Uses.{NamesOfAct, NamesOfLines}
-use Rattle.f66_tree.specs.Statements.{Exit, Next, To, Back, Loop, loop_turn, item_turns, does}
+use Rattle.f66_tree.specs.Statements.{Exit, Normal, To, Back, LoopParameters, loop_turn, item_turns, does}
 use Rattle.f66_tree.specs.Execution.{runnable, has_label, from_label, Progress, begun, stand, Closer, closer_of, closers, closers_at, Onward, close, leads, perform}
 use Rattle.f66_tree.proofs.Related.{Sides, side1, side2, Frames, one, two, Good, Holds, thens, choice, asks_hold, start_holds, turn_holds, does_holds}
 
@@ -97,7 +97,7 @@ like_append At K (a ∷ as') [] cs ds h k = absurd h
 like_append At K (a ∷ as') (b ∷ bs) cs ds h k = (h.0, like_append At K as' bs cs ds h.1 k)
 
 like_closer : (At : Place → Place → Type 0) (K : Text → Type 0) (m : ℕ) (a : Act) (as' bs : List Line) (cs ds : List Closer) → NamesOfAct K a → NamesOfLines K as' → LikeLines At as' bs → LikeClosers At K cs ds → LikeClosers At K (closer_of m a as' cs) (closer_of m a bs ds)
-like_closer At K m (Loops l x p q r) as' bs cs ds ua us h k = by_label (nat_eq l m)
+like_closer At K m (Loop l x p q r) as' bs cs ds ua us h k = by_label (nat_eq l m)
   where
     by_label : (v : Bool) → LikeClosers At K (if v then (cs ++ record { variable = x; inner = as' } ∷ []) else cs) (if v then (ds ++ record { variable = x; inner = bs } ∷ []) else ds)
     by_label true = like_append At K cs ds _ _ k ((refl, h, ua.0, us), tt)
@@ -117,7 +117,7 @@ like_closers_at At K None as' bs us h = tt
 like_closers_at At K (Some m) as' bs us h = like_closers At K m as' bs us h
 
 module _ (I : Type 0) (d : Sides I) (R : (A : Type 0) → (I → World → Out A) → (World → Out A) → Type 0) (r : Holds I d R)
-    (many : (f : Frames) → Good d f → (x : Text) → d.K f.unit x → (k : Loop) (m1 : I → World → Out ⊤) (m2 : World → Out ⊤) → R ⊤ m1 m2 → R ⊤ (λ i. item_turns (d.most1 i) (side1 d i) (one f) x k (m1 i)) (item_turns d.most2 (side2 d) (two f) x k m2))
+    (many : (f : Frames) → Good d f → (x : Text) → d.K f.unit x → (k : LoopParameters) (m1 : I → World → Out ⊤) (m2 : World → Out ⊤) → R ⊤ m1 m2 → R ⊤ (λ i. item_turns (d.most1 i) (side1 d i) (one f) x k (m1 i)) (item_turns d.most2 (side2 d) (two f) x k m2))
     (f : Frames) (g : Good d f) (code1 code2 : List Line) (like : LikeLines d.At code1 code2) (used : NamesOfLines (d.K f.unit) code1) (go1 : I → Onward) (go2 : Onward)
     (goes : (rest1 rest2 : List Line) → LikeLines d.At rest1 rest2 → NamesOfLines (d.K f.unit) rest1 → (pr : Progress) → R ⊤ (λ i. go1 i (stand rest1 pr)) (go2 (stand rest2 pr))) where
   abbrev s1 : I → Setting
@@ -138,7 +138,7 @@ module _ (I : Type 0) (d : Sides I) (R : (A : Type 0) → (I → World → Out A
       thens I d R r turn (λ goes_on. choice I d R r goes_on (goes a.inner b.inner h.0.1 h.0.3 pr) (close_holds as' bs h.1 rest1 rest2 lr ur pr))
 
   leads_holds : (o : Option ℕ) (rest1 rest2 : List Line) → LikeLines d.At rest1 rest2 → NamesOfLines (d.K f.unit) rest1 → (pr : Progress) (y : Exit) → R ⊤ (λ i. leads (s1 i) (one f) code1 o rest1 (go1 i) pr y) (leads s2 (two f) code2 o rest2 go2 pr y)
-  leads_holds o rest1 rest2 lr ur pr Next = close_holds (closers_at o code1) (closers_at o code2) (like_closers_at d.At (d.K f.unit) o code1 code2 used like) rest1 rest2 lr ur pr
+  leads_holds o rest1 rest2 lr ur pr Normal = close_holds (closers_at o code1) (closers_at o code2) (like_closers_at d.At (d.K f.unit) o code1 code2 used like) rest1 rest2 lr ur pr
   leads_holds o rest1 rest2 lr ur pr (To m) = goes (from_label m code1) (from_label m code2) (like_from d.At m code1 code2 like) (names_from (d.K f.unit) m code1 used) pr
   leads_holds o rest1 rest2 lr ur pr Back = r.gives tt
 
@@ -147,26 +147,26 @@ module _ (I : Type 0) (d : Sides I) (R : (A : Type 0) → (I → World → Out A
     plain_performs a ua = thens I d R r (does_holds I d R r many f g a ua) (λ y. leads_holds o rest1 rest2 lr ur pr y)
 
     pub performs : (a : Act) → NamesOfAct (d.K f.unit) a → R ⊤ (λ i. perform (s1 i) (one f) code1 o a rest1 (go1 i) pr) (perform s2 (two f) code2 o a rest2 go2 pr)
-    performs (Chooses e a) ua =
+    performs (When e a) ua =
         thens I d R r (asks_hold I d R r f g e ua.0) (λ holds. choice I d R r holds
         (goes (record { label = o; place = f.here; act = a } ∷ rest1) (record { label = o; place = f.there; act = a } ∷ rest2) (refl, refl, g.places, lr) (ua.1, ur) pr)
-        (leads_holds o rest1 rest2 lr ur pr Next))
-    performs (Loops m x a b c) ua =
+        (leads_holds o rest1 rest2 lr ur pr Normal))
+    performs (Loop m x a b c) ua =
         thens I d R r (start_holds I d R r f g x a b c ua.0 ua.1 ua.2 ua.3)
         (λ k. subst (λ n. R ⊤ (λ i. go1 i (stand rest1 (begun (length rest1) k pr))) (go2 (stand rest2 (begun n k pr)))) (like_length d.At rest1 rest2 lr) (goes rest1 rest2 lr ur (begun (length rest1) k pr)))
-    performs (Assigns x e) ua = plain_performs (Assigns x e) ua
-    performs (Goes m) ua = plain_performs (Goes m) ua
-    performs (Selects ls x) ua = plain_performs (Selects ls x) ua
-    performs (Signs e n m k) ua = plain_performs (Signs e n m k) ua
-    performs (Invokes x es) ua = plain_performs (Invokes x es) ua
-    performs Passes ua = plain_performs Passes ua
-    performs (Stops n) ua = plain_performs (Stops n) ua
-    performs Returns ua = plain_performs Returns ua
-    performs (Reads u m es) ua = plain_performs (Reads u m es) ua
-    performs (Writes u m es) ua = plain_performs (Writes u m es) ua
-    performs (Formats fs) ua = plain_performs (Formats fs) ua
-    performs (Types t ds) ua = plain_performs (Types t ds) ua
-    performs (Dimensions ds) ua = plain_performs (Dimensions ds) ua
-    performs (Commons areas) ua = plain_performs (Commons areas) ua
-    performs (Equivalences es) ua = plain_performs (Equivalences es) ua
-    performs (Presets ps) ua = plain_performs (Presets ps) ua
+    performs (Assign x e) ua = plain_performs (Assign x e) ua
+    performs (Goto m) ua = plain_performs (Goto m) ua
+    performs (Computed ls x) ua = plain_performs (Computed ls x) ua
+    performs (Sign e n m k) ua = plain_performs (Sign e n m k) ua
+    performs (Invoke x es) ua = plain_performs (Invoke x es) ua
+    performs Continue ua = plain_performs Continue ua
+    performs (Stop n) ua = plain_performs (Stop n) ua
+    performs Return ua = plain_performs Return ua
+    performs (Read u m es) ua = plain_performs (Read u m es) ua
+    performs (Write u m es) ua = plain_performs (Write u m es) ua
+    performs (Format fs) ua = plain_performs (Format fs) ua
+    performs (Typed t ds) ua = plain_performs (Typed t ds) ua
+    performs (Dimension ds) ua = plain_performs (Dimension ds) ua
+    performs (Common areas) ua = plain_performs (Common areas) ua
+    performs (Equivalence es) ua = plain_performs (Equivalence es) ua
+    performs (Preset ps) ua = plain_performs (Preset ps) ua

@@ -12,27 +12,28 @@ use Rattle.f66_tree.specs.declared.statement.Entry.{Entry}
 use Rattle.f66_tree.specs.declared.statement.Entry.TheVariants as n
 use Rattle.f66_tree.specs.declared.statement.Entry.TheBlock.{Row_of-Entry, end_of-Entry, more_of-Entry, items-the_row-Entry, items_hidden-the_row-Entry-0}
 use Rattle.f66_tree.specs.Fields.{Group}
-use Rattle.f66_tree.specs.Forms.{Text, Also, Applied, Many, AndEntry}
+use Rattle.f66_tree.specs.Syntax.{Text, AndFormula, Many, AndEntry}
 use Rattle.f66_tree.specs.Views.{formula_of, row_formulas, chained, formulas_of, field_then, row_fields, strung, fields_of, par_of, entry_of, row_entries, listed, entries_of}
+use Rattle.f66_tree.specs.Syntax as f66
 
 row_formulas_is : (n : _) (row : Row_of-Expr n) → row_formulas row ≡ formulas_of (items-the_row-Expr n row)
 row_formulas_is n end_of-Expr = refl
-row_formulas_is n (more_of-Expr a rest) = ap (Also (formula_of a)) (row_formulas_is _ rest)
+row_formulas_is n (more_of-Expr a rest) = ap (AndFormula (formula_of a)) (row_formulas_is _ rest)
 
 abbrev row_of : Expr → (n : Count) × Row_of-Expr n
 row_of (Item' x shape row) = (_, row)
 row_of _ = (_, end_of-Expr)
 
-pub item_formula : (x : Text) (list : Vec Expr Global) → formula_of (Item x list) ≡ Applied x (formulas_of list.items)
+pub item_formula : (x : Text) (list : Vec Expr Global) → formula_of (Item x list) ≡ f66.Item x (formulas_of list.items)
 item_formula x list =
     let row = row_of (Item x list) in
-    ap (Applied x) (row_formulas_is row.0 row.1 ∙ ap formulas_of (items_hidden-the_row-Expr-0 list))
+    ap (f66.Item x) (row_formulas_is row.0 row.1 ∙ ap formulas_of (items_hidden-the_row-Expr-0 list))
 
 pub item_copied : (a : Expr) (x y : Text) (list copies : Vec Expr Global) (seen : List Expr) → a ≡ Item x list → seen ≡ list.items → y ≡ x → map formula_of copies.items ≡ map formula_of seen → formula_of (Item y copies) ≡ formula_of a
 item_copied a x y list copies seen is same name copied =
     item_formula y copies
-    ∙ ap (λ n. Applied n (formulas_of copies.items)) name
-    ∙ ap (λ fs. Applied x (chained fs)) (copied ∙ ap (λ all. map formula_of all) same)
+    ∙ ap (λ n. f66.Item n (formulas_of copies.items)) name
+    ∙ ap (λ fs. f66.Item x (chained fs)) (copied ∙ ap (λ all. map formula_of all) same)
     ∙ sym (ap formula_of is ∙ item_formula x list)
 
 row_fields_is : (n : _) (row : Row_of-Field n) → row_fields row ≡ fields_of (items-the_row-Field n row)

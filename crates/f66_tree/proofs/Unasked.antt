@@ -10,10 +10,10 @@ use Rattle.f66_tree.specs.declared.editing.Way.{Way}
 use Rattle.f66_tree.specs.declared.editing.Way.TheVariants.{Reading, Writing}
 use Rattle.f66_tree.specs.declared.editing.Mark.TheVariants.{Due}
 use Rattle.f66_tree.specs.Fields.{Step, Takes, Blanks, Chars, Slash, Fields, has_item}
-use Rattle.f66_tree.specs.Turns.{Hand, ◌>>=◌, blanked, lettered, suits, stands, line_of}
-use Rattle.f66_tree.specs.Editing.{Files, Break, within, Onward, mismatch, fetched, exchanged, seek, cycled, to_item, shut, seek_end, to_end}
+use Rattle.f66_tree.specs.Turns.{Hand, ◌>>=◌, blanked, lettered, suits, hand_at, line_in_hand}
+use Rattle.f66_tree.specs.Editing.{Files, Break, with_records, OnRecords, mismatch, next_record, exchanged, seek, cycled, to_item, shut, seek_end, to_end}
 use Rattle.f66_tree.specs.World.{Record, Tape, files_of, tape_of, Try, Yields, Traps, Fails, Breaks, then_try}
-use Rattle.f66_tree.specs.Records.{placed, begun, opened, put_by, handed, put, take_by, take}
+use Rattle.f66_tree.specs.Records.{tape_placed, read_begun, opened, put_by, handed, put, take_by, take}
 use Rattle.f66_tree.specs.FirstLaws.{longer, Unasked, SameTake, RecordsUnasked}
 
 module _ (more : List Record) where
@@ -37,7 +37,7 @@ module _ (more : List Record) where
   trap_bind EndOfInput f r g h = tt
   trap_bind _ f r g h = ap (λ q. q >>= g) h
 
-  bind_line : (f : Files) (r : Result (List ℕ) Trap) (g1 g2 : List ℕ → Result (Hand × Files) Break) → ((line : List ℕ) → Spares (g1 line) (g2 line)) → Spares (within f r >>= g1) (within (behind f) r >>= g2)
+  bind_line : (f : Files) (r : Result (List ℕ) Trap) (g1 g2 : List ℕ → Result (Hand × Files) Break) → ((line : List ℕ) → Spares (g1 line) (g2 line)) → Spares (with_records f r >>= g1) (with_records (behind f) r >>= g2)
   bind_line f (Ok line) g1 g2 h = h line
   bind_line f (Err t) g1 g2 h = trap_spares Hand t f
 
@@ -45,44 +45,44 @@ module _ (more : List Record) where
   bind_both (Ok x) r2 g h k = subst (λ q. Spares (g x) (q >>= g)) (sym h) (k x.0 x.1)
   bind_both (Err e) r2 g h k = trap_bind e.0 e.1 r2 g h
 
-  fetch_spares : (rs : List Record) (f : Files) → Spares (within f (fetched rs f)) (within (behind f) (fetched (rs ++ more) (behind f)))
+  fetch_spares : (rs : List Record) (f : Files) → Spares (with_records f (next_record rs f)) (with_records (behind f) (next_record (rs ++ more) (behind f)))
   fetch_spares [] f = tt
   fetch_spares (r ∷ rs) f = fits (nat_le (length r) 65535)
     where
-      fits : (b : Bool) → Spares (within f (if b then Ok (r, record f { unread = rs }) else Err LongRecord)) (within (behind f) (if b then Ok (r, record (behind f) { unread = rs ++ more }) else Err LongRecord))
+      fits : (b : Bool) → Spares (with_records f (if b then Ok (r, record f { unread = rs }) else Err LongRecord)) (with_records (behind f) (if b then Ok (r, record (behind f) { unread = rs ++ more }) else Err LongRecord))
       fits true = refl
       fits false = refl
 
-  exchange_spares : (way : Way) (line : List ℕ) (f : Files) → Spares (within f (exchanged way line f)) (within (behind f) (exchanged way line (behind f)))
+  exchange_spares : (way : Way) (line : List ℕ) (f : Files) → Spares (with_records f (exchanged way line f)) (with_records (behind f) (exchanged way line (behind f)))
   exchange_spares Writing line f = refl
   exchange_spares Reading line f = fetch_spares f.unread f
 
-  abbrev OnwardSpares : Onward → Type 0
+  abbrev OnwardSpares : OnRecords → Type 0
   OnwardSpares past = (line : List ℕ) (f : Files) → Spares (past line f) (past line (behind f))
 
-  seek_spares : (way : Way) (cycle : List Step) (k : Kind) (rest : List Step) (past : Onward) → OnwardSpares past → OnwardSpares (seek way cycle k rest past)
+  seek_spares : (way : Way) (cycle : List Step) (k : Kind) (rest : List Step) (past : OnRecords) → OnwardSpares past → OnwardSpares (seek way cycle k rest past)
   seek_spares way cycle k [] past p line f = p line f
   seek_spares way cycle k (Takes j w ∷ rest) past p line f = by_type (suits k j)
     where
-      by_type : (b : Bool) → Spares (if b then Ok (stands way rest cycle line (Due j w), f) else mismatch line f) (if b then Ok (stands way rest cycle line (Due j w), behind f) else mismatch line (behind f))
+      by_type : (b : Bool) → Spares (if b then Ok (hand_at way rest cycle line (Due j w), f) else mismatch line f) (if b then Ok (hand_at way rest cycle line (Due j w), behind f) else mismatch line (behind f))
       by_type true = refl
       by_type false = refl
   seek_spares way cycle k (Blanks n ∷ rest) past p line f = bind_line f (blanked way n line) (λ line1. seek way cycle k rest past line1 f) (λ line1. seek way cycle k rest past line1 (behind f)) (λ line1. seek_spares way cycle k rest past p line1 f)
   seek_spares way cycle k (Chars text ∷ rest) past p line f = bind_line f (lettered way text line) (λ line1. seek way cycle k rest past line1 f) (λ line1. seek way cycle k rest past line1 (behind f)) (λ line1. seek_spares way cycle k rest past p line1 f)
   seek_spares way cycle k (Slash ∷ rest) past p line f =
-      bind_both (within f (exchanged way line f)) (within (behind f) (exchanged way line (behind f))) (λ x. seek way cycle k rest past x.0 x.1) (exchange_spares way line f) (λ line1 f1. seek_spares way cycle k rest past p line1 f1)
+      bind_both (with_records f (exchanged way line f)) (with_records (behind f) (exchanged way line (behind f))) (λ x. seek way cycle k rest past x.0 x.1) (exchange_spares way line f) (λ line1 f1. seek_spares way cycle k rest past p line1 f1)
 
   cycle_spares : (way : Way) (cycle : List Step) (k : Kind) → OnwardSpares (cycled way cycle k)
   cycle_spares way cycle k line f = by_items (has_item cycle)
     where
-      by_items : (b : Bool) → Spares (if b then (within f (exchanged way line f) >>= λ x. seek way cycle k cycle mismatch x.0 x.1) else mismatch line f) (if b then (within (behind f) (exchanged way line (behind f)) >>= λ x. seek way cycle k cycle mismatch x.0 x.1) else mismatch line (behind f))
+      by_items : (b : Bool) → Spares (if b then (with_records f (exchanged way line f) >>= λ x. seek way cycle k cycle mismatch x.0 x.1) else mismatch line f) (if b then (with_records (behind f) (exchanged way line (behind f)) >>= λ x. seek way cycle k cycle mismatch x.0 x.1) else mismatch line (behind f))
       by_items true =
-          bind_both (within f (exchanged way line f)) (within (behind f) (exchanged way line (behind f))) (λ x. seek way cycle k cycle mismatch x.0 x.1) (exchange_spares way line f)
+          bind_both (with_records f (exchanged way line f)) (with_records (behind f) (exchanged way line (behind f))) (λ x. seek way cycle k cycle mismatch x.0 x.1) (exchange_spares way line f)
           (λ line1 f1. seek_spares way cycle k cycle mismatch (λ line2 f2. refl) line1 f1)
       by_items false = refl
 
   item_spares : (hand : Hand) (k : Kind) (f : Files) → Spares (to_item hand k f) (to_item hand k (behind f))
-  item_spares hand k f = seek_spares hand.way hand.cycle k hand.rest (cycled hand.way hand.cycle k) (cycle_spares hand.way hand.cycle k) (line_of hand.way hand.mark hand.line) f
+  item_spares hand k f = seek_spares hand.way hand.cycle k hand.rest (cycled hand.way hand.cycle k) (cycle_spares hand.way hand.cycle k) (line_in_hand hand.way hand.mark hand.line) f
 
   shut_spares : (way : Way) (cycle : List Step) → OnwardSpares (shut way cycle)
   shut_spares Writing cycle line f = refl
@@ -93,27 +93,27 @@ module _ (more : List Record) where
   seek_end_spares way cycle (Takes j w ∷ rest) line f = shut_spares way cycle line f
   seek_end_spares way cycle (Blanks n ∷ rest) line f = bind_line f (blanked way n line) (λ line1. seek_end way cycle rest line1 f) (λ line1. seek_end way cycle rest line1 (behind f)) (λ line1. seek_end_spares way cycle rest line1 f)
   seek_end_spares way cycle (Chars text ∷ rest) line f = bind_line f (lettered way text line) (λ line1. seek_end way cycle rest line1 f) (λ line1. seek_end way cycle rest line1 (behind f)) (λ line1. seek_end_spares way cycle rest line1 f)
-  seek_end_spares way cycle (Slash ∷ rest) line f = bind_both (within f (exchanged way line f)) (within (behind f) (exchanged way line (behind f))) (λ x. seek_end way cycle rest x.0 x.1) (exchange_spares way line f) (λ line1 f1. seek_end_spares way cycle rest line1 f1)
+  seek_end_spares way cycle (Slash ∷ rest) line f = bind_both (with_records f (exchanged way line f)) (with_records (behind f) (exchanged way line (behind f))) (λ x. seek_end way cycle rest x.0 x.1) (exchange_spares way line f) (λ line1 f1. seek_end_spares way cycle rest line1 f1)
 
   end_spares : (hand : Hand) (f : Files) → Spares (to_end hand f) (to_end hand (behind f))
-  end_spares hand f = seek_end_spares hand.way hand.cycle hand.rest (line_of hand.way hand.mark hand.line) f
+  end_spares hand f = seek_end_spares hand.way hand.cycle hand.rest (line_in_hand hand.way hand.mark hand.line) f
 
-  placed_unasked : (t : Tape) (r1 r2 : Result (Hand × Files) Break) → Spares r1 r2 → Unasked more (placed t r1) (placed (longer more t) r2)
-  placed_unasked t (Ok x) r2 h = ap (placed (longer more t)) h
+  placed_unasked : (t : Tape) (r1 r2 : Result (Hand × Files) Break) → Spares r1 r2 → Unasked more (tape_placed t r1) (tape_placed (longer more t) r2)
+  placed_unasked t (Ok x) r2 h = ap (tape_placed (longer more t)) h
   placed_unasked t (Err e) r2 h = by_trap e.0 e.1 h
     where
-      by_trap : (trap : Trap) (f : Files) → SparesTrap trap f r2 → Unasked more (Breaks trap (tape_of t.hand f)) (placed (longer more t) r2)
+      by_trap : (trap : Trap) (f : Files) → SparesTrap trap f r2 → Unasked more (Breaks trap (tape_of t.hand f)) (tape_placed (longer more t) r2)
       by_trap EndOfInput f q = tt
-      by_trap _ f q = ap (placed (longer more t)) q
+      by_trap _ f q = ap (tape_placed (longer more t)) q
 
   opened_unasked : (way : Way) (fs : Fields) (t : Tape) → Unasked more (opened way fs t) (opened way fs (longer more t))
   opened_unasked Reading fs t = first t.unread
     where
-      first : (rs : List Record) → Unasked more (begun fs t (fetched rs (files_of t))) (begun fs (longer more t) (fetched (rs ++ more) (behind (files_of t))))
+      first : (rs : List Record) → Unasked more (read_begun fs t (next_record rs (files_of t))) (read_begun fs (longer more t) (next_record (rs ++ more) (behind (files_of t))))
       first [] = tt
       first (r ∷ rs) = fits (nat_le (length r) 65535)
         where
-          fits : (b : Bool) → Unasked more (begun fs t (if b then Ok (r, record (files_of t) { unread = rs }) else Err LongRecord)) (begun fs (longer more t) (if b then Ok (r, record (behind (files_of t)) { unread = rs ++ more }) else Err LongRecord))
+          fits : (b : Bool) → Unasked more (read_begun fs t (if b then Ok (r, record (files_of t) { unread = rs }) else Err LongRecord)) (read_begun fs (longer more t) (if b then Ok (r, record (behind (files_of t)) { unread = rs ++ more }) else Err LongRecord))
           fits true = refl
           fits false = refl
   opened_unasked Writing fs t = refl

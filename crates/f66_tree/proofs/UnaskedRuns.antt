@@ -6,13 +6,13 @@ use Rattle.ground.specs.declared.place.Place.{Place}
 use Rattle.ground.specs.declared.trap.Trap.{Trap}
 use Rattle.ground.specs.declared.trap.Trap.TheVariants.{EndOfInput}
 use Rattle.ground.specs.Content.{Content}
-use Rattle.f66_tree.specs.Forms.{Text, Line}
+use Rattle.f66_tree.specs.Syntax.{Text, Line}
 use Rattle.f66_tree.specs.World.{Record, Tape, World, Done, Stopped, Trapped, Wrong, Finish, Ended, GoesOn, Lost, Out, Gives, Halts, bind, Try, Yields, Traps, Fails, Move, Moves, Breaks, Misses, settle, moving, holding, taping, take_one, take_from, choose, shown}
 use Rattle.f66_tree.specs.FirstLaws.{longer, Unasked, SameTake}
 use Rattle.f66_tree.specs.Units.{Spot, Held, Lent, Linkage, Frame, is_main}
 use Rattle.f66_tree.specs.Evaluation.{ticked, asked, held, stored}
-use Rattle.f66_tree.specs.Statements.{Loop, loop_turn, taped, took, item_turns}
-use Rattle.f66_tree.specs.Execution.{stand, Progress, fetch, past_end, runnable, no_loops, nowhere, start, target, exec}
+use Rattle.f66_tree.specs.Statements.{LoopParameters, loop_turn, taped, taken_content, item_turns}
+use Rattle.f66_tree.specs.Execution.{stand, Progress, fetch, past_end, runnable, no_loops, nowhere, first_state, target, exec}
 use Rattle.f66_tree.specs.Laws.{UnaskedChangeNothing}
 use Rattle.f66_tree.proofs.Posts.{IfGives, post_any}
 use Rattle.f66_tree.proofs.Related.{same_names, Sides, side1, side2, Frames, one, two, Good, Holds, turn_holds}
@@ -117,7 +117,7 @@ module _ (more : List Record) where
       loads = λ f g k p fair w. subst (λ v. SparesOut (settle f.here (asked k (held l p w.state.store)) w) (settle v (asked k (held l p w.state.store)) (fuller w))) g.places (settle_spares Content f.here (asked k (held l p w.state.store)) w);
       stores = λ f g p fair c w. subst (λ v. SparesOut {A = ⊤} (bind (settle f.here (stored l p c w.state.store) w) (λ st w1. Gives tt (holding st w1))) (bind (settle v (stored l p c w.state.store) (fuller w)) (λ st w1. Gives tt (holding st w1)))) g.places (store_spares l f.here p c w);
       tapes = λ f g h step w. subst (λ v. SparesOut (taped f.here h w) (taped v h (fuller w))) g.places (taped_spares f.here (h w.state.tape) (h (longer more w.state.tape)) w (step.unasked more w.state.tape));
-      takes = λ f g h step w. subst (λ v. SparesOut (took f.here h w) (took v h (fuller w))) g.places (took_spares f.here (h w.state.tape) (h (longer more w.state.tape)) w (step.unasked more w.state.tape));
+      takes = λ f g h step w. subst (λ v. SparesOut (taken_content f.here h w) (taken_content v h (fuller w))) g.places (took_spares f.here (h w.state.tape) (h (longer more w.state.tape)) w (step.unasked more w.state.tape));
       ticks = λ h w. h (ticked (side2 inputs) w);
       calls = λ u x v ps used e fair. calls v ps;
     }
@@ -125,7 +125,7 @@ module _ (more : List Record) where
     pub good : (f : Frames) → f.here ≡ f.there → Good inputs f
     good f same = record { places = same; actuals = any_fair f.actuals }
 
-    pub many_spare : (n : ℕ) (f : Frames) → Good inputs f → (x : Text) (k : Loop) (m1 m2 : World → Out ⊤) → AllSpare ⊤ m1 m2 → AllSpare ⊤ begin begin → AllSpare ⊤ (item_turns n (side1 inputs tt) (one f) x k m1) (item_turns n (side2 inputs) (two f) x k m2)
+    pub many_spare : (n : ℕ) (f : Frames) → Good inputs f → (x : Text) (k : LoopParameters) (m1 m2 : World → Out ⊤) → AllSpare ⊤ m1 m2 → AllSpare ⊤ begin begin → AllSpare ⊤ (item_turns n (side1 inputs tt) (one f) x k m1) (item_turns n (side2 inputs) (two f) x k m2)
     many_spare zero f g x k m1 m2 h b w = refl
     many_spare (suc n) f g x k m1 m2 h b w =
         bind_spares (λ _. ⊤) (begin w) (begin (fuller w)) _ _ (b w) (post_any (begin (fuller w))) (λ _ _ w1. bind_spares (λ _. ⊤) (m1 w1) (m2 (fuller w1)) _ _ (h w1) (post_any (m2 (fuller w1))) (λ _ _ w2.
@@ -180,4 +180,4 @@ module _ (more : List Record) where
 
 pub unasked_alone : UnaskedChangeNothing
 unasked_alone l codes input more n not_asked =
-    shown_spares more _ _ (exec_spares more l codes (suc n) (record { unit = l.main; actuals = []; place = nowhere }) (codes l.main) no_loops (record { state = start l input; left = n; count = 0 })) not_asked
+    shown_spares more _ _ (exec_spares more l codes (suc n) (record { unit = l.main; actuals = []; place = nowhere }) (codes l.main) no_loops (record { state = first_state l input; left = n; count = 0 })) not_asked

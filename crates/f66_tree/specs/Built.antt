@@ -2,7 +2,7 @@
 use Rattle.std.specs.Prelude.{ℤ, pos, int_le, Bool, true, false, ◌&&◌, List, [], ◌∷◌}
 use Rattle.f66_tree.specs.declared.expression.Operator.{Operator}
 use Rattle.f66_tree.specs.declared.expression.Operator.TheVariants.{Add, Sub, Mul, Div, Power}
-use Rattle.f66_tree.specs.Forms.{Par, Constant, Named}
+use Rattle.f66_tree.specs.Syntax.{Par, Constant, Named}
 
 abbrev pub is_constant : ℤ → Bool
 is_constant z = int_le (pos 0) z && int_le z (pos 2147483647)

@@ -10,9 +10,10 @@ use Rattle.ground.specs.Content.{Content, Nothing, Whole, Truth}
 use Rattle.ground.specs.Arithmetic.{sum, difference, product, quotient, remainder, power}
 use Rattle.f66_tree.specs.declared.expression.Operator.{Operator}
 use Rattle.f66_tree.specs.declared.expression.Operator.TheVariants.{Add, Sub, Mul, Div, Power, Lt, Le, Eq, Ne, Ge, Gt, And, Or}
-use Rattle.f66_tree.specs.Forms.{Text, Formula, Number, Fact, Letter, Variable, Applied, Grouped, Positive, Negative, Negated, Joined, Formulas, Nought, Also, Par, Constant, Named}
+use Rattle.f66_tree.specs.Syntax.{Text, Formula, Int, Letter, Ref, Item, Group, Plus, Minus, Not, Pair, Formulas, NoFormula, AndFormula, Par, Constant, Named}
 use Rattle.f66_tree.specs.World.{Store, put_in, World, Ended, Wrong, Out, Gives, Halts, bind, Try, Yields, Traps, Fails, then_try, settle, holding}
 use Rattle.f66_tree.specs.Units.{Context, dummies_of, position, sizes_of, kind_of, places_of, Spot, Held, Lent, Linkage, Setting, Frame, around}
+use Rattle.f66_tree.specs.Syntax as f66
 
 abbrev pub whole : Result ℤ Trap → Try Content
 whole (Ok z) = Yields (Whole z)
@@ -198,8 +199,8 @@ place_by s f x (AnArray ns) vals w = element s f x ns vals w
 place_by s f x _ vals w = Halts (Ended Wrong) w
 
 abbrev pub place_of : Setting → Frame → Formula → (World → Out (List Content)) → World → Out Spot
-place_of s f (Variable x) vals w = settle f.place (base s f x) (ticked s w)
-place_of s f (Applied x es) vals w = place_by s f x (sort_of (around s f) x) vals (ticked s w)
+place_of s f (Ref x) vals w = settle f.place (base s f x) (ticked s w)
+place_of s f (Item x es) vals w = place_by s f x (sort_of (around s f) x) vals (ticked s w)
 place_of s f _ vals w = Halts (Ended Wrong) w
 
 abbrev pub is_array : Sort → Bool
@@ -207,8 +208,8 @@ is_array (AnArray ns) = true
 is_array _ = false
 
 abbrev pub names_place : Context → Formula → Bool
-names_place c (Variable x) = true
-names_place c (Applied x es) = is_array (sort_of c x)
+names_place c (Ref x) = true
+names_place c (Item x es) = is_array (sort_of c x)
 names_place c _ = false
 
 -- an actual: a place is associated, and anything else is a value
@@ -225,28 +226,28 @@ by_sign s f op a = bind a (λ x w1. settle f.place (op x) w1)
 -- the value of an expression; the values of several; the subscripts that an expression has; and actuals
 abbrev mutual
   pub value_of : Setting → Frame → Formula → World → Out Content
-  value_of s f (Number z) w = Gives (Whole z) (ticked s w)
-  value_of s f (Fact b) w = Gives (Truth b) (ticked s w)
+  value_of s f (Int z) w = Gives (Whole z) (ticked s w)
+  value_of s f (f66.Truth b) w = Gives (Truth b) (ticked s w)
   value_of s f (Letter c) w = Gives (Whole (pos c)) (ticked s w)
-  value_of s f (Variable x) w = variable_in s f x (ticked s w)
-  value_of s f (Applied x es) w = referred s f x (sort_of (around s f) x) (values_of s f es) (spots_of s f es) (ticked s w)
-  value_of s f (Grouped a) w = value_of s f a (ticked s w)
-  value_of s f (Positive a) w = by_sign s f same_whole (value_of s f a (ticked s w))
-  value_of s f (Negative a) w = by_sign s f opposite (value_of s f a (ticked s w))
-  value_of s f (Negated a) w = by_sign s f denied (value_of s f a (ticked s w))
-  value_of s f (Joined op a b) w = by_operator s f op (value_of s f a (ticked s w)) (value_of s f b)
+  value_of s f (Ref x) w = variable_in s f x (ticked s w)
+  value_of s f (Item x es) w = referred s f x (sort_of (around s f) x) (values_of s f es) (spots_of s f es) (ticked s w)
+  value_of s f (Group a) w = value_of s f a (ticked s w)
+  value_of s f (Plus a) w = by_sign s f same_whole (value_of s f a (ticked s w))
+  value_of s f (Minus a) w = by_sign s f opposite (value_of s f a (ticked s w))
+  value_of s f (Not a) w = by_sign s f denied (value_of s f a (ticked s w))
+  value_of s f (Pair op a b) w = by_operator s f op (value_of s f a (ticked s w)) (value_of s f b)
 
   pub values_of : Setting → Frame → Formulas → World → Out (List Content)
-  values_of s f Nought w = Gives [] w
-  values_of s f (Also e es) w = bind (value_of s f e w) (λ v w1. bind (values_of s f es w1) (λ vs w2. Gives (v ∷ vs) w2))
+  values_of s f NoFormula w = Gives [] w
+  values_of s f (AndFormula e es) w = bind (value_of s f e w) (λ v w1. bind (values_of s f es w1) (λ vs w2. Gives (v ∷ vs) w2))
 
   pub subscripts_of : Setting → Frame → Formula → World → Out (List Content)
-  subscripts_of s f (Applied x es) w = values_of s f es w
+  subscripts_of s f (Item x es) w = values_of s f es w
   subscripts_of s f _ w = Gives [] w
 
   pub spots_of : Setting → Frame → Formulas → World → Out (List Spot)
-  spots_of s f Nought w = Gives [] w
-  spots_of s f (Also e es) w =
+  spots_of s f NoFormula w = Gives [] w
+  spots_of s f (AndFormula e es) w =
       bind (actual_of (names_place (around s f) e) (place_of s f e (subscripts_of s f e)) (value_of s f e) (ticked s w)) (λ p w1. bind (spots_of s f es w1) (λ ps w2. Gives (p ∷ ps) w2))
 
 -- where a left side, an item, or an associated actual is

@@ -1,11 +1,11 @@
 -- What linked units of FORTRAN do (X3.9-1966, sections 7.1.2, 8 and 9).
 use Rattle.std.specs.Prelude.{ℕ, pos, zero, suc, Bool, true, false, nat_eq, List, [], ◌∷◌, ◌++◌, length, Option, Some, None, if◌then◌else◌, ⊤}
 use Rattle.ground.specs.declared.place.Place.{Place}
-use Rattle.f66_tree.specs.Forms.{Text, Act, Chooses, Loops, Line}
+use Rattle.f66_tree.specs.Syntax.{Text, Act, When, Loop, Line}
 use Rattle.f66_tree.specs.World.{Record, first_tape, State, World, Done, Ended, GoesOn, Out, Gives, Halts, bind, choose, take_one, Shown, shown}
 use Rattle.f66_tree.specs.Units.{is_note, is_main, Linkage, Setting, Frame, moved_to, around}
 use Rattle.f66_tree.specs.Evaluation.{asks}
-use Rattle.f66_tree.specs.Statements.{Exit, Next, To, Back, Loop, loop_start, loop_turn, does}
+use Rattle.f66_tree.specs.Statements.{Exit, Normal, To, Back, LoopParameters, loop_start, loop_turn, does}
 
 -- from the next statement that is executed
 abbrev pub runnable : List Line → List Line
@@ -23,9 +23,9 @@ from_label l (s ∷ rest) = if has_label l s.label then (s ∷ rest) else from_l
 
 -- the DO loops in progress: what each DO took, by how many statements stand behind it in its unit
 abbrev pub Progress : Type 0
-Progress = ℕ → Loop
+Progress = ℕ → LoopParameters
 
-abbrev pub begun : ℕ → Loop → Progress → Progress
+abbrev pub begun : ℕ → LoopParameters → Progress → Progress
 begun key k pr q = if nat_eq q key then k else pr q
 
 -- where a unit stands: the statements still to go through, and its loops in progress
@@ -42,7 +42,7 @@ pub record Closer : Type 0 where
   pub inner : List Line
 
 abbrev pub closer_of : ℕ → Act → List Line → List Closer → List Closer
-closer_of l (Loops m x a b c) rest found = if nat_eq m l then (found ++ record { variable = x; inner = rest } ∷ []) else found
+closer_of l (Loop m x a b c) rest found = if nat_eq m l then (found ++ record { variable = x; inner = rest } ∷ []) else found
 closer_of l _ rest found = found
 
 -- the DO loops of a unit that end at a label, the innermost first
@@ -65,15 +65,15 @@ close s f (k ∷ ks) rest go pr w =
 
 -- where a statement leads
 abbrev pub leads : Setting → Frame → List Line → Option ℕ → List Line → Onward → Progress → Exit → World → Out ⊤
-leads s f code l rest go pr Next w = close s f (closers_at l code) rest go pr w
+leads s f code l rest go pr Normal w = close s f (closers_at l code) rest go pr w
 leads s f code l rest go pr (To m) w = go (stand (from_label m code) pr) w
 leads s f code l rest go pr Back w = Gives tt w
 
 -- one statement that has begun; that of a logical IF begins for itself, in the IF's place and with its label
 abbrev pub perform : Setting → Frame → List Line → Option ℕ → Act → List Line → Onward → Progress → World → Out ⊤
-perform s f code l (Chooses e a) rest go pr w =
-    bind (asks s f e w) (λ holds w1. choose holds (go (stand (record { label = l; place = f.place; act = a } ∷ rest) pr) w1) (leads s f code l rest go pr Next w1))
-perform s f code l (Loops m x a b c) rest go pr w =
+perform s f code l (When e a) rest go pr w =
+    bind (asks s f e w) (λ holds w1. choose holds (go (stand (record { label = l; place = f.place; act = a } ∷ rest) pr) w1) (leads s f code l rest go pr Normal w1))
+perform s f code l (Loop m x a b c) rest go pr w =
     bind (loop_start s f x a b c w) (λ k w1. go (stand rest (begun (length rest) k pr)) w1)
 perform s f code l a rest go pr w = bind (does s f a w) (λ y w1. leads s f code l rest go pr y w1)
 
@@ -90,8 +90,8 @@ fetch s f code (line ∷ rest) go pr w = bind (s.begin w) (λ _ w1. perform s (m
 abbrev pub nowhere : Place
 nowhere = record { file = 0; line = 0 }
 
-abbrev pub start : Linkage → List Record → State
-start l input = record { store = l.first; tape = first_tape input }
+abbrev pub first_state : Linkage → List Record → State
+first_state l input = record { store = l.first; tape = first_tape input }
 
 -- no loop is in progress where a unit begins
 abbrev pub no_loops : Progress
@@ -116,4 +116,4 @@ module _ (l : Linkage) (codes : ℕ → List Line) where
   -- a run of linked units over these input records, after at most n statements
   abbrev pub f66 : List Record → ℕ → Shown
   f66 input n =
-      shown (exec (suc n) (record { unit = l.main; actuals = []; place = nowhere }) (stand (codes l.main) no_loops) (record { state = start l input; left = n; count = 0 }))
+      shown (exec (suc n) (record { unit = l.main; actuals = []; place = nowhere }) (stand (codes l.main) no_loops) (record { state = first_state l input; left = n; count = 0 }))

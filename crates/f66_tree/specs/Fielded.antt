@@ -24,12 +24,12 @@ truth_text w b = replicate (w - 1) 32 ++ truth_letter b ∷ []
 abbrev pub is_character : ℕ → Bool
 is_character n = nat_le 32 n && nat_le n 126
 
-abbrev pub code_of : ℤ → Option ℕ
-code_of (pos n) = if is_character n then Some n else None
-code_of (negsuc n) = None
+abbrev pub character_code : ℤ → Option ℕ
+character_code (pos n) = if is_character n then Some n else None
+character_code (negsuc n) = None
 
 abbrev pub letter_text : ℤ → Result (List ℕ) Trap
-letter_text n = elim (code_of n) [ Some c ↦ Ok (c ∷ []) | None ↦ Err BadCharacter ]
+letter_text n = elim (character_code n) [ Some c ↦ Ok (c ∷ []) | None ↦ Err BadCharacter ]
 
 -- ---- input ----
 
@@ -52,16 +52,16 @@ digits_of [] = None
 digits_of (c ∷ cs) = digits_from 0 (c ∷ cs)
 
 -- a number of the range
-abbrev pub capped : Option ℕ → Option ℕ
-capped None = None
-capped (Some n) = if nat_le n 2147483647 then Some n else None
+abbrev pub in_magnitude : Option ℕ → Option ℕ
+in_magnitude None = None
+in_magnitude (Some n) = if nat_le n 2147483647 then Some n else None
 
-abbrev pub with_sign : (ℕ → ℤ) → Option ℕ → Result ℤ Trap
-with_sign sign None = Err BadField
-with_sign sign (Some n) = Ok (sign n)
+abbrev pub signed_value : (ℕ → ℤ) → Option ℕ → Result ℤ Trap
+signed_value sign None = Err BadField
+signed_value sign (Some n) = Ok (sign n)
 
 abbrev pub ranged : (ℕ → ℤ) → Option ℕ → Result ℤ Trap
-ranged sign o = with_sign sign (capped o)
+ranged sign o = signed_value sign (in_magnitude o)
 
 abbrev pub minus : ℕ → ℤ
 minus n = neg_ℤ (pos n)

@@ -2,7 +2,7 @@
 use Rattle.std.specs.Prelude.{◌≡◌, ◌≢◌, ◌++◌, ℕ, ◌≤◌, List, map}
 use Rattle.ground.specs.declared.place.Place.{Place}
 use Rattle.ground.specs.declared.trap.Trap.TheVariants.{EndOfInput}
-use Rattle.f66_tree.specs.Forms.{Line}
+use Rattle.f66_tree.specs.Syntax.{Line}
 use Rattle.f66_tree.specs.World.{Record, Shown, Finish, Trapped, End, Ended, IsPrefix}
 use Rattle.f66_tree.specs.Units.{Linkage}
 use Rattle.f66_tree.specs.Execution.{nowhere, f66}

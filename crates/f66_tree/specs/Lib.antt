@@ -6,7 +6,7 @@ pub mod Editing
 pub mod World
 pub mod Records
 pub mod FirstLaws
-pub mod Forms
+pub mod Syntax
 pub mod Constants
 pub mod Views
 pub mod Units

@@ -1,6 +1,6 @@
 -- A program that is one main unit: it calls nothing, and each place of each of its names is a storage unit of its own.
 use Rattle.std.specs.Prelude.{ℕ, ◌+◌, ◌*◌, ◌^◌, List, [], ◌∷◌, None}
-use Rattle.f66_tree.specs.Forms.{MainUnit, Line}
+use Rattle.f66_tree.specs.Syntax.{MainUnit, Line}
 use Rattle.f66_tree.specs.World.{Record, Shown, fresh}
 use Rattle.f66_tree.specs.Units.{Note, notes_of, Linkage}
 use Rattle.f66_tree.specs.Execution.{f66}

@@ -9,31 +9,31 @@ use Rattle.f66_tree.specs.declared.editing.EditKind.TheVariants as edits
 use Rattle.f66_tree.specs.declared.editing.Mark.{Mark}
 use Rattle.f66_tree.specs.declared.editing.Mark.TheVariants.{Due}
 use Rattle.f66_tree.specs.Fields.{Fields}
-use Rattle.f66_tree.specs.Turns.{Hand, started, took, ◌>>=◌, put_whole, put_truth, put_letter, take_whole, take_truth, take_letter}
-use Rattle.f66_tree.specs.Editing.{Files, Break, fetched, to_item, to_end}
+use Rattle.f66_tree.specs.Turns.{Hand, started, with_record, ◌>>=◌, put_whole, put_truth, put_letter, take_whole, take_truth, take_letter}
+use Rattle.f66_tree.specs.Editing.{Files, Break, next_record, to_item, to_end}
 use Rattle.f66_tree.specs.World.{Tape, files_of, tape_of, Try, Yields, Traps, Fails, then_try, lifted, Move, Moves, Breaks, Misses}
 
 -- behind a walk over the edits; a trap leaves the hand as it was
-abbrev pub placed : Tape → Result (Hand × Files) Break → Move
-placed t (Ok x) = Moves (tape_of x.0 x.1)
-placed t (Err e) = Breaks e.0 (tape_of t.hand e.1)
+abbrev pub tape_placed : Tape → Result (Hand × Files) Break → Move
+tape_placed t (Ok x) = Moves (tape_of x.0 x.1)
+tape_placed t (Err e) = Breaks e.0 (tape_of t.hand e.1)
 
-abbrev pub begun : Fields → Tape → Result (List ℕ × Files) Trap → Move
-begun fs t (Ok x) = Moves (tape_of (took (started Reading fs) x.0) x.1)
-begun fs t (Err e) = Breaks e t
+abbrev pub read_begun : Fields → Tape → Result (List ℕ × Files) Trap → Move
+read_begun fs t (Ok x) = Moves (tape_of (with_record (started Reading fs) x.0) x.1)
+read_begun fs t (Err e) = Breaks e t
 
 -- a statement begins; a READ takes its first record
 abbrev pub opened : Way → Fields → Tape → Move
-opened Reading fs t = begun fs t (fetched t.unread (files_of t))
+opened Reading fs t = read_begun fs t (next_record t.unread (files_of t))
 opened Writing fs t = Moves (tape_of (started Writing fs) (files_of t))
 
 -- an item of this type is due: its edit is found, and compared
 abbrev pub due : Kind → Tape → Move
-due k t = placed t (to_item t.hand k (files_of t))
+due k t = tape_placed t (to_item t.hand k (files_of t))
 
 -- the statement ends
 abbrev pub closed : Tape → Move
-closed t = placed t (to_end t.hand (files_of t))
+closed t = tape_placed t (to_end t.hand (files_of t))
 
 abbrev pub put_by : Mark → Content → Hand → Try Hand
 put_by (Due edits.Whole w) (Whole n) h = lifted (put_whole h n)

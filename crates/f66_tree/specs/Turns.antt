@@ -54,62 +54,62 @@ suits Logical Whole = false
 suits Logical Truth = true
 suits Logical Letter = false
 
-abbrev pub stands : Way → List Step → List Step → List ℕ → Mark → Hand
-stands way rest cycle line mark = record { way = way; rest = rest; cycle = cycle; line = line; mark = mark }
+abbrev pub hand_at : Way → List Step → List Step → List ℕ → Mark → Hand
+hand_at way rest cycle line mark = record { way = way; rest = rest; cycle = cycle; line = line; mark = mark }
 
 -- the next turn for an item of this kind, with the record in hand
 abbrev pub find : Way → List Step → Kind → List Step → List ℕ → Result (Turn × Hand) Trap
-find way cycle k [] line = if has_item cycle then Ok (RecordDone, stands way cycle cycle line Complete) else Err FormatMismatch
-find way cycle k (Takes j w ∷ rest) line = if suits k j then Ok (Ready j, stands way rest cycle line (Due j w)) else Err FormatMismatch
+find way cycle k [] line = if has_item cycle then Ok (RecordDone, hand_at way cycle cycle line Complete) else Err FormatMismatch
+find way cycle k (Takes j w ∷ rest) line = if suits k j then Ok (Ready j, hand_at way rest cycle line (Due j w)) else Err FormatMismatch
 find way cycle k (Blanks n ∷ rest) line = blanked way n line >>= λ line1. find way cycle k rest line1
 find way cycle k (Chars text ∷ rest) line = lettered way text line >>= λ line1. find way cycle k rest line1
-find way cycle k (Slash ∷ rest) line = Ok (RecordDone, stands way rest cycle line Complete)
+find way cycle k (Slash ∷ rest) line = Ok (RecordDone, hand_at way rest cycle line Complete)
 
 -- the record in hand: an empty one after a complete one
-abbrev pub line_of : Way → Mark → List ℕ → List ℕ
-line_of Writing Complete line = []
-line_of _ _ line = line
+abbrev pub line_in_hand : Way → Mark → List ℕ → List ℕ
+line_in_hand Writing Complete line = []
+line_in_hand _ _ line = line
 
 abbrev pub next_turn : Hand → Kind → Result (Turn × Hand) Trap
-next_turn h k = find h.way h.cycle k h.rest (line_of h.way h.mark h.line)
+next_turn h k = find h.way h.cycle k h.rest (line_in_hand h.way h.mark h.line)
 
 -- the end of the statement: the last record is complete, and no edit is left
-abbrev pub closed : Way → List Step → List ℕ → Option Turn × Hand
-closed Writing cycle line = (Some RecordDone, stands Writing [] cycle line Over)
-closed Reading cycle line = (None, stands Reading [] cycle line Over)
+abbrev pub ended_turn : Way → List Step → List ℕ → Option Turn × Hand
+ended_turn Writing cycle line = (Some RecordDone, hand_at Writing [] cycle line Over)
+ended_turn Reading cycle line = (None, hand_at Reading [] cycle line Over)
 
 -- the next turn where no item is left
-abbrev pub close : Way → List Step → List Step → List ℕ → Result (Option Turn × Hand) Trap
-close way cycle [] line = Ok (closed way cycle line)
-close way cycle (Takes j w ∷ rest) line = Ok (closed way cycle line)
-close way cycle (Blanks n ∷ rest) line = blanked way n line >>= λ line1. close way cycle rest line1
-close way cycle (Chars text ∷ rest) line = lettered way text line >>= λ line1. close way cycle rest line1
-close way cycle (Slash ∷ rest) line = Ok (Some RecordDone, stands way rest cycle line Complete)
+abbrev pub end_turn : Way → List Step → List Step → List ℕ → Result (Option Turn × Hand) Trap
+end_turn way cycle [] line = Ok (ended_turn way cycle line)
+end_turn way cycle (Takes j w ∷ rest) line = Ok (ended_turn way cycle line)
+end_turn way cycle (Blanks n ∷ rest) line = blanked way n line >>= λ line1. end_turn way cycle rest line1
+end_turn way cycle (Chars text ∷ rest) line = lettered way text line >>= λ line1. end_turn way cycle rest line1
+end_turn way cycle (Slash ∷ rest) line = Ok (Some RecordDone, hand_at way rest cycle line Complete)
 
 abbrev pub is_over : Mark → Bool
 is_over Over = true
 is_over _ = false
 
 abbrev pub last_turn : Hand → Result (Option Turn × Hand) Trap
-last_turn h = if is_over h.mark then Ok (None, h) else close h.way h.cycle h.rest (line_of h.way h.mark h.line)
+last_turn h = if is_over h.mark then Ok (None, h) else end_turn h.way h.cycle h.rest (line_in_hand h.way h.mark h.line)
 
 -- the next record of a READ
-abbrev pub took : Hand → List ℕ → Hand
-took h bytes = record h { line = bytes; mark = Between }
+abbrev pub with_record : Hand → List ℕ → Hand
+with_record h bytes = record h { line = bytes; mark = Between }
 
 abbrev pub width_of : Mark → ℕ
 width_of (Due k w) = w
 width_of _ = 0
 
 -- a text stands in the record in hand
-abbrev pub put : Hand → List ℕ → Result Hand Trap
-put h text = extended h.line text >>= λ line. Ok (record h { line = line; mark = Between })
+abbrev pub put_text : Hand → List ℕ → Result Hand Trap
+put_text h text = extended h.line text >>= λ line. Ok (record h { line = line; mark = Between })
 
 abbrev pub put_whole : Hand → ℤ → Result Hand Trap
-put_whole h n = put h (whole_text (width_of h.mark) n)
+put_whole h n = put_text h (whole_text (width_of h.mark) n)
 
 abbrev pub put_truth : Hand → Bool → Result Hand Trap
-put_truth h b = put h (truth_text (width_of h.mark) b)
+put_truth h b = put_text h (truth_text (width_of h.mark) b)
 
 abbrev pub with_letter : ℤ → List ℕ → Result (List ℕ) Trap
 with_letter n line = letter_text n >>= λ text. extended line text

@@ -8,17 +8,17 @@ use Rattle.ground.specs.Content.{Content}
 use Rattle.f66_tree.specs.declared.declaration.TypeWord.{TypeWord}
 use Rattle.f66_tree.specs.declared.declaration.TypeWord.TheVariants.{Integer, Logical, Other}
 use Rattle.f66_tree.specs.Fields.{Fields}
-use Rattle.f66_tree.specs.Forms.{Text, Par, Constant, Named, Declared, Header, MainUnit, SubUnit, FuncUnit, DataUnit, Area, Act, Formats, Types, Dimensions, Commons, Equivalences, Presets, Line}
+use Rattle.f66_tree.specs.Syntax.{Text, Par, Constant, Named, Declared, Header, MainUnit, SubUnit, FuncUnit, DataUnit, Area, Act, Format, Typed, Dimension, Common, Equivalence, Preset, Line}
 use Rattle.f66_tree.specs.World.{World, Out}
 
 -- a statement that is not executed
 abbrev pub is_note : Act → Bool
-is_note (Formats f) = true
-is_note (Types t ds) = true
-is_note (Dimensions ds) = true
-is_note (Commons areas) = true
-is_note (Equivalences es) = true
-is_note (Presets ps) = true
+is_note (Format f) = true
+is_note (Typed t ds) = true
+is_note (Dimension ds) = true
+is_note (Common areas) = true
+is_note (Equivalence es) = true
+is_note (Preset ps) = true
 is_note _ = false
 
 -- a statement that is not executed, without its place
@@ -74,9 +74,9 @@ sizes_in_areas x [] others = others
 sizes_in_areas x (a ∷ areas) others = sizes_in x a.list (sizes_in_areas x areas others)
 
 abbrev pub sizes_by : Text → Act → List Par → List Par
-sizes_by x (Types t ds) others = sizes_in x ds others
-sizes_by x (Dimensions ds) others = sizes_in x ds others
-sizes_by x (Commons areas) others = sizes_in_areas x areas others
+sizes_by x (Typed t ds) others = sizes_in x ds others
+sizes_by x (Dimension ds) others = sizes_in x ds others
+sizes_by x (Common areas) others = sizes_in_areas x areas others
 sizes_by x _ others = others
 
 -- the dimensions of a name, which has none where it is no array
@@ -89,7 +89,7 @@ lists x [] = false
 lists x (d ∷ ds) = bytes_eq x d.name || lists x ds
 
 abbrev pub typed_by : Text → Act → TypeWord → TypeWord
-typed_by x (Types t ds) other = if lists x ds then t else other
+typed_by x (Typed t ds) other = if lists x ds then t else other
 typed_by x _ other = other
 
 -- names that begin with I to N are integers
@@ -116,7 +116,7 @@ abbrev pub kind_of : Context → Text → Kind
 kind_of c x = kind_by (type_in x c.notes (by_header x c.header))
 
 abbrev pub format_by : ℕ → Option ℕ → Act → Option Fields → Option Fields
-format_by l (Some m) (Formats f) other = if nat_eq m l then Some f else other
+format_by l (Some m) (Format f) other = if nat_eq m l then Some f else other
 format_by l _ _ other = other
 
 -- the format of a label

@@ -19,29 +19,29 @@ use Rattle.f66_tree.specs.declared.unit.Header.TheVariants as h
 use Rattle.f66_tree.specs.declared.unit.Unit as u
 use Rattle.f66_tree.specs.declared.editing.EditKind.TheVariants as edits
 use Rattle.f66_tree.specs.Fields.{Fields, NoField, Single, Group, Takes, Blanks, Chars, Slash}
-use Rattle.f66_tree.specs.Forms as forms
-use Rattle.f66_tree.specs.Forms.{Formula, Number, Fact, Letter, Variable, Applied, Grouped, Positive, Negative, Negated, Joined, Formulas, Nought, Also, Constant, Named, MainUnit, SubUnit, FuncUnit, DataUnit, One, Many, Entries, NoEntry, AndEntry, Act, Assigns, Goes, Selects, Signs, Chooses, Loops, Invokes, Passes, Stops, Returns, Reads, Writes, Formats, Types, Dimensions, Commons, Equivalences, Presets, Line, Routine}
+use Rattle.f66_tree.specs.Syntax as forms
+use Rattle.f66_tree.specs.Syntax.{Formula, Int, Truth, Letter, Ref, Item, Plus, Minus, Not, Pair, Formulas, NoFormula, AndFormula, Constant, Named, MainUnit, SubUnit, FuncUnit, DataUnit, One, Many, Entries, NoEntry, AndEntry, Act, Assign, Goto, Computed, Sign, When, Loop, Invoke, Continue, Stop, Return, Read, Write, Format, Typed, Dimension, Common, Equivalence, Preset, Line, Routine}
 
 abbrev mutual
   pub formula_of : Expr → Formula
-  formula_of (e.Int z) = Number z
-  formula_of (e.Truth b) = Fact b
+  formula_of (e.Int z) = Int z
+  formula_of (e.Truth b) = Truth b
   formula_of (e.Letter c) = Letter c
-  formula_of (e.Ref x) = Variable x
-  formula_of (e.Item' x shape all) = Applied x (row_formulas all)
-  formula_of (e.Group' p a) = Grouped (formula_of a)
-  formula_of (e.Plus' p a) = Positive (formula_of a)
-  formula_of (e.Minus' p a) = Negative (formula_of a)
-  formula_of (e.Not' p a) = Negated (formula_of a)
-  formula_of (e.Pair' op p a q b) = Joined op (formula_of a) (formula_of b)
+  formula_of (e.Ref x) = Ref x
+  formula_of (e.Item' x shape all) = Item x (row_formulas all)
+  formula_of (e.Group' p a) = forms.Group (formula_of a)
+  formula_of (e.Plus' p a) = Plus (formula_of a)
+  formula_of (e.Minus' p a) = Minus (formula_of a)
+  formula_of (e.Not' p a) = Not (formula_of a)
+  formula_of (e.Pair' op p a q b) = Pair op (formula_of a) (formula_of b)
 
   pub row_formulas : {m : _} → e.Row_of-Expr m → Formulas
-  row_formulas e.end_of-Expr = Nought
-  row_formulas (e.more_of-Expr a rest) = Also (formula_of a) (row_formulas rest)
+  row_formulas e.end_of-Expr = NoFormula
+  row_formulas (e.more_of-Expr a rest) = AndFormula (formula_of a) (row_formulas rest)
 
 abbrev pub chained : List Formula → Formulas
-chained [] = Nought
-chained (a ∷ all) = Also a (chained all)
+chained [] = NoFormula
+chained (a ∷ all) = AndFormula a (chained all)
 
 abbrev pub formulas_of : List Expr → Formulas
 formulas_of all = chained (map formula_of all)
@@ -101,24 +101,24 @@ abbrev pub preset_of : PresetPart → forms.PresetPart
 preset_of a = record { places = map formula_of a.places.items; values = map initial_of a.values.items }
 
 abbrev pub act_of : StmtKind → Act
-act_of (s.Assign x a) = Assigns (formula_of x) (formula_of a)
-act_of (s.Goto l) = Goes l
-act_of (s.Computed ls x) = Selects ls.items x
-act_of (s.Sign a l m k) = Signs (formula_of a) l m k
-act_of (s.When' a p b) = Chooses (formula_of a) (act_of b)
-act_of (s.Loop l x a b c) = Loops l x (par_of a) (par_of b) (par_of c)
-act_of (s.Invoke x all) = Invokes x (formulas_of all.items)
-act_of s.Continue = Passes
-act_of (s.Stop n) = Stops n
-act_of s.Return = Returns
-act_of (s.Read a l all) = Reads (par_of a) l (entries_of all.items)
-act_of (s.Write a l all) = Writes (par_of a) l (entries_of all.items)
-act_of (s.Format all) = Formats (fields_of all.items)
-act_of (s.Typed t all) = Types t (map declared_of all.items)
-act_of (s.Dimension all) = Dimensions (map declared_of all.items)
-act_of (s.Common all) = Commons (map area_of all.items)
-act_of (s.Equivalence all) = Equivalences (map (λ group. map formula_of group.items) all.items)
-act_of (s.Preset all) = Presets (map preset_of all.items)
+act_of (s.Assign x a) = Assign (formula_of x) (formula_of a)
+act_of (s.Goto l) = Goto l
+act_of (s.Computed ls x) = Computed ls.items x
+act_of (s.Sign a l m k) = Sign (formula_of a) l m k
+act_of (s.When' a p b) = When (formula_of a) (act_of b)
+act_of (s.Loop l x a b c) = Loop l x (par_of a) (par_of b) (par_of c)
+act_of (s.Invoke x all) = Invoke x (formulas_of all.items)
+act_of s.Continue = Continue
+act_of (s.Stop n) = Stop n
+act_of s.Return = Return
+act_of (s.Read a l all) = Read (par_of a) l (entries_of all.items)
+act_of (s.Write a l all) = Write (par_of a) l (entries_of all.items)
+act_of (s.Format all) = Format (fields_of all.items)
+act_of (s.Typed t all) = Typed t (map declared_of all.items)
+act_of (s.Dimension all) = Dimension (map declared_of all.items)
+act_of (s.Common all) = Common (map area_of all.items)
+act_of (s.Equivalence all) = Equivalence (map (λ group. map formula_of group.items) all.items)
+act_of (s.Preset all) = Preset (map preset_of all.items)
 
 abbrev pub line_of : Stmt → Line
 line_of a = record { label = a.label; place = a.place; act = act_of a.kind }

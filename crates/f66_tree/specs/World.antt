@@ -5,7 +5,7 @@ use Rattle.ground.specs.declared.trap.Trap.{Trap}
 use Rattle.ground.specs.Content.{Content, Nothing}
 use Rattle.f66_tree.specs.declared.editing.Way.TheVariants.{Reading}
 use Rattle.f66_tree.specs.declared.editing.Mark.TheVariants.{Over}
-use Rattle.f66_tree.specs.Turns.{Hand, stands}
+use Rattle.f66_tree.specs.Turns.{Hand, hand_at}
 use Rattle.f66_tree.specs.Editing.{Files}
 
 -- a record of input or output, by its bytes
@@ -38,7 +38,7 @@ tape_of h f = record { unread = f.unread; written = f.written; hand = h }
 
 -- before the first statement that reads or writes
 abbrev pub empty_hand : Hand
-empty_hand = stands Reading [] [] [] Over
+empty_hand = hand_at Reading [] [] [] Over
 
 abbrev pub first_tape : List Record → Tape
 first_tape input = record { unread = input; written = []; hand = empty_hand }

@@ -5,7 +5,7 @@ use Rattle.std.proofs.Math.ListN.{drop_of_length-le}
 use Rattle.std.proofs.lemmas.List.{length-replicate, get_or-take, get_or-replicate, get_or_append_left, get_or-append_right}
 use Rattle.std.proofs.lemmas.Bool.{ltb-true, ltb-false, lt-leb, eqb-true}
 use Rattle.ground.specs.declared.trap.Trap.TheVariants.{BadField}
-use Rattle.f66_tree.specs.Fielded.{field, digit, digits_from, digits_of, capped, unblanked, whole_of, truth_of, truth_at, signed, ranged, with_sign, sign_of}
+use Rattle.f66_tree.specs.Fielded.{field, digit, digits_from, digits_of, in_magnitude, unblanked, whole_of, truth_of, truth_at, signed, ranged, signed_value, sign_of}
 
 pub field_length : (w : ℕ) (line : List ℕ) → length (field w line) ≡ w
 field_length w line =
@@ -59,9 +59,9 @@ abbrev after : ℕ → List ℕ → Option ℕ → Option ℕ
 after n cs None = None
 after n cs (Some d) = digits_from (n * 10 + d) cs
 
-too_great : (n : ℕ) (cs : List ℕ) → 2147483647 < n → capped (digits_from n cs) ≡ None
+too_great : (n : ℕ) (cs : List ℕ) → 2147483647 < n → in_magnitude (digits_from n cs) ≡ None
 too_great n [] lt = ap (λ b. if b then Some n else None) (lt-leb n 2147483647 lt)
-too_great n (c ∷ cs) lt = elim (digit c) as (λ o. capped (after n cs o) ≡ None) [
+too_great n (c ∷ cs) lt = elim (digit c) as (λ o. in_magnitude (after n cs o) ≡ None) [
   | None ↦ refl
   | Some d ↦ too_great (n * 10 + d) cs (omega arith)
 ]
@@ -70,12 +70,12 @@ too_great n (c ∷ cs) lt = elim (digit c) as (λ o. capped (after n cs o) ≡ N
 digit_next : (w : ℕ) (line : List ℕ) (i n : ℕ) → i < w → digits_from n (drop i (field w line)) ≡ after n (drop (i + 1) (field w line)) (digit (get_or line i 32))
 digit_next w line i n lt = ap (digits_from n) (field_drop w line i lt)
 
-pub digit_more : (w : ℕ) (line : List ℕ) (i n d : ℕ) (r : Option ℕ) → i < w → Some d ≡ digit (get_or line i 32) → capped (digits_from n (drop i (field w line))) ≡ r
-    → capped (digits_from (n * 10 + d) (drop (i + 1) (field w line))) ≡ r
-digit_more w line i n d r lt is e = sym (ap capped (digit_next w line i n lt ∙ ap (after n (drop (i + 1) (field w line))) (sym is))) ∙ e
+pub digit_more : (w : ℕ) (line : List ℕ) (i n d : ℕ) (r : Option ℕ) → i < w → Some d ≡ digit (get_or line i 32) → in_magnitude (digits_from n (drop i (field w line))) ≡ r
+    → in_magnitude (digits_from (n * 10 + d) (drop (i + 1) (field w line))) ≡ r
+digit_more w line i n d r lt is e = sym (ap in_magnitude (digit_next w line i n lt ∙ ap (after n (drop (i + 1) (field w line))) (sym is))) ∙ e
 
 pub digit_great : (w : ℕ) (line : List ℕ) (i n d : ℕ) (r : Option ℕ) → i < w → Some d ≡ digit (get_or line i 32) → 2147483647 < n * 10 + d
-    → capped (digits_from n (drop i (field w line))) ≡ r → None ≡ r
+    → in_magnitude (digits_from n (drop i (field w line))) ≡ r → None ≡ r
 digit_great w line i n d r lt is great e = sym (too_great (n * 10 + d) (drop (i + 1) (field w line)) great) ∙ digit_more w line i n d r lt is e
 
 pub digits_there : (w : ℕ) (line : List ℕ) (i : ℕ) → i < w → digits_of (drop i (field w line)) ≡ digits_from 0 (drop i (field w line))
@@ -97,8 +97,8 @@ sign_none f rest c e a b = sym (ap signed e
     ∙ ap (λ v. if v then ranged (sign_of false) (digits_of rest) else (if nat_eq c 45 then ranged (sign_of true) (digits_of rest) else ranged (sign_of false) (digits_of (c ∷ rest)))) (eqb_not c 43 a)
     ∙ ap (λ v. if v then ranged (sign_of true) (digits_of rest) else ranged (sign_of false) (digits_of (c ∷ rest))) (eqb_not c 45 b))
 
-pub value_is : (sign : ℕ → ℤ) (r : ℤ) (n w : ℕ) (line : List ℕ) (i : ℕ) → r ≡ sign n → Some n ≡ capped (digits_from 0 (drop i (field w line))) → i < w → Ok r ≡ ranged sign (digits_of (drop i (field w line)))
-value_is sign r n w line i is e lt = ap Ok is ∙ ap (with_sign sign) (e ∙ ap capped (sym (digits_there w line i lt)))
+pub value_is : (sign : ℕ → ℤ) (r : ℤ) (n w : ℕ) (line : List ℕ) (i : ℕ) → r ≡ sign n → Some n ≡ in_magnitude (digits_from 0 (drop i (field w line))) → i < w → Ok r ≡ ranged sign (digits_of (drop i (field w line)))
+value_is sign r n w line i is e lt = ap Ok is ∙ ap (signed_value sign) (e ∙ ap in_magnitude (sym (digits_there w line i lt)))
 
 pub truth_bad : (f rest : List ℕ) (c : ℕ) → unblanked f ≡ c ∷ rest → (c ≡ 84 → ⊥) → (c ≡ 70 → ⊥) → Err BadField ≡ truth_of f
 truth_bad f rest c e a b = sym (ap truth_at e

@@ -8,7 +8,7 @@ use Rattle.f66_tree.specs.declared.editing.Way.TheVariants.{Reading, Writing}
 use Rattle.f66_tree.specs.declared.editing.Turn.{Turn}
 use Rattle.f66_tree.specs.declared.editing.Turn.TheVariants.{RecordDone}
 use Rattle.f66_tree.specs.declared.editing.Mark.TheVariants.{Between, Complete, Over}
-use Rattle.f66_tree.specs.Turns.{started, stands, find, closed}
+use Rattle.f66_tree.specs.Turns.{started, hand_at, find, ended_turn}
 use Rattle.format_io.specs.Answers.{line_in}
 use Rattle.f66_tree.specs.Fields.{has_item, Step, Fields, NoField, Single, Group, copies, steps, again, last_group}
 use Rattle.format_io.specs.Places.{size, Move, Does, Turns, moves, moves_at, visible, last_place, hand_of, NextIs}
@@ -70,32 +70,32 @@ line_empty Reading o i eo ei = ei
 pub start_is : (fs : Fields) (way : Way) (o i counts : List ℕ) → o ≡ [] → i ≡ []
     → hand_of fs (record { way = way; pc = 0; past = 0; counts = counts; line = line_in way o i; mark = Between }) ≡ started way fs
 start_is fs way o i counts eo ei =
-    ap (λ r. stands way r (steps (again fs)) (line_in way o i) Between) (visible_start fs counts)
-    ∙ ap (λ l. stands way (steps fs) (steps (again fs)) l Between) (line_empty way o i eo ei)
+    ap (λ r. hand_at way r (steps (again fs)) (line_in way o i) Between) (visible_start fs counts)
+    ∙ ap (λ l. hand_at way (steps fs) (steps (again fs)) l Between) (line_empty way o i eo ei)
 
 pub none_next : (v l : List Step) (o : Option Step) → o ≡ None → NextIs v o l → v ≡ []
 none_next [] l o e h = refl
 none_next (s ∷ ss) l o e h = let h2 : NextIs (s ∷ ss) None l = subst (λ u. NextIs (s ∷ ss) u l) e h in absurd h2
 
 pub back_again : (way : Way) (k : Kind) (rest cycle v : List Step) (line : List ℕ) → rest ≡ [] → has_item cycle ≡ true → v ≡ cycle
-    → find way cycle k rest line ≡ Ok (RecordDone, stands way v cycle line Complete)
+    → find way cycle k rest line ≡ Ok (RecordDone, hand_at way v cycle line Complete)
 back_again way k rest cycle v line e found same =
     ap (λ r. find way cycle k r line) e
-    ∙ ap (λ b. if b then Ok (RecordDone, stands way cycle cycle line Complete) else Err FormatMismatch) found
-    ∙ ap (λ u. Ok (RecordDone, stands way u cycle line Complete)) (sym same)
+    ∙ ap (λ b. if b then Ok (RecordDone, hand_at way cycle cycle line Complete) else Err FormatMismatch) found
+    ∙ ap (λ u. Ok (RecordDone, hand_at way u cycle line Complete)) (sym same)
 
 pub closes_writing : (cycle v : List Step) (w : Way) (line : List ℕ) (t : Option Turn) → w ≡ Writing → t ≡ Some RecordDone → v ≡ []
-    → closed w cycle line ≡ (t, stands w v cycle line Over)
+    → ended_turn w cycle line ≡ (t, hand_at w v cycle line Over)
 closes_writing cycle v w line t e et ev =
-    ap (λ u. closed u cycle line) e
-    ∙ ap (λ u. (Some RecordDone, stands Writing u cycle line Over)) (sym ev)
-    ∙ ap (λ u. (Some RecordDone, stands u v cycle line Over)) (sym e)
-    ∙ ap (λ u. (u, stands w v cycle line Over)) (sym et)
+    ap (λ u. ended_turn u cycle line) e
+    ∙ ap (λ u. (Some RecordDone, hand_at Writing u cycle line Over)) (sym ev)
+    ∙ ap (λ u. (Some RecordDone, hand_at u v cycle line Over)) (sym e)
+    ∙ ap (λ u. (u, hand_at w v cycle line Over)) (sym et)
 
 pub closes_reading : (cycle v : List Step) (w : Way) (line : List ℕ) (t : Option Turn) → w ≡ Reading → t ≡ None → v ≡ []
-    → closed w cycle line ≡ (t, stands w v cycle line Over)
+    → ended_turn w cycle line ≡ (t, hand_at w v cycle line Over)
 closes_reading cycle v w line t e et ev =
-    ap (λ u. closed u cycle line) e
-    ∙ ap (λ u. (None, stands Reading u cycle line Over)) (sym ev)
-    ∙ ap (λ u. (None, stands u v cycle line Over)) (sym e)
-    ∙ ap (λ u. (u, stands w v cycle line Over)) (sym et)
+    ap (λ u. ended_turn u cycle line) e
+    ∙ ap (λ u. (None, hand_at Reading u cycle line Over)) (sym ev)
+    ∙ ap (λ u. (None, hand_at u v cycle line Over)) (sym e)
+    ∙ ap (λ u. (u, hand_at w v cycle line Over)) (sym et)

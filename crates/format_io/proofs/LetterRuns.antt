@@ -14,7 +14,7 @@ use Rattle.f66_tree.specs.declared.editing.Mark.{Mark}
 use Rattle.f66_tree.specs.declared.editing.Mark.TheVariants.{Between, Due}
 use Rattle.f66_tree.specs.Fields.{Step, Takes, Fields}
 use Rattle.f66_tree.specs.Fielded.{field, letter_of, letter_at, letter_text}
-use Rattle.f66_tree.specs.Turns.{◌>>=◌, extended, stands}
+use Rattle.f66_tree.specs.Turns.{◌>>=◌, extended, hand_at}
 use Rattle.format_io.specs.declared.code.Op.TheVariants as ops
 use Rattle.format_io.specs.declared.code.Laid.{Laid}
 use Rattle.format_io.specs.declared.code.Piece.{Piece}
@@ -50,16 +50,16 @@ letter_text_is : (c : ℕ) → IsLetter c → letter_text (pos c) ≡ Ok (c ∷ 
 letter_text_is c is = ap (λ b. elim (if b then Some c else None) [ Some d ↦ Ok (d ∷ []) | None ↦ Err BadCharacter ]) is
 
 puts : (cs : List ℕ) (tail cycle : List Step) (line : List ℕ) → All IsLetter cs → length line + length cs ≤ 132
-    → PutsLetters cs (stands Writing (replicate (length cs) (Takes Letter 1) ++ tail) cycle line Between) (stands Writing tail cycle (line ++ cs) Between)
-puts [] tail cycle line all room = ap (λ v. stands Writing tail cycle v Between) (sym (append-nil line))
+    → PutsLetters cs (hand_at Writing (replicate (length cs) (Takes Letter 1) ++ tail) cycle line Between) (hand_at Writing tail cycle (line ++ cs) Between)
+puts [] tail cycle line all room = ap (λ v. hand_at Writing tail cycle v Between) (sym (append-nil line))
 puts (c ∷ cs) tail cycle line all room =
     let rest : List Step = replicate (length cs) (Takes Letter 1) ++ tail in (
-      stands Writing rest cycle line (Due Letter 1),
-      stands Writing rest cycle (line ++ c ∷ []) Between,
+      hand_at Writing rest cycle line (Due Letter 1),
+      hand_at Writing rest cycle (line ++ c ∷ []) Between,
       refl,
-      ap (λ r. (r >>= λ text. extended line text) >>= λ l. Ok (stands Writing rest cycle l Between)) (letter_text_is c (All-head IsLetter c cs all))
-          ∙ ap (λ b. (if b then Ok (line ++ c ∷ []) else Err LongRecord) >>= λ l. Ok (stands Writing rest cycle l Between)) (le-leb (length line + 1) 132 (omega arith)),
-      subst (λ v. PutsLetters cs (stands Writing rest cycle (line ++ c ∷ []) Between) (stands Writing tail cycle v Between)) (append_assoc line (c ∷ []) cs)
+      ap (λ r. (r >>= λ text. extended line text) >>= λ l. Ok (hand_at Writing rest cycle l Between)) (letter_text_is c (All-head IsLetter c cs all))
+          ∙ ap (λ b. (if b then Ok (line ++ c ∷ []) else Err LongRecord) >>= λ l. Ok (hand_at Writing rest cycle l Between)) (le-leb (length line + 1) 132 (omega arith)),
+      subst (λ v. PutsLetters cs (hand_at Writing rest cycle (line ++ c ∷ []) Between) (hand_at Writing tail cycle v Between)) (append_assoc line (c ∷ []) cs)
           (puts cs tail cycle (line ++ c ∷ []) (All-tail IsLetter c cs all) (let f : length (line ++ c ∷ []) ≡ length line + 1 = length-append line (c ∷ []) in omega (arith, f))),
     )
 
@@ -115,17 +115,17 @@ drop_next (suc n) [] = refl
 drop_next (suc n) (l ∷ ls) = refl
 
 takes : (cs : List ℕ) (tail cycle : List Step) (line : List ℕ) → All IsLetter cs → cs ≡ field (length cs) line
-    → TakesLetters cs (stands Reading (replicate (length cs) (Takes Letter 1) ++ tail) cycle line Between) (stands Reading tail cycle (drop (length cs) line) Between)
+    → TakesLetters cs (hand_at Reading (replicate (length cs) (Takes Letter 1) ++ tail) cycle line Between) (hand_at Reading tail cycle (drop (length cs) line) Between)
 takes [] tail cycle line all e = refl
 takes (c ∷ cs) tail cycle line all e =
     let rest : List Step = replicate (length cs) (Takes Letter 1) ++ tail in
     let f : c ∷ cs ≡ get_or line 0 32 ∷ field (length cs) (drop 1 line) = e ∙ field_next (length cs) line in (
-      stands Reading rest cycle line (Due Letter 1),
-      stands Reading rest cycle (drop 1 line) Between,
+      hand_at Reading rest cycle line (Due Letter 1),
+      hand_at Reading rest cycle (drop 1 line) Between,
       refl,
-      ap (λ r. r >>= λ n. Ok (n, stands Reading rest cycle (drop 1 line) Between))
+      ap (λ r. r >>= λ n. Ok (n, hand_at Reading rest cycle (drop 1 line) Between))
           (ap letter_of (field_one line) ∙ ap letter_at (sym (let g : c ≡ get_or line 0 32 = cc in g)) ∙ ap (λ b. if b then Ok (pos c) else Err BadCharacter) (All-head IsLetter c cs all)),
-      subst (λ v. TakesLetters cs (stands Reading rest cycle (drop 1 line) Between) (stands Reading tail cycle v Between)) (drop_next (length cs) line)
+      subst (λ v. TakesLetters cs (hand_at Reading rest cycle (drop 1 line) Between) (hand_at Reading tail cycle v Between)) (drop_next (length cs) line)
           (takes cs tail cycle (drop 1 line) (All-tail IsLetter c cs all) (let g : cs ≡ field (length cs) (drop 1 line) = cc in g)),
     )
 
@@ -143,19 +143,19 @@ nothing_moved fs old k line e same =
     ap (λ v. hand_of fs (record old { past = v })) (let f : old.past ≡ old.past + k = omega arith in f) ∙ ap (λ v. hand_of fs (moved old k v)) (sym same)
 
 puts_at : (cs : List ℕ) (w : Way) (rest tail cycle : List Step) (line : List ℕ) (m : Mark) → w ≡ Writing → m ≡ Between → rest ≡ replicate (length cs) (Takes Letter 1) ++ tail
-    → All IsLetter cs → length line + length cs ≤ 132 → PutsLetters cs (stands w rest cycle line m) (stands w tail cycle (line ++ cs) m)
+    → All IsLetter cs → length line + length cs ≤ 132 → PutsLetters cs (hand_at w rest cycle line m) (hand_at w tail cycle (line ++ cs) m)
 puts_at cs w rest tail cycle line m ew em er all room =
-    subst (λ u. PutsLetters cs (stands u rest cycle line m) (stands u tail cycle (line ++ cs) m)) (sym ew)
-    (subst (λ u. PutsLetters cs (stands Writing rest cycle line u) (stands Writing tail cycle (line ++ cs) u)) (sym em)
-    (subst (λ u. PutsLetters cs (stands Writing u cycle line Between) (stands Writing tail cycle (line ++ cs) Between)) (sym er)
+    subst (λ u. PutsLetters cs (hand_at u rest cycle line m) (hand_at u tail cycle (line ++ cs) m)) (sym ew)
+    (subst (λ u. PutsLetters cs (hand_at Writing rest cycle line u) (hand_at Writing tail cycle (line ++ cs) u)) (sym em)
+    (subst (λ u. PutsLetters cs (hand_at Writing u cycle line Between) (hand_at Writing tail cycle (line ++ cs) Between)) (sym er)
     (puts cs tail cycle line all room)))
 
 takes_at : (cs : List ℕ) (w : Way) (rest tail cycle : List Step) (line : List ℕ) (m : Mark) → w ≡ Reading → m ≡ Between → rest ≡ replicate (length cs) (Takes Letter 1) ++ tail
-    → All IsLetter cs → cs ≡ field (length cs) line → TakesLetters cs (stands w rest cycle line m) (stands w tail cycle (drop (length cs) line) m)
+    → All IsLetter cs → cs ≡ field (length cs) line → TakesLetters cs (hand_at w rest cycle line m) (hand_at w tail cycle (drop (length cs) line) m)
 takes_at cs w rest tail cycle line m ew em er all e =
-    subst (λ u. TakesLetters cs (stands u rest cycle line m) (stands u tail cycle (drop (length cs) line) m)) (sym ew)
-    (subst (λ u. TakesLetters cs (stands Reading rest cycle line u) (stands Reading tail cycle (drop (length cs) line) u)) (sym em)
-    (subst (λ u. TakesLetters cs (stands Reading u cycle line Between) (stands Reading tail cycle (drop (length cs) line) Between)) (sym er)
+    subst (λ u. TakesLetters cs (hand_at u rest cycle line m) (hand_at u tail cycle (drop (length cs) line) m)) (sym ew)
+    (subst (λ u. TakesLetters cs (hand_at Reading rest cycle line u) (hand_at Reading tail cycle (drop (length cs) line) u)) (sym em)
+    (subst (λ u. TakesLetters cs (hand_at Reading u cycle line Between) (hand_at Reading tail cycle (drop (length cs) line) Between)) (sym er)
     (takes cs tail cycle line all e)))
 
 pub puts_run : (fs : Fields) (old : Stand) (cs : List ℕ) (k : ℕ) → old.way ≡ Writing → (0 < k → old.mark ≡ Between) → LettersNext fs old k

@@ -7,18 +7,18 @@ use Rattle.f66_tree.specs.declared.editing.Way.{Way}
 use Rattle.f66_tree.specs.declared.editing.Way.TheVariants.{Reading, Writing}
 use Rattle.f66_tree.specs.declared.editing.Mark.TheVariants.{Between, Due}
 use Rattle.f66_tree.specs.Fields.{Step, Takes, Blanks, Chars, Slash, Fields, has_item, steps, again}
-use Rattle.f66_tree.specs.Turns.{Hand, ◌>>=◌, blanked, lettered, suits, stands, put_whole, put_truth, put_letter, extended, with_letter, take_whole, take_truth, take_letter, past, width_of}
+use Rattle.f66_tree.specs.Turns.{Hand, ◌>>=◌, blanked, lettered, suits, hand_at, put_whole, put_truth, put_letter, extended, with_letter, take_whole, take_truth, take_letter, past, width_of}
 use Rattle.f66_tree.specs.Fielded.{whole_text, truth_text, field, whole_of, truth_of, letter_of}
 use Rattle.ground.specs.declared.value.Kind.TheVariants.{Integer, Logical}
-use Rattle.f66_tree.specs.Editing.{Files, Break, within, mismatch, exchanged, seek, seek_end, cycled, Listed, Lacks, Then, cut, gone_back, unfolded, Item, acted, runs, played}
+use Rattle.f66_tree.specs.Editing.{Files, Break, with_records, mismatch, exchanged, seek, seek_end, cycled, Listed, NoEdit, AndEdit, until_last_item, gone_back, unfolded, EditedItem, acted, items_run, played}
 use Rattle.format_io.proofs.TurnsOfItems.{same_past}
 
 -- what is left to do of a statement, at a list of edits
-abbrev goes_on : Way → List Step → List Step → List Item → List ℕ → Files → Result Files Break
+abbrev goes_on : Way → List Step → List Step → List EditedItem → List ℕ → Files → Result Files Break
 goes_on way cycle rest [] line f = seek_end way cycle rest line f >>= λ x. Ok x.1
-goes_on way cycle rest (i ∷ is) line f = seek way cycle i.kind rest (cycled way cycle i.kind) line f >>= λ x. within x.1 (acted x.0 i) >>= λ h1. runs is h1 x.1
+goes_on way cycle rest (i ∷ is) line f = seek way cycle i.kind rest (cycled way cycle i.kind) line f >>= λ x. with_records x.1 (acted x.0 i) >>= λ h1. items_run is h1 x.1
 
-runs_is : (way : Way) (cycle rest : List Step) (is : List Item) (line : List ℕ) (f : Files) → runs is (stands way rest cycle line Between) f ≡ goes_on way cycle rest is line f
+runs_is : (way : Way) (cycle rest : List Step) (is : List EditedItem) (line : List ℕ) (f : Files) → items_run is (hand_at way rest cycle line Between) f ≡ goes_on way cycle rest is line f
 runs_is Writing cycle rest [] line f = refl
 runs_is Writing cycle rest (i ∷ is) line f = refl
 runs_is Reading cycle rest [] line f = refl
@@ -28,8 +28,8 @@ abbrev bit : Bool → ℕ
 bit true = 1
 bit false = 0
 
-abbrev listed : List Step → List Step → ℕ → List Item → Listed
-listed cycle rest n is = cut rest (λ j. gone_back cycle j n) (length is)
+abbrev listed : List Step → List Step → ℕ → List EditedItem → Listed
+listed cycle rest n is = until_last_item rest (λ j. gone_back cycle j n) (length is)
 
 -- no item is left
 ends_played : (way : Way) (cycle : List Step) (n : ℕ) (rest : List Step) (line : List ℕ) (f : Files) → goes_on way cycle rest [] line f ≡ played way (listed cycle rest n []) [] line f
@@ -37,59 +37,59 @@ ends_played Writing cycle n [] line f = refl
 ends_played Reading cycle n [] line f = refl
 ends_played Writing cycle n (Takes j w ∷ rest) line f = refl
 ends_played Reading cycle n (Takes j w ∷ rest) line f = refl
-ends_played way cycle n (Blanks b ∷ rest) line f = elim (blanked way b line) as (λ r. ((within f r >>= λ l. seek_end way cycle rest l f) >>= λ x. Ok x.1) ≡ (within f r >>= λ l. played way (listed cycle rest n []) [] l f)) [ Ok l ↦ ends_played way cycle n rest l f | Err e ↦ refl ]
-ends_played way cycle n (Chars text ∷ rest) line f = elim (lettered way text line) as (λ r. ((within f r >>= λ l. seek_end way cycle rest l f) >>= λ x. Ok x.1) ≡ (within f r >>= λ l. played way (listed cycle rest n []) [] l f)) [ Ok l ↦ ends_played way cycle n rest l f | Err e ↦ refl ]
-ends_played way cycle n (Slash ∷ rest) line f = elim (exchanged way line f) as (λ r. ((within f r >>= λ y. seek_end way cycle rest y.0 y.1) >>= λ x. Ok x.1) ≡ (within f r >>= λ y. played way (listed cycle rest n []) [] y.0 y.1)) [ Ok y ↦ ends_played way cycle n rest y.0 y.1 | Err e ↦ refl ]
+ends_played way cycle n (Blanks b ∷ rest) line f = elim (blanked way b line) as (λ r. ((with_records f r >>= λ l. seek_end way cycle rest l f) >>= λ x. Ok x.1) ≡ (with_records f r >>= λ l. played way (listed cycle rest n []) [] l f)) [ Ok l ↦ ends_played way cycle n rest l f | Err e ↦ refl ]
+ends_played way cycle n (Chars text ∷ rest) line f = elim (lettered way text line) as (λ r. ((with_records f r >>= λ l. seek_end way cycle rest l f) >>= λ x. Ok x.1) ≡ (with_records f r >>= λ l. played way (listed cycle rest n []) [] l f)) [ Ok l ↦ ends_played way cycle n rest l f | Err e ↦ refl ]
+ends_played way cycle n (Slash ∷ rest) line f = elim (exchanged way line f) as (λ r. ((with_records f r >>= λ y. seek_end way cycle rest y.0 y.1) >>= λ x. Ok x.1) ≡ (with_records f r >>= λ y. played way (listed cycle rest n []) [] y.0 y.1)) [ Ok y ↦ ends_played way cycle n rest y.0 y.1 | Err e ↦ refl ]
 
 -- what follows once control has gone back
 abbrev Back : Way → List Step → ℕ → Type 0
-Back way cycle n = (i : Item) (is : List Item) (line : List ℕ) (f : Files) → suc (length is) ≤ suc n → has_item cycle ≡ true
+Back way cycle n = (i : EditedItem) (is : List EditedItem) (line : List ℕ) (f : Files) → suc (length is) ≤ suc n → has_item cycle ≡ true
     → goes_on way cycle cycle (i ∷ is) line f ≡ played way (listed cycle cycle n (i ∷ is)) (i ∷ is) line f
 
 -- at the last parenthesis
-returns_played : (way : Way) (cycle : List Step) (n : ℕ) → Back way cycle n → (i : Item) (is : List Item) (line : List ℕ) (f : Files) → suc (length is) ≤ suc n
+returns_played : (way : Way) (cycle : List Step) (n : ℕ) → Back way cycle n → (i : EditedItem) (is : List EditedItem) (line : List ℕ) (f : Files) → suc (length is) ≤ suc n
     → goes_on way cycle [] (i ∷ is) line f ≡ played way (gone_back cycle (suc (length is)) (suc n)) (i ∷ is) line f
 returns_played way cycle n back i is line f le = go (has_item cycle) refl
   where
     go : (b : Bool) → has_item cycle ≡ b
-        → ((if b then (within f (exchanged way line f) >>= λ x. seek way cycle i.kind cycle mismatch x.0 x.1) else mismatch line f) >>= λ x. within x.1 (acted x.0 i) >>= λ h1. runs is h1 x.1)
-        ≡ played way (if b then Then Slash (cut cycle (λ j. gone_back cycle j n) (suc (length is))) else Lacks) (i ∷ is) line f
+        → ((if b then (with_records f (exchanged way line f) >>= λ x. seek way cycle i.kind cycle mismatch x.0 x.1) else mismatch line f) >>= λ x. with_records x.1 (acted x.0 i) >>= λ h1. items_run is h1 x.1)
+        ≡ played way (if b then AndEdit Slash (until_last_item cycle (λ j. gone_back cycle j n) (suc (length is))) else NoEdit) (i ∷ is) line f
     go false e = refl
-    go true e = step (within f (exchanged way line f))
+    go true e = step (with_records f (exchanged way line f))
       where
-        step : (r : Result (List ℕ × Files) Break) → ((r >>= λ x. seek way cycle i.kind cycle mismatch x.0 x.1) >>= λ x. within x.1 (acted x.0 i) >>= λ h1. runs is h1 x.1)
+        step : (r : Result (List ℕ × Files) Break) → ((r >>= λ x. seek way cycle i.kind cycle mismatch x.0 x.1) >>= λ x. with_records x.1 (acted x.0 i) >>= λ h1. items_run is h1 x.1)
             ≡ (r >>= λ x. played way (listed cycle cycle n (i ∷ is)) (i ∷ is) x.0 x.1)
-        step (Ok x) = ap (λ r. r >>= λ y. within y.1 (acted y.0 i) >>= λ h1. runs is h1 y.1) (same_past way cycle i.kind cycle mismatch (cycled way cycle i.kind) x.0 x.1 e)
+        step (Ok x) = ap (λ r. r >>= λ y. with_records y.1 (acted y.0 i) >>= λ h1. items_run is h1 y.1) (same_past way cycle i.kind cycle mismatch (cycled way cycle i.kind) x.0 x.1 e)
             ∙ back i is x.0 x.1 le e
         step (Err t) = refl
 
-inner : (way : Way) (cycle : List Step) (n : ℕ) → ((m : ℕ) → n ≡ suc m → Back way cycle m) → (rest : List Step) (is : List Item) (line : List ℕ) (f : Files) → length is ≤ n + bit (has_item rest)
+inner : (way : Way) (cycle : List Step) (n : ℕ) → ((m : ℕ) → n ≡ suc m → Back way cycle m) → (rest : List Step) (is : List EditedItem) (line : List ℕ) (f : Files) → length is ≤ n + bit (has_item rest)
     → goes_on way cycle rest is line f ≡ played way (listed cycle rest n is) is line f
 inner way cycle n back rest [] line f le = ends_played way cycle n rest line f
 inner way cycle zero back [] (i ∷ is) line f le = let no_way : ⊥ = omega arith in absurd no_way
 inner way cycle (suc n) back [] (i ∷ is) line f le = returns_played way cycle n (back n refl) i is line f (omega arith)
 inner way cycle n back (Takes j w ∷ rest) (i ∷ is) line f le =
-    let here : Result (Hand × Files) Break = Ok (stands way rest cycle line (Due j w), f) in
-    elim (suits i.kind j) as (λ b. ((if b then here else mismatch line f) >>= λ x. within x.1 (acted x.0 i) >>= λ h1. runs is h1 x.1)
-    ≡ (if b then (within f (i.act w line) >>= λ l1. played way (listed cycle rest n is) is l1 f) else Err (FormatMismatch, f))) [
-      | true ↦ elim (i.act w line) as (λ r. (within f (r >>= λ l. Ok (stands way rest cycle l Between)) >>= λ h1. runs is h1 f) ≡ (within f r >>= λ l1. played way (listed cycle rest n is) is l1 f)) [
+    let here : Result (Hand × Files) Break = Ok (hand_at way rest cycle line (Due j w), f) in
+    elim (suits i.kind j) as (λ b. ((if b then here else mismatch line f) >>= λ x. with_records x.1 (acted x.0 i) >>= λ h1. items_run is h1 x.1)
+    ≡ (if b then (with_records f (i.act w line) >>= λ l1. played way (listed cycle rest n is) is l1 f) else Err (FormatMismatch, f))) [
+      | true ↦ elim (i.act w line) as (λ r. (with_records f (r >>= λ l. Ok (hand_at way rest cycle l Between)) >>= λ h1. items_run is h1 f) ≡ (with_records f r >>= λ l1. played way (listed cycle rest n is) is l1 f)) [
         | Ok l ↦ runs_is way cycle rest is l f ∙ inner way cycle n back rest is l f (omega arith)
         | Err e ↦ refl
       ]
       | false ↦ refl
     ]
 inner way cycle n back (Blanks b ∷ rest) (i ∷ is) line f le =
-    elim (blanked way b line) as (λ r. ((within f r >>= λ l. seek way cycle i.kind rest (cycled way cycle i.kind) l f) >>= λ x. within x.1 (acted x.0 i) >>= λ h1. runs is h1 x.1) ≡ (within f r >>= λ l1. played way (listed cycle rest n (i ∷ is)) (i ∷ is) l1 f)) [
+    elim (blanked way b line) as (λ r. ((with_records f r >>= λ l. seek way cycle i.kind rest (cycled way cycle i.kind) l f) >>= λ x. with_records x.1 (acted x.0 i) >>= λ h1. items_run is h1 x.1) ≡ (with_records f r >>= λ l1. played way (listed cycle rest n (i ∷ is)) (i ∷ is) l1 f)) [
       | Ok l ↦ inner way cycle n back rest (i ∷ is) l f le
       | Err e ↦ refl
     ]
 inner way cycle n back (Chars text ∷ rest) (i ∷ is) line f le =
-    elim (lettered way text line) as (λ r. ((within f r >>= λ l. seek way cycle i.kind rest (cycled way cycle i.kind) l f) >>= λ x. within x.1 (acted x.0 i) >>= λ h1. runs is h1 x.1) ≡ (within f r >>= λ l1. played way (listed cycle rest n (i ∷ is)) (i ∷ is) l1 f)) [
+    elim (lettered way text line) as (λ r. ((with_records f r >>= λ l. seek way cycle i.kind rest (cycled way cycle i.kind) l f) >>= λ x. with_records x.1 (acted x.0 i) >>= λ h1. items_run is h1 x.1) ≡ (with_records f r >>= λ l1. played way (listed cycle rest n (i ∷ is)) (i ∷ is) l1 f)) [
       | Ok l ↦ inner way cycle n back rest (i ∷ is) l f le
       | Err e ↦ refl
     ]
 inner way cycle n back (Slash ∷ rest) (i ∷ is) line f le =
-    elim (exchanged way line f) as (λ r. ((within f r >>= λ y. seek way cycle i.kind rest (cycled way cycle i.kind) y.0 y.1) >>= λ x. within x.1 (acted x.0 i) >>= λ h1. runs is h1 x.1) ≡ (within f r >>= λ y. played way (listed cycle rest n (i ∷ is)) (i ∷ is) y.0 y.1)) [
+    elim (exchanged way line f) as (λ r. ((with_records f r >>= λ y. seek way cycle i.kind rest (cycled way cycle i.kind) y.0 y.1) >>= λ x. with_records x.1 (acted x.0 i) >>= λ h1. items_run is h1 x.1) ≡ (with_records f r >>= λ y. played way (listed cycle rest n (i ∷ is)) (i ∷ is) y.0 y.1)) [
       | Ok y ↦ inner way cycle n back rest (i ∷ is) y.0 y.1 le
       | Err e ↦ refl
     ]
@@ -103,8 +103,8 @@ backs way cycle (suc m) i is line f le e =
     inner way cycle (suc m) (λ k g. let same : m ≡ k = omega arith in subst (Back way cycle) same (backs way cycle m)) cycle (i ∷ is) line f (omega (arith, one_item))
 
 -- A whole statement, item after item, is its list of edits and record ends.
-pub runs_list : (way : Way) (fs : Fields) (is : List Item) (line : List ℕ) (f : Files)
-    → runs is (stands way (steps fs) (steps (again fs)) line Between) f ≡ played way (unfolded fs (length is)) is line f
+pub runs_list : (way : Way) (fs : Fields) (is : List EditedItem) (line : List ℕ) (f : Files)
+    → items_run is (hand_at way (steps fs) (steps (again fs)) line Between) f ≡ played way (unfolded fs (length is)) is line f
 runs_list way fs is line f =
     runs_is way (steps (again fs)) (steps fs) is line f
     ∙ inner way (steps (again fs)) (length is) (λ m g. backs way (steps (again fs)) m) (steps fs) is line f (omega arith)

@@ -9,25 +9,26 @@ use Rattle.format_io.specs.declared.code.Op.TheVariants as ops
 use Rattle.format_io.specs.declared.code.Laid.{Laid}
 use Rattle.format_io.specs.declared.code.Piece.{Piece}
 use Rattle.f66_tree.specs.Fields.{Step, Fields, NoField, Single, Group, copies}
-use Rattle.format_io.specs.Places.{Code, Once, Enter, Leave, size, Move, Does, Turns, moves_at, visible, depth, format, IsPlan, code_of, step_of, NextIs}
+use Rattle.format_io.specs.Places.{Code, Once, Enter, Leave, size, Move, Does, Turns, moves_at, visible, depth, format, IsPlan, step_of, NextIs}
 use Rattle.std.specs.Borrow.{Bor}
 use Rattle.format_io.proofs.Walks.{Goes, goes, code_is, length_code, where_is, code_behind, code_inside, code_end, code_at}
+use Rattle.format_io.specs.Places as places
 
-pub plan_code : (p : Laid) (pc : ℕ) → IsPlan p → option_map code_of (slice_get p.ops.items pc) ≡ code_at 0 (format p) pc
-plan_code p pc is = sym (slice_get-map code_of p.ops.items pc) ∙ ap (λ v. slice_get v pc) is.same ∙ code_is 0 (format p) pc
+pub plan_code : (p : Laid) (pc : ℕ) → IsPlan p → option_map places.plan_code (slice_get p.ops.items pc) ≡ code_at 0 (format p) pc
+plan_code p pc is = sym (slice_get-map places.plan_code p.ops.items pc) ∙ ap (λ v. slice_get v pc) is.same ∙ code_is 0 (format p) pc
 
-pub plan_at : (p : Laid) (pc : ℕ) (op : Op) → IsPlan p → slice_get p.ops.items pc ≡ Some op → code_at 0 (format p) pc ≡ Some (code_of op)
-plan_at p pc op is e = sym (plan_code p pc is) ∙ ap (option_map code_of) e
+pub plan_at : (p : Laid) (pc : ℕ) (op : Op) → IsPlan p → slice_get p.ops.items pc ≡ Some op → code_at 0 (format p) pc ≡ Some (places.plan_code op)
+plan_at p pc op is e = sym (plan_code p pc is) ∙ ap (option_map places.plan_code) e
 
 pub plan_goes : (p : Laid) (pc past : ℕ) (counts : List ℕ) (op : Op) → IsPlan p → slice_get p.ops.items pc ≡ Some op
-    → Goes (moves_at 0 (format p)) 0 (size (format p)) pc past counts (Some (code_of op))
+    → Goes (moves_at 0 (format p)) 0 (size (format p)) pc past counts (Some (places.plan_code op))
 plan_goes p pc past counts op is e = subst (λ v. Goes (moves_at 0 (format p)) 0 (size (format p)) pc past counts v) (plan_at p pc op is e) (goes 0 (format p) pc past counts)
 
 pub plan_end : (p : Laid) (pc past : ℕ) (counts : List ℕ) → IsPlan p → slice_get p.ops.items pc ≡ None → moves_at 0 (format p) pc past counts ≡ []
-plan_end p pc past counts is e = subst (λ v. Goes (moves_at 0 (format p)) 0 (size (format p)) pc past counts v) (sym (plan_code p pc is) ∙ ap (option_map code_of) e) (goes 0 (format p) pc past counts)
+plan_end p pc past counts is e = subst (λ v. Goes (moves_at 0 (format p)) 0 (size (format p)) pc past counts v) (sym (plan_code p pc is) ∙ ap (option_map places.plan_code) e) (goes 0 (format p) pc past counts)
 
 pub plan_size : (p : Laid) → IsPlan p → length p.ops.items ≡ size (format p)
-plan_size p is = sym (length-map p.ops.items code_of) ∙ ap length is.same ∙ length_code 0 (format p)
+plan_size p is = sym (length-map p.ops.items places.plan_code) ∙ ap length is.same ∙ length_code 0 (format p)
 
 -- ---- levels ----
 
@@ -60,8 +61,8 @@ level_is lv (Group n inside fs) (suc pc) = elim (where_is pc (size inside)) [
   ]
 ]
 
-plan_level : (p : Laid) (pc : ℕ) (op : Op) → IsPlan p → slice_get p.ops.items pc ≡ Some op → LevelIs 0 2 (Some (code_of op))
-plan_level p pc op is e = wider 0 (depth (format p)) 0 2 (Some (code_of op)) (let b : depth (format p) ≤ 2 = is.shallow in omega arith) (subst (LevelIs 0 (depth (format p))) (plan_at p pc op is e) (level_is 0 (format p) pc))
+plan_level : (p : Laid) (pc : ℕ) (op : Op) → IsPlan p → slice_get p.ops.items pc ≡ Some op → LevelIs 0 2 (Some (places.plan_code op))
+plan_level p pc op is e = wider 0 (depth (format p)) 0 2 (Some (places.plan_code op)) (let b : depth (format p) ≤ 2 = is.shallow in omega arith) (subst (LevelIs 0 (depth (format p))) (plan_at p pc op is e) (level_is 0 (format p) pc))
 
 pub enter_level : (p : Laid) (pc l n z : ℕ) → IsPlan p → slice_get p.ops.items pc ≡ Some (ops.Enter l n z) → l < 2
 enter_level p pc l n z is e = plan_level p pc (ops.Enter l n z) is e

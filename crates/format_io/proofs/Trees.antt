@@ -6,7 +6,7 @@ use Rattle.f66_tree.specs.Views.{field_then, row_fields, fields_of}
 use Rattle.f66_tree.proofs.Rows.{group_fields}
 use Rattle.f66_tree.specs.declared.editing.EditKind.TheVariants.{Whole, Truth, Letter}
 use Rattle.f66_tree.specs.Fields.{Step, Takes, Fields, NoField, Single, Group, copies, steps, has_item, is_item, last_group, again}
-use Rattle.format_io.specs.Places.{Code, Enter, Leave, code, size, depth, last_place, parsed, first_of_rest, code_of, format, IsPlanOf}
+use Rattle.format_io.specs.Places.{Code, Enter, Leave, code, size, depth, last_place, parsed, first_of_rest, plan_code, format, IsPlanOf}
 use Rattle.format_io.specs.declared.code.Op.{Op}
 use Rattle.format_io.specs.declared.code.Laid.{Laid}
 use Rattle.format_io.proofs.Walks.{length_code}
@@ -183,15 +183,15 @@ parsed_code lv (Group n inside fs) tail e =
 pub fields_back : (fs : Fields) (is : List Code) → is ≡ code 0 fs → (parsed is).0 ≡ fs
 fields_back fs is e = ap (λ u. (parsed u).0) (e ∙ sym (append-nil (code 0 fs))) ∙ ap (λ p. p.0) (parsed_code 0 fs [] refl)
 
-pub grown : (old new : List Op) (fs : Fields) → map code_of new ≡ map code_of old ++ code 0 fs → length new ≡ length old + size fs
+pub grown : (old new : List Op) (fs : Fields) → map plan_code new ≡ map plan_code old ++ code 0 fs → length new ≡ length old + size fs
 grown old new fs e =
-    sym (length-map new code_of) ∙ ap length e ∙ length-append (map code_of old) (code 0 fs) ∙ ap (λ v. v + length (code 0 fs)) (length-map old code_of) ∙ ap (λ v. length old + v) (length_code 0 fs)
+    sym (length-map new plan_code) ∙ ap length e ∙ length-append (map plan_code old) (code 0 fs) ∙ ap (λ v. v + length (code 0 fs)) (length-map old plan_code) ∙ ap (λ v. length old + v) (length_code 0 fs)
 
 -- a plan, once all fields have come
-pub whole_plan : (p : Laid) (fs : List tree.Field) → map code_of p.ops.items ≡ list_code 0 fs → p.start ≡ list_place 0 0 fs → p.cycles ≡ list_cycles false fs → depth (fields_of fs) ≤ 2
+pub whole_plan : (p : Laid) (fs : List tree.Field) → map plan_code p.ops.items ≡ list_code 0 fs → p.start ≡ list_place 0 0 fs → p.cycles ≡ list_cycles false fs → depth (fields_of fs) ≤ 2
     → IsPlanOf (fields_of fs) p
 whole_plan p fs c s y d =
-    let back : format p ≡ fields_of fs = fields_back (fields_of fs) (map code_of p.ops.items) (c ∙ sym (list_code_is 0 fs)) in
+    let back : format p ≡ fields_of fs = fields_back (fields_of fs) (map plan_code p.ops.items) (c ∙ sym (list_code_is 0 fs)) in
     record {
       plan = record {
         same = c ∙ sym (list_code_is 0 fs) ∙ ap (code 0) (sym back);
@@ -202,16 +202,16 @@ whole_plan p fs c s y d =
       fields = back;
     }
 
-pub grown_ok : {A B : Type 0} (r : Result A B) (old new : List Op) (fs : Fields) → OnOk r (map code_of new ≡ map code_of old ++ code 0 fs) → OnOk r (length new ≡ length old + size fs)
+pub grown_ok : {A B : Type 0} (r : Result A B) (old new : List Op) (fs : Fields) → OnOk r (map plan_code new ≡ map plan_code old ++ code 0 fs) → OnOk r (length new ≡ length old + size fs)
 grown_ok (Ok x) old new fs h = grown old new fs h
 grown_ok (Err e) old new fs h = h
 
 pub plan_starts : (ops : List Op) (fs : List tree.Field) → ops ≡ [] → depth (fields_of fs) ≤ 2
-    → (map code_of ops ++ list_code 0 fs ≡ list_code 0 fs) × (list_depth fs ≤ 2) × (list_place 0 (length ops) fs ≡ list_place 0 0 fs) × (list_cycles false fs ≡ list_cycles false fs)
-plan_starts ops fs e d = (ap (λ v. map code_of v ++ list_code 0 fs) e, subst (λ v. v ≤ 2) (list_depth_is fs) d, ap (λ v. list_place 0 (length v) fs) e, refl)
+    → (map plan_code ops ++ list_code 0 fs ≡ list_code 0 fs) × (list_depth fs ≤ 2) × (list_place 0 (length ops) fs ≡ list_place 0 0 fs) × (list_cycles false fs ≡ list_cycles false fs)
+plan_starts ops fs e d = (ap (λ v. map plan_code v ++ list_code 0 fs) e, subst (λ v. v ≤ 2) (list_depth_is fs) d, ap (λ v. list_place 0 (length v) fs) e, refl)
 
-pub plan_ends : (p : Laid) (fs rest : List tree.Field) → rest ≡ [] → map code_of p.ops.items ++ list_code 0 rest ≡ list_code 0 fs
+pub plan_ends : (p : Laid) (fs rest : List tree.Field) → rest ≡ [] → map plan_code p.ops.items ++ list_code 0 rest ≡ list_code 0 fs
     → list_place p.start (length p.ops.items) rest ≡ list_place 0 0 fs → list_cycles p.cycles rest ≡ list_cycles false fs → depth (fields_of fs) ≤ 2 → IsPlanOf (fields_of fs) p
 plan_ends p fs rest e c s y d =
-    whole_plan p fs (sym (append-nil (map code_of p.ops.items)) ∙ ap (λ v. map code_of p.ops.items ++ list_code 0 v) (sym e) ∙ c)
+    whole_plan p fs (sym (append-nil (map plan_code p.ops.items)) ∙ ap (λ v. map plan_code p.ops.items ++ list_code 0 v) (sym e) ∙ c)
     (ap (λ v. list_place p.start (length p.ops.items) v) (sym e) ∙ s) (ap (list_cycles p.cycles) (sym e) ∙ y) d

@@ -9,7 +9,7 @@ use Rattle.f66_tree.specs.declared.editing.EditKind.{EditKind}
 use Rattle.f66_tree.specs.declared.editing.Mark.{Mark}
 use Rattle.f66_tree.specs.declared.editing.Mark.TheVariants.{Between, Due}
 use Rattle.f66_tree.specs.Fields.{Fields}
-use Rattle.f66_tree.specs.Turns.{Hand, find, close, closed, line_of}
+use Rattle.f66_tree.specs.Turns.{Hand, find, end_turn, ended_turn, line_in_hand}
 use Rattle.format_io.specs.Places.{Stand, hand_of}
 
 -- a call did to the record in hand what the definition says
@@ -34,7 +34,7 @@ Answers fs (Err e) new said = said ≡ Err e
 
 -- ready to go on: an empty record after a complete one
 abbrev pub opened : Hand → Hand
-opened h = record h { line = line_of h.way h.mark h.line; mark = Between }
+opened h = record h { line = line_in_hand h.way h.mark h.line; mark = Between }
 
 abbrev pub seeks : Hand → Kind → Result (Turn × Hand) Trap
 seeks h k = find h.way h.cycle k h.rest h.line
@@ -46,7 +46,7 @@ StepsTo (Ok (Some t)) old new k = seeks old k ≡ Ok (t, new)
 StepsTo (Ok None) old new k = (seeks old k ≡ seeks new k) × (length new.rest < length old.rest)
 
 abbrev pub ends : Hand → Result (Option Turn × Hand) Trap
-ends h = close h.way h.cycle h.rest h.line
+ends h = end_turn h.way h.cycle h.rest h.line
 
 -- one step where no item is left: an answer, or further on towards the same one
 abbrev pub EndsTo : Result (Option (Option Turn)) Trap → Hand → Hand → Type 0
@@ -60,4 +60,4 @@ Puts fs (Ok u) new said = said ≡ Ok (hand_of fs new)
 Puts fs (Err e) new said = said ≡ Err e
 
 abbrev pub ClosesTo : Option Turn → Hand → Hand → Type 0
-ClosesTo t old new = closed old.way old.cycle old.line ≡ (t, new)
+ClosesTo t old new = ended_turn old.way old.cycle old.line ≡ (t, new)

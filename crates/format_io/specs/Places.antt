@@ -100,18 +100,18 @@ step_of (pieces.Blanks n) = Blanks n
 step_of (pieces.Chars text) = Chars text
 step_of pieces.Slash = Slash
 
-abbrev pub code_of : Op → Code
-code_of (ops.Once n piece) = Once n (step_of piece)
-code_of (ops.Enter l n z) = Enter l n z
-code_of (ops.Leave l z) = Leave l z
+abbrev pub plan_code : Op → Code
+plan_code (ops.Once n piece) = Once n (step_of piece)
+plan_code (ops.Enter l n z) = Enter l n z
+plan_code (ops.Leave l z) = Leave l z
 
 -- the fields of a plan
 abbrev pub format : Laid → Fields
-format p = (parsed (map code_of p.ops.items)).0
+format p = (parsed (map plan_code p.ops.items)).0
 
 -- a plan is the code of its fields
 pub record IsPlan (p : Laid) : Type 0 where
-  pub same : map code_of p.ops.items ≡ code 0 (format p)
+  pub same : map plan_code p.ops.items ≡ code 0 (format p)
   pub back : p.start ≡ last_place 0 0 (format p)
   pub goes_on : p.cycles ≡ has_item (steps (again (format p)))
   pub shallow : depth (format p) ≤ 2

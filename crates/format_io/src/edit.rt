@@ -4,7 +4,7 @@ ghost use Rattle.f66_tree.specs.declared.editing.EditKind.TheVariants.{Letter};
 ghost use Rattle.f66_tree.specs.Fields.{Fields, Takes};
 ghost use Rattle.f66_tree.specs.declared.editing.Mark.TheVariants.{Between};
 ghost use Rattle.f66_tree.specs.declared.editing.Way.TheVariants.{Reading, Writing};
-ghost use Rattle.f66_tree.specs.Turns.{started, took, next_turn, last_turn, is_over, suits, width_of, put_whole, put_truth, put_letter, take_whole, take_truth, take_letter};
+ghost use Rattle.f66_tree.specs.Turns.{started, with_record, next_turn, last_turn, is_over, suits, width_of, put_whole, put_truth, put_letter, take_whole, take_truth, take_letter};
 ghost use Rattle.format_io.specs.Letters.{IsLetter, cell_of, PutsLetters, TakesLetters, LettersNext};
 ghost use Rattle.format_io.specs.Places.{Stand, hand_of, format, IsPlan, step_of};
 ghost use Rattle.format_io.specs.Answers.{line_in, Answers, opened, due_of, StepsTo, EndsTo, ClosesTo, Puts};
@@ -240,7 +240,7 @@ impl Edit {
         requires room { length bytes.now ≤ 65535 }
         requires way { self.old.way ≡ Reading }
         ensures same_way { self.new.way ≡ self.old.way }
-        ensures hand { (fs : Fields) → hand_of fs self.new ≡ took (hand_of fs self.old) bytes.now }
+        ensures hand { (fs : Fields) → hand_of fs self.new ≡ with_record (hand_of fs self.old) bytes.now }
     {
         self.input.replace(bytes);
         self.mark = Mark::Between;

@@ -1,7 +1,7 @@
 // The record in hand of a READ: what of it is not read yet, and the contents of its fields.
 ghost use Rattle.std.specs.Prelude.{◌≡◌, ℕ, ◌≤◌, List, [], ◌++◌, length, take, drop, map, get_or, All, IfOk};
 ghost use Rattle.format_io.specs.Letters.{IsLetter, cell_of};
-ghost use Rattle.f66_tree.specs.Fielded.{field, unblanked, capped, digit, digits_of, ranged, sign_of, digits_from, whole_of, truth_of, letter_of};
+ghost use Rattle.f66_tree.specs.Fielded.{field, unblanked, in_magnitude, digit, digits_of, ranged, sign_of, digits_from, whole_of, truth_of, letter_of};
 
 use ground::{Trap, Value};
 use std::alloc::{AllocError, Global};
@@ -135,7 +135,7 @@ impl Input {
     fn magnitude(&self, from: usize, width: usize) -> Option<u32>
         requires width { width ≤ 65535 }
         requires from { from ≤ width }
-        ensures { result ≡ capped (digits_from 0 (drop from (field width self.now))) }
+        ensures { result ≡ in_magnitude (digits_from 0 (drop from (field width self.now))) }
     {
         let mut n: u32 = 0;
         for i in from..width {

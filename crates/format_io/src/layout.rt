@@ -2,7 +2,7 @@
 ghost use Rattle.std.specs.Prelude.{◌≡◌, ◌≤◌, ◌+◌, [], ◌∷◌, ◌++◌, map, length, IfSome, OnOk, IfOk, false, ◌||◌, if◌then◌else◌};
 ghost use Rattle.f66_tree.specs.Fields.{steps, has_item};
 ghost use Rattle.f66_tree.specs.Views.{fields_of};
-ghost use Rattle.format_io.specs.Places.{size, code, depth, code_of, step_of, Once, IsPlanOf};
+ghost use Rattle.format_io.specs.Places.{size, code, depth, plan_code, step_of, Once, IsPlanOf};
 ghost use Rattle.format_io.specs.OneField.{one, is_group};
 
 use crate::code::{Laid, Op, Piece};
@@ -85,7 +85,7 @@ fn takes_item(field: &Field) -> bool
 /// The instructions of a field outside of all groups.
 fn emit_top(alloc: Global, ops: &mut Vec<Op>, field: &Field) -> Result<(), AllocError>
     requires { depth (one field.now) ≤ 2 }
-    ensures code { OnOk result (map code_of ops.new.items ≡ map code_of ops.old.items ++ code 0 (one field.now)) }
+    ensures code { OnOk result (map plan_code ops.new.items ≡ map plan_code ops.old.items ++ code 0 (one field.now)) }
     ensures len { OnOk result (length ops.new.items ≡ length ops.old.items + size (one field.now)) }
 {
     emit(alloc, ops, 0, field)
@@ -94,7 +94,7 @@ fn emit_top(alloc: Global, ops: &mut Vec<Op>, field: &Field) -> Result<(), Alloc
 /// The instructions of a field.
 fn emit(alloc: Global, ops: &mut Vec<Op>, level: u8, field: &Field) -> Result<(), AllocError>
     requires { level + depth (one field.now) ≤ 2 }
-    ensures { OnOk result (map code_of ops.new.items ≡ map code_of ops.old.items ++ code level (one field.now)) }
+    ensures { OnOk result (map plan_code ops.new.items ≡ map plan_code ops.old.items ++ code level (one field.now)) }
 {
     match field {
         Field::Group(count, inside) => {
@@ -120,7 +120,7 @@ fn emit(alloc: Global, ops: &mut Vec<Op>, level: u8, field: &Field) -> Result<()
 
 /// The instruction of an edit with its count.
 fn once(ops: &mut Vec<Op>, count: u16, piece: Piece) -> Result<(), AllocError>
-    ensures { OnOk result (map code_of ops.new.items ≡ map code_of ops.old.items ++ Once count (step_of piece) ∷ []) }
+    ensures { OnOk result (map plan_code ops.new.items ≡ map plan_code ops.old.items ++ Once count (step_of piece) ∷ []) }
 {
     ops.push(Op::Once(count, piece))?;
     Ok(())

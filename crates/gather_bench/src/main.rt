@@ -4,7 +4,7 @@
 
 use anyhow::{Result, bail};
 use ground::Dialect;
-use macro_define::{GatherRefusal, gather};
+use macro_define::{TextRefusal, gather};
 use ports::FileLibrary;
 use std::env;
 
@@ -32,7 +32,7 @@ fn main(rt: HostRuntime) -> Result<()> {
             println!(rt; "{tokens} tokens of {files} files")?;
             Ok(())
         }
-        Err(GatherRefusal::Fault(fault, _)) => {
+        Err(TextRefusal::Fault(fault, _)) => {
             let line = fault.place.line;
             println!(rt;
                 "fault {} {} at line {line}",
@@ -41,7 +41,7 @@ fn main(rt: HostRuntime) -> Result<()> {
             )?;
             Ok(())
         }
-        Err(GatherRefusal::Library) => bail!("a fetch failed"),
-        Err(GatherRefusal::Memory) => bail!("out of memory"),
+        Err(TextRefusal::Library) => bail!("a fetch failed"),
+        Err(TextRefusal::Memory) => bail!("out of memory"),
     }
 }

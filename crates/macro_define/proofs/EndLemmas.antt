@@ -16,7 +16,7 @@ use Rattle.macro_define.specs.declared.defines.FirstWord.TheVariants.{Define, In
 use Rattle.macro_define.specs.declared.whole_text.Gathered.{Gathered}
 use Rattle.macro_define.specs.Answers.{Answers, Known}
 use Rattle.macro_define.specs.Defines.{Broken, Closed, CutOff, Defined, Enclosed, define_from, define_of, define_of_name, enclosed_define, enclosed_text, ends_line, ends_text, first_word, is_close, is_comma, is_full, is_open, is_reserved, line_text, name_in, named_define, with_enclosed}
-use Rattle.macro_define.specs.Expansion.{Left, Stop, World, behind_name, fetched_file, file_made, file_number, from_tokens, gathered, in_file, include_made, include_token, is_quoted, is_text_end, part, plain_token, quoted_next, start, with_made}
+use Rattle.macro_define.specs.Expansion.{Left, Stop, GatherState, behind_name, fetched_file, file_made, file_number, from_tokens, gathered, in_file, include_made, include_token, is_quoted, is_text_end, part, plain_token, quoted_next, first_gathering, with_made}
 use Rattle.macro_define.specs.GatherAnswers.{EndsText, IsAnswer}
 use Rattle.macro_define.specs.Macros.{Macros, key}
 use Rattle.macro_define.specs.Made.{Made, and_then, fault_at, put}
@@ -155,11 +155,11 @@ module _ (m : ℕ) where
   LeftEnds (Ok p) = RestEnds p.0
   LeftEnds (Err stop) = ⊤
 
-  defined-left : (name : List ℕ) (answers : Answers) (w : World) (r : Defined) → DefinedEnds r → LeftEnds (and_then (in_file name answers r) (λ p. Ok (p.0, record w { macros = p.1 })))
+  defined-left : (name : List ℕ) (answers : Answers) (w : GatherState) (r : Defined) → DefinedEnds r → LeftEnds (and_then (in_file name answers r) (λ p. Ok (p.0, record w { macros = p.1 })))
   defined-left name answers w (Ok p) h = h
   defined-left name answers w (Err fault) h = Prim.tt
 
-  world-left : (ts : List Token) (r : Result World Stop) → RestEnds ts → LeftEnds (and_then r (λ v. Ok (ts, v)))
+  world-left : (ts : List Token) (r : Result GatherState Stop) → RestEnds ts → LeftEnds (and_then r (λ v. Ok (ts, v)))
   world-left ts (Ok v) h = h
   world-left ts (Err stop) h = Prim.tt
 
@@ -167,22 +167,22 @@ module _ (m : ℕ) where
   name-ends [] r = r
   name-ends (t ∷ ts) r = chosen RestEnds (is_quoted t.kind) ts (t ∷ ts) (λ q. rest-behind is_quoted t ts refl q r) (λ q. r)
 
-  module _ (include : Place → List ℕ → World → Result World Stop) where
-    include-ends : (o : Option (Place × List ℕ)) (ts : List Token) (w : World) → RestEnds ts → LeftEnds (include_token include o ts w)
+  module _ (include : Place → List ℕ → GatherState → Result GatherState Stop) where
+    include-ends : (o : Option (Place × List ℕ)) (ts : List Token) (w : GatherState) → RestEnds ts → LeftEnds (include_token include o ts w)
     include-ends (Some (place, file)) ts w r = world-left ts (include place file w) r
     include-ends None ts w r = r
 
-    part-ends : (d : Dialect) (name : List ℕ) (first : FirstWord) (t : Token) (ts : List Token) (w : World) → RestEnds ts → LeftEnds (part include d true name first t ts w)
+    part-ends : (d : Dialect) (name : List ℕ) (first : FirstWord) (t : Token) (ts : List Token) (w : GatherState) → RestEnds ts → LeftEnds (part include d true name first t ts w)
     part-ends d name Define t ts w r = defined-left name w.answers w (define_of d t.place w.macros ts) (define-ends d t.place w.macros ts r)
     part-ends d name Include t ts w r = include-ends (quoted_next ts) (behind_name ts) w (name-ends ts r)
     part-ends d name Other t ts w r = world-left ts (plain_token d true name t w) r
 
-  left-on : (r : Result Left Stop) (f : Left → Result World Stop) (E : Result World Stop → Type 0) → ((stop : Stop) → E (Err stop)) → LeftEnds r → ((p : Left) → RestEnds p.0 → E (f p)) → E (and_then r f)
+  left-on : (r : Result Left Stop) (f : Left → Result GatherState Stop) (E : Result GatherState Stop → Type 0) → ((stop : Stop) → E (Err stop)) → LeftEnds r → ((p : Left) → RestEnds p.0 → E (f p)) → E (and_then r f)
   left-on (Ok p) f E stops h on = on p h
   left-on (Err stop) f E stops h on = stops stop
 
 -- what is made ends so
-abbrev Ends : Result World Stop → Type 0
+abbrev Ends : Result GatherState Stop → Type 0
 Ends (Ok w) = finished w.made.tokens ≡ true
 Ends (Err stop) = ⊤
 
@@ -196,28 +196,28 @@ put-ends t m h =
     (λ c. Prim.tt)
     (λ c. finished-append m.tokens (t ∷ []) h)
 
-module _ (include : Place → List ℕ → World → Result World Stop) (d : Dialect) (name : List ℕ) where
+module _ (include : Place → List ℕ → GatherState → Result GatherState Stop) (d : Dialect) (name : List ℕ) where
   -- the tokens behind the last
-  abbrev last_made : ℕ → Bool → World → Result Made Fault → Result World Stop
+  abbrev last_made : ℕ → Bool → GatherState → Result Made Fault → Result GatherState Stop
   last_made n later w r =
       and_then {A = Left} (and_then (in_file name w.answers (with_made w r)) (λ v. Ok ([], v))) (λ p. from_tokens include d true name n later p.0 None p.1)
 
-  made-ends : (n : ℕ) (later : Bool) (w : World) (r : Result Made Fault) → MadeEnds r → Ends (last_made n later w r)
+  made-ends : (n : ℕ) (later : Bool) (w : GatherState) (r : Result Made Fault) → MadeEnds r → Ends (last_made n later w r)
   made-ends n later w (Ok m) h = subst Ends (sym (tokens-end include d true name n later None (record w { made = m }))) h
   made-ends n later w (Err fault) h = Prim.tt
 
-  abbrev next_made : ℕ → Bool → TokenKind → Place → World → Result World Stop
+  abbrev next_made : ℕ → Bool → TokenKind → Place → GatherState → Result GatherState Stop
   next_made n begins k place w =
       and_then (part include d true name (first_word begins k) (record { kind = k; place = place }) [] w) (λ p. from_tokens include d true name n (ends_line k) p.0 None p.1)
 
-  end-ends : (n : ℕ) (begins : Bool) (place : Place) (w : World) → Ends (next_made n begins TextEnd place w)
+  end-ends : (n : ℕ) (begins : Bool) (place : Place) (w : GatherState) → Ends (next_made n begins TextEnd place w)
   end-ends n true place w = made-ends n false w (put (record { kind = TextEnd; place = place }) w.made) (put-ends (record { kind = TextEnd; place = place }) w.made refl)
   end-ends n false place w = made-ends n false w (put (record { kind = TextEnd; place = place }) w.made) (put-ends (record { kind = TextEnd; place = place }) w.made refl)
 
-  last-ends : (n : ℕ) (begins : Bool) (t : Token) (w : World) → is_text_end t.kind ≡ true → Ends (next_made n begins t.kind t.place w)
+  last-ends : (n : ℕ) (begins : Bool) (t : Token) (w : GatherState) → is_text_end t.kind ≡ true → Ends (next_made n begins t.kind t.place w)
   last-ends n begins t w h = subst (λ k. Ends (next_made n begins k t.place w)) (sym (kind-is t.kind h)) (end-ends n begins t.place w)
 
-  whole-ends : (n : ℕ) (begins : Bool) (ts : List Token) (w : World) → finished ts ≡ true → length ts ≤ n → Ends (from_tokens include d true name n begins ts None w)
+  whole-ends : (n : ℕ) (begins : Bool) (ts : List Token) (w : GatherState) → finished ts ≡ true → length ts ≤ n → Ends (from_tokens include d true name n begins ts None w)
   whole-ends zero begins [] w h few = none-finished h
   whole-ends zero begins (t ∷ ts) w h few = absurd (omega (arith, few))
   whole-ends (suc n) begins [] w h few = none-finished h
@@ -228,18 +228,18 @@ module _ (include : Place → List ℕ → World → Result World Stop) (d : Dia
       (λ p r. whole-ends n (ends_line t.kind) p.0 p.1 r.0 r.1)
 
   -- a file at whose fault the tokens stop is not whole
-  left-any : (r : Result Left Stop) (f : Left → Result World Stop) → ((p : Left) → Ends (f p)) → Ends (and_then r f)
+  left-any : (r : Result Left Stop) (f : Left → Result GatherState Stop) → ((p : Left) → Ends (f p)) → Ends (and_then r f)
   left-any (Ok p) f on = on p
   left-any (Err stop) f on = Prim.tt
 
-  faulty-ends : (n : ℕ) (begins : Bool) (ts : List Token) (fault : Fault) (w : World) → Ends (from_tokens include d true name n begins ts (Some fault) w)
+  faulty-ends : (n : ℕ) (begins : Bool) (ts : List Token) (fault : Fault) (w : GatherState) → Ends (from_tokens include d true name n begins ts (Some fault) w)
   faulty-ends zero begins ts fault w = Prim.tt
   faulty-ends (suc n) begins [] fault w = Prim.tt
   faulty-ends (suc n) begins (t ∷ ts) fault w =
       left-any (part include d true name (first_word begins t.kind) t ts w) (λ p. from_tokens include d true name n (ends_line t.kind) p.0 (Some fault) p.1)
       (λ p. faulty-ends n (ends_line t.kind) p.0 fault p.1)
 
-  all-ends : (ts : List Token) (o : Option Fault) (w : World) → (o ≡ None → finished ts ≡ true) → Ends (from_tokens include d true name (length ts) true ts o w)
+  all-ends : (ts : List Token) (o : Option Fault) (w : GatherState) → (o ≡ None → finished ts ≡ true) → Ends (from_tokens include d true name (length ts) true ts o w)
   all-ends ts None w h = whole-ends (length ts) true ts w (h refl) (omega arith)
   all-ends ts (Some fault) w h = faulty-ends (length ts) true ts fault w
 
@@ -259,18 +259,18 @@ lines-end d text file s zero (b ∷ bs) h =
     line-reading-ends (line_reading d text file s) (λ after. lines_from d text file after (after.next - (s.next + 1)) bs)
     (λ after. lines-end d text file after (after.next - (s.next + 1)) bs) h
 
-file-ends : (d : Dialect) (include : Place → List ℕ → World → Result World Stop) (name text : List ℕ) (w : World) → Ends (file_made d include true name text w)
+file-ends : (d : Dialect) (include : Place → List ℕ → GatherState → Result GatherState Stop) (name text : List ℕ) (w : GatherState) → Ends (file_made d include true name text w)
 file-ends d include name text w =
     let r = scanned d text (file_number w.files name) in
     all-ends include d name r.tokens r.fault w (lines-end d text (file_number w.files name) text_start 0 text)
 
-fetched-on : (r : Result (List ℕ × World) Stop) (f : List ℕ × World → Result World Stop) → ((p : List ℕ × World) → Ends (f p)) → Ends (and_then r f)
+fetched-on : (r : Result (List ℕ × GatherState) Stop) (f : List ℕ × GatherState → Result GatherState Stop) → ((p : List ℕ × GatherState) → Ends (f p)) → Ends (and_then r f)
 fetched-on (Ok p) f on = on p
 fetched-on (Err stop) f on = Prim.tt
 
 gathered-ends : (d : Dialect) (name : List ℕ) (known : Known) → Ends (gathered d name known)
 gathered-ends d name known =
-    fetched-on (fetched_file (record { file = 0; line = 0 }) false false name name (start known)) (λ p. file_made d (include_made d 10 name) true name p.0 p.1)
+    fetched-on (fetched_file (record { file = 0; line = 0 }) false false name name (first_gathering known)) (λ p. file_made d (include_made d 10 name) true name p.0 p.1)
     (λ p. file-ends d (include_made d 10 name) name p.0 p.1)
 
 pub answer-ends : (d : Dialect) (name : List ℕ) (known : Known) (names : List (List ℕ)) (all : Gathered) → IsAnswer (gathered d name known) names (Ok all) → EndsText all.tokens.items

@@ -9,20 +9,20 @@ use Rattle.ground.specs.declared.token.TokenKind.{TokenKind}
 use Rattle.ground.specs.declared.token.TokenKind.TheVariants.{Word, Number, LineEnd, TextEnd, Sign as SignToken}
 use Rattle.ground.specs.declared.token.Sign.TheVariants.{Assign}
 use Rattle.macro_define.specs.Answers.{Holds}
-use Rattle.macro_define.specs.Expansion.{Stop, World, file_made, include_made, start}
+use Rattle.macro_define.specs.Expansion.{Stop, GatherState, file_made, include_made, first_gathering}
 
 -- what the file p makes of this text
-abbrev of_text : Dialect → List ℕ → Result World Stop
-of_text d text = file_made d (include_made d 10 (codes "p")) true (codes "p") text (record (start (Holds (λ name. None))) { files = codes "p" ∷ [] })
+abbrev of_text : Dialect → List ℕ → Result GatherState Stop
+of_text d text = file_made d (include_made d 10 (codes "p")) true (codes "p") text (record (first_gathering (Holds (λ name. None))) { files = codes "p" ∷ [] })
 
 abbrev at : ℕ → ℕ → List TokenKind → List Token
 at file n kinds = map (λ kind. record { kind = kind; place = record { file = file; line = n } }) kinds
 
-abbrev tokens_of : Result World Stop → Option (List Token)
+abbrev tokens_of : Result GatherState Stop → Option (List Token)
 tokens_of (Ok w) = Some w.made.tokens
 tokens_of (Err stop) = None
 
-abbrev fault_of : Result World Stop → Option (FaultKind × (ℕ × List ℕ))
+abbrev fault_of : Result GatherState Stop → Option (FaultKind × (ℕ × List ℕ))
 fault_of (Ok w) = None
 fault_of (Err stop) = Some (stop.fault.kind, (stop.fault.place.line, stop.file))
 

@@ -12,8 +12,8 @@ use Rattle.ground.specs.declared.place.Place.{Place}
 use Rattle.macro_define.specs.declared.gathering.Gathering.{Gathering}
 use Rattle.ports.specs.Held.{fetched}
 use Rattle.macro_define.specs.Answers.{Answers, Holds, InTurn, Through, after_fetch, answer, knows}
-use Rattle.macro_define.specs.Expansion.{World, can_hold, fetched_file, held_under, in_file, stop_in, wanting, with_text}
-use Rattle.macro_define.specs.declared.refusal.GatherRefusal.{GatherRefusal}
+use Rattle.macro_define.specs.Expansion.{GatherState, can_hold, fetched_file, held_under, in_file, stop_in, wanting, with_text}
+use Rattle.macro_define.specs.declared.refusal.TextRefusal.{TextRefusal}
 use Rattle.macro_define.specs.Gathered.{Asks, Fetches, IsInFile, world}
 use Rattle.macro_define.specs.Made.{fault_at}
 
@@ -131,19 +131,19 @@ pub through-empty : (files : Files) (F : List (List ℕ) → Type 0) (name : Lis
 through-empty files F name none empty = through-not_held files F name none (no_text (is_utf8 name) (length name == 0) empty)
 
 -- a file that is not there
-pub fetched-missing : (includer : List ℕ) (place : Place) (too_deep too_long : Bool) (name : List ℕ) (g h : Gathering) (fault : Fault) (e : GatherRefusal)
+pub fetched-missing : (includer : List ℕ) (place : Place) (too_deep too_long : Bool) (name : List ℕ) (g h : Gathering) (fault : Fault) (e : TextRefusal)
     → IsInFile includer (Faulty fault) e → fault ≡ fault_at place IncludeMissing 0
     → (a b : Answers) → Asks name (Ok None) a b → Fetches (fetched_file place too_deep too_long includer name (world g a)) (Err e) (world h b)
 fetched-missing includer place too_deep too_long name g h fault e (inl is) missing a b asks =
-    subst (λ (q : GatherRefusal). Fetches (fetched_file place too_deep too_long includer name (world g a)) (Err q) (world h b)) (sym is)
+    subst (λ (q : TextRefusal). Fetches (fetched_file place too_deep too_long includer name (world g a)) (Err q) (world h b)) (sym is)
     (ap (λ o. in_file includer (wanting name a) (with_text place too_deep too_long name (record (world g a) { answers = wanting name a }) o)) asks.0
     ∙ ap (λ x. Err (stop_in includer x (fault_at place IncludeMissing 0))) (sym asks.1)
     ∙ ap (λ f. Err (stop_in includer b f)) (sym missing))
 fetched-missing includer place too_deep too_long name g h fault e (inr is) missing a b asks =
-    subst (λ (q : GatherRefusal). Fetches (fetched_file place too_deep too_long includer name (world g a)) (Err q) (world h b)) (sym is) Prim.tt
+    subst (λ (q : TextRefusal). Fetches (fetched_file place too_deep too_long includer name (world g a)) (Err q) (world h b)) (sym is) Prim.tt
 
 -- a text that was fetched and then counted
-pub fetched-counted : (includer : List ℕ) (place : Place) (too_deep too_long : Bool) (name : List ℕ) (old new : Answers → World) (r : Result (Vec ℕ Global) GatherRefusal) (text : Vec ℕ Global)
+pub fetched-counted : (includer : List ℕ) (place : Place) (too_deep too_long : Bool) (name : List ℕ) (old new : Answers → GatherState) (r : Result (Vec ℕ Global) TextRefusal) (text : Vec ℕ Global)
     → ((x : Answers) → Fetches (in_file includer x (with_text place too_deep too_long name (old x) (Some text.items))) r (new x))
     → (a b : Answers) → Asks name (Ok (Some text)) a b → Fetches (in_file includer (wanting name a) (with_text place too_deep too_long name (old (wanting name a)) (held_under name a))) r (new b)
 fetched-counted includer place too_deep too_long name old new r text counts a b h =

@@ -9,7 +9,7 @@ ghost use Rattle.macro_define.specs.Expansion.{fetched_file, file_number as file
 ghost use Rattle.macro_define.specs.Gathered.{Asks, Fetches, HasCause, IsInFile, IsNoFault, IsUnasked, world};
 
 use crate::gathering::Gathering;
-use crate::refusal::GatherRefusal;
+use crate::refusal::TextRefusal;
 use ground::{Fault, FaultKind, Place, Refusal, Text};
 use indexmap::IndexSet;
 use ports::{FetchFault, Library};
@@ -32,7 +32,7 @@ pub fn fetch_file<L: Library>(
     includer: &[u8],
     name: &[u8],
     gathering: &mut Gathering,
-) -> Result<Vec<u8>, GatherRefusal>
+) -> Result<Vec<u8>, TextRefusal>
     ensures text { Through (L.files library.old) (λ names. L.fetches library.old names library.new) (λ before after.
         Fetches (fetched_file place too_deep too_long includer.now name.now (world gathering.old before)) result (world gathering.new after)) }
     ensures room { OnOk result (gathering.new.room ≤ gathering.old.room) }
@@ -59,7 +59,7 @@ fn ask<L: Library>(
     alloc: Global,
     library: &mut L,
     name: &[u8],
-) -> Result<Option<Vec<u8>>, GatherRefusal>
+) -> Result<Option<Vec<u8>>, TextRefusal>
     ensures text { Through (L.files library.old) (λ names. L.fetches library.old names library.new) (λ before after. Asks name.now result before after) }
     ensures faultless { IsNoFault result }
     ensures same { L.files library.new ≡ L.files library.old }
@@ -72,8 +72,8 @@ fn ask<L: Library>(
     match str::from_utf8(name) {
         Ok(name) => match library.fetch(alloc, name) {
             Ok(got) => Ok(got),
-            Err(FetchFault::Failed) => Err(GatherRefusal::Library),
-            Err(FetchFault::Memory) => Err(GatherRefusal::Memory),
+            Err(FetchFault::Failed) => Err(TextRefusal::Library),
+            Err(FetchFault::Memory) => Err(TextRefusal::Memory),
         },
         Err(_) => Ok(None),
     }
@@ -89,7 +89,7 @@ fn count_file(
     name: &[u8],
     text: Vec<u8>,
     gathering: &mut Gathering,
-) -> Result<Vec<u8>, GatherRefusal>
+) -> Result<Vec<u8>, TextRefusal>
     ensures text { (a : Answers) → Fetches (in_file includer.now a (with_text place too_deep too_long name.now (world gathering.old a) (Some text.items)))
         result (world gathering.new a) }
     ensures room { OnOk result (gathering.new.room ≤ gathering.old.room) }
@@ -140,21 +140,21 @@ pub fn file_number(files: &IndexSet<Vec<u8>>, name: &[u8]) -> u16
 }
 
 /// A fault in the file of this name.
-pub fn fault_in(alloc: Global, name: &[u8], fault: Fault) -> GatherRefusal
+pub fn fault_in(alloc: Global, name: &[u8], fault: Fault) -> TextRefusal
     ensures { IsInFile name.now (Faulty fault) result }
 {
     match Vec::from_slice(alloc, name) {
-        Ok(name) => GatherRefusal::Fault(fault, Text::new(name)),
-        Err(_) => GatherRefusal::Memory,
+        Ok(name) => TextRefusal::Fault(fault, Text::new(name)),
+        Err(_) => TextRefusal::Memory,
     }
 }
 
 /// A refusal in the file of this name.
-pub fn refusal_in(alloc: Global, name: &[u8], refusal: Refusal) -> GatherRefusal
+pub fn refusal_in(alloc: Global, name: &[u8], refusal: Refusal) -> TextRefusal
     ensures { IsInFile name.now refusal result }
 {
     match refusal {
         Refusal::Fault(fault) => fault_in(alloc, name, fault),
-        Refusal::Memory => GatherRefusal::Memory,
+        Refusal::Memory => TextRefusal::Memory,
     }
 }

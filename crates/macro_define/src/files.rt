@@ -1,14 +1,14 @@
 // The files of a text, token by token, each include in its place.
 ghost use Rattle.std.specs.Prelude.{◌≡◌, ◌≤◌, ◌<◌, length, OnOk, Ok};
 ghost use Rattle.macro_define.specs.Answers.{Answers, Through};
-ghost use Rattle.macro_define.specs.Expansion.{World, behind_name, define_token, end_of, file_made, include_made, part, plain_token, quoted_next, is_quoted as is_quoted_of, is_text_end as is_text_end_of};
+ghost use Rattle.macro_define.specs.Expansion.{GatherState, behind_name, define_token, end_of, file_made, include_made, part, plain_token, quoted_next, is_quoted as is_quoted_of, is_text_end as is_text_end_of};
 ghost use Rattle.macro_define.specs.Gathered.{Gathers, HasCause, IsUnasked, world};
 
 use crate::defines::{FirstWord, define, ends_line, first_word, next_token};
 use crate::fetches::{fault_in, fetch_file, file_number, refusal_in};
 use crate::gathering::Gathering;
 use crate::macros::add_token;
-use crate::refusal::GatherRefusal;
+use crate::refusal::TextRefusal;
 use free_scan::scan;
 use ground::{Dialect, Fault, Place, Text, Token, TokenKind};
 use ports::Library;
@@ -29,7 +29,7 @@ fn add_include<L: Library>(
     place: Place,
     name: &[u8],
     gathering: &mut Gathering,
-) -> Result<(), GatherRefusal>
+) -> Result<(), TextRefusal>
     requires { gathering.old.room ≤ 4194304 }
     ensures made { Through (L.files library.old) (λ names. L.fetches library.old names library.new) (λ before after.
         Gathers (include_made dialect depth includer.now place name.now (world gathering.old before)) result (Ok (world gathering.new after)) after) }
@@ -71,7 +71,7 @@ pub fn add_file<L: Library>(
     name: &[u8],
     text: &[u8],
     gathering: &mut Gathering,
-) -> Result<(), GatherRefusal>
+) -> Result<(), TextRefusal>
     requires short { length text.now ≤ 4194304 }
     requires room { gathering.old.room ≤ 4194304 }
     ensures made { Through (L.files library.old) (λ names. L.fetches library.old names library.new) (λ before after.
@@ -104,8 +104,8 @@ pub fn add_file<L: Library>(
 }
 
 /// Ends a file's tokens, at a fault of the scan if there is one.
-fn end_file(alloc: Global, name: &[u8], fault: Option<Fault>) -> Result<(), GatherRefusal>
-    ensures made { (w : World) → Gathers (end_of name.now fault w) result (Ok w) w.answers }
+fn end_file(alloc: Global, name: &[u8], fault: Option<Fault>) -> Result<(), TextRefusal>
+    ensures made { (w : GatherState) → Gathers (end_of name.now fault w) result (Ok w) w.answers }
     ensures unasked { IsUnasked result }
 {
     match fault {
@@ -127,7 +127,7 @@ fn add_part<L: Library>(
     token: Token,
     tokens: &mut VecDeque<Token>,
     gathering: &mut Gathering,
-) -> Result<(), GatherRefusal>
+) -> Result<(), TextRefusal>
     requires { gathering.old.room ≤ 4194304 }
     ensures made { Through (L.files library.old) (λ names. L.fetches library.old names library.new) (λ before after.
         Gathers (part (include_made dialect depth name.now) dialect outermost name.now first token tokens.old.items (world gathering.old before))
@@ -187,7 +187,7 @@ fn add_define(
     place: Place,
     tokens: &mut VecDeque<Token>,
     gathering: &mut Gathering,
-) -> Result<(), GatherRefusal>
+) -> Result<(), TextRefusal>
     ensures made { (a : Answers) → Gathers (define_token dialect name.now place tokens.old.items (world gathering.old a)) result (Ok (tokens.new.items, world gathering.new a)) a }
     ensures fewer { length tokens.new.items ≤ length tokens.old.items }
     ensures room { gathering.new.room ≡ gathering.old.room }
@@ -207,7 +207,7 @@ fn add_plain(
     name: &[u8],
     token: Token,
     gathering: &mut Gathering,
-) -> Result<(), GatherRefusal>
+) -> Result<(), TextRefusal>
     ensures made { (a : Answers) → Gathers (plain_token dialect outermost name.now token (world gathering.old a)) result (Ok (world gathering.new a)) a }
     ensures room { gathering.new.room ≡ gathering.old.room }
     ensures unasked { IsUnasked result }

@@ -10,7 +10,7 @@ mod output;
 mod refusal;
 mod whole_text;
 
-pub use refusal::GatherRefusal;
+pub use refusal::TextRefusal;
 pub use whole_text::{Gathered, gather};
 
 #[cfg(test)]

@@ -1,6 +1,6 @@
 // Why a text is not gathered.
 ghost use Rattle.std.specs.Prelude.{◌≡◌};
-ghost use Rattle.macro_define.specs.declared.refusal.GatherRefusal.TheVariants.{Memory as NoMemory};
+ghost use Rattle.macro_define.specs.declared.refusal.TextRefusal.TheVariants.{Memory as NoMemory};
 
 use ground::{Fault, Memory, Text};
 use std::alloc::AllocError;
@@ -9,7 +9,7 @@ use thiserror::Error;
 /// A fault, with the name of the file of its place, or of the whole text's at line 0; a fetch that failed; or want of
 /// memory.
 #[derive(Debug, Drop, Error)]
-pub enum GatherRefusal {
+pub enum TextRefusal {
     #[error("a fault of the text")]
     Fault(Fault, Text),
     #[error("a fetch failed")]
@@ -18,18 +18,18 @@ pub enum GatherRefusal {
     Memory,
 }
 
-impl From<AllocError> for GatherRefusal {
+impl From<AllocError> for TextRefusal {
     ghost from_gives = { λ _ refusal. refusal ≡ NoMemory };
 
     fn from(_: AllocError) -> Self {
-        GatherRefusal::Memory
+        TextRefusal::Memory
     }
 }
 
-impl From<Memory> for GatherRefusal {
+impl From<Memory> for TextRefusal {
     ghost from_gives = { λ _ refusal. refusal ≡ NoMemory };
 
     fn from(_: Memory) -> Self {
-        GatherRefusal::Memory
+        TextRefusal::Memory
     }
 }

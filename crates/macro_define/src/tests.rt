@@ -1,6 +1,6 @@
 // Texts with macros and includes, worked out by hand from the rules.
 
-use super::{GatherRefusal, Gathered, gather};
+use super::{TextRefusal, Gathered, gather};
 use ground::{Dialect, Fault, Text, TokenKind};
 use ports::{Library, MemLibrary};
 use std::alloc::{AllocError, Global};
@@ -61,13 +61,13 @@ fn push_fault(shown: &mut String, fault: &Fault, name: &Text) -> Result<(), Allo
     write!(shown, ":{line}")
 }
 
-fn shown(alloc: Global, answer: &Result<Gathered, GatherRefusal>) -> Result<String, AllocError> {
+fn shown(alloc: Global, answer: &Result<Gathered, TextRefusal>) -> Result<String, AllocError> {
     let mut shown = String::new(alloc);
     match answer {
         Ok(all) => push_whole(&mut shown, all)?,
-        Err(GatherRefusal::Fault(fault, name)) => push_fault(&mut shown, fault, name)?,
-        Err(GatherRefusal::Library) => shown.push_str("library fault")?,
-        Err(GatherRefusal::Memory) => shown.push_str("out of memory")?,
+        Err(TextRefusal::Fault(fault, name)) => push_fault(&mut shown, fault, name)?,
+        Err(TextRefusal::Library) => shown.push_str("library fault")?,
+        Err(TextRefusal::Memory) => shown.push_str("out of memory")?,
     }
     Ok(shown)
 }

@@ -8,7 +8,7 @@ ghost use Rattle.macro_define.specs.GatherAnswers.{EndsText, IsGathered};
 use crate::fetches::fetch_file;
 use crate::files::add_file;
 use crate::gathering::Gathering;
-use crate::refusal::GatherRefusal;
+use crate::refusal::TextRefusal;
 use ground::{Dialect, List, Place, Text, Token};
 use indexmap::IndexSet;
 use ports::Library;
@@ -33,7 +33,7 @@ pub fn gather<L: Library>(
     dialect: Dialect,
     name: &str,
     library: &mut L,
-) -> Result<Gathered, GatherRefusal>
+) -> Result<Gathered, TextRefusal>
     ensures text { IsGathered (L.files library.old) (λ names. L.fetches library.old names library.new) dialect name.now result }
     ensures ended { IfOk result (λ all. EndsText all.tokens.items) }
     ensures same { L.files library.new ≡ L.files library.old }
@@ -59,7 +59,7 @@ fn add_text<L: Library>(
     depth: usize,
     name: &[u8],
     gathering: &mut Gathering,
-) -> Result<(), GatherRefusal>
+) -> Result<(), TextRefusal>
     requires { gathering.old.room ≡ 4194304 }
     ensures made { Through (L.files library.old) (λ names. L.fetches library.old names library.new) (λ before after.
         Gathers (text_made dialect depth name.now (world gathering.old before)) result (Ok (world gathering.new after)) after) }

@@ -7,7 +7,7 @@ use Rattle.std.specs.List.{list_any}
 use Rattle.std.proofs.lemmas.Bool.{eq-eqb, le-leb}
 use Rattle.std.proofs.lemmas.Slice.Eq.{bytes_eq-Decides}
 use Rattle.name_alloc.specs.Numbers.{Numbering, is_in, taking}
-use Rattle.name_alloc.specs.MadeNames.{Used, digit_at, made_name, digit_of, then_digit, number_in, number_of, holds_number, is_used, is_free, intrinsics, covered, covers, taking_if}
+use Rattle.name_alloc.specs.MadeNames.{Used, digit_at, made_name, digit_of, then_digit, number_in, number_of, holds_number, is_used, is_free, intrinsic_names, covered, covers, taking_if}
 
 digit_is : (d : ℕ) → d ≤ 9 → digit_of (48 + d) ≡ Some d
 digit_is d le =
@@ -115,7 +115,7 @@ taken-length s (Some n) = by_old (is_in s.taken n)
     by_old false = omega (arith, length-append s.taken (n ∷ []))
 
 pub free_unused : (s : Used) (x : List ℕ) → is_free s x ≡ true → is_used s x ≡ false
-free_unused s x e = by_tests (nat_le (length x) 6) (list_any (bytes_eq x) intrinsics) (is_used s x) e
+free_unused s x e = by_tests (nat_le (length x) 6) (list_any (bytes_eq x) intrinsic_names) (is_used s x) e
   where
     by_tests : (a b c : Bool) → (a && (not b && not c)) ≡ true → c ≡ false
     by_tests true true c h = absurd (true≢false (sym h))

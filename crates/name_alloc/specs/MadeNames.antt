@@ -41,12 +41,12 @@ abbrev pub is_used : Used → List ℕ → Bool
 is_used s x = list_any (bytes_eq x) s.kept || holds_number s.numbers.made (number_of s.letter x)
 
 -- the intrinsic functions of the profile
-abbrev pub intrinsics : List (List ℕ)
-intrinsics = codes "IABS" ∷ codes "MOD" ∷ codes "ISIGN" ∷ codes "IDIM" ∷ codes "MAX0" ∷ codes "MIN0" ∷ []
+abbrev pub intrinsic_names : List (List ℕ)
+intrinsic_names = codes "IABS" ∷ codes "MOD" ∷ codes "ISIGN" ∷ codes "IDIM" ∷ codes "MAX0" ∷ codes "MIN0" ∷ []
 
 -- whether a name of the source can be kept
 abbrev pub is_free : Used → List ℕ → Bool
-is_free s x = nat_le (length x) 6 && (not (list_any (bytes_eq x) intrinsics) && not (is_used s x))
+is_free s x = nat_le (length x) 6 && (not (list_any (bytes_eq x) intrinsic_names) && not (is_used s x))
 
 abbrev pub next_name : Used → List ℕ
 next_name s = made_name s.letter (next_number s.numbers)

@@ -3,7 +3,7 @@ ghost use Rattle.std.specs.Prelude.{◌≡◌, ◌+◌, ◌<◌, ◌≤◌, [], 
 ghost use Rattle.std.specs.List.{list_any};
 ghost use Rattle.std.specs.Str.{bytes_eq};
 ghost use Rattle.name_alloc.specs.Numbers.{is_in, next_number, starting, taking, making};
-ghost use Rattle.name_alloc.specs.MadeNames.{digit_at, digit_of, holds_number, made_name, number_of, is_used, is_free, intrinsics, next_name, unused, keeping, naming, labelling};
+ghost use Rattle.name_alloc.specs.MadeNames.{digit_at, digit_of, holds_number, made_name, number_of, is_used, is_free, intrinsic_names, next_name, unused, keeping, naming, labelling};
 
 use crate::Numbers;
 use f66_tree::Name;
@@ -224,7 +224,7 @@ fn has_name(names: &[Name], name: &[u8]) -> bool
 }
 
 fn is_intrinsic(name: &[u8]) -> bool
-    ensures { result ≡ list_any (bytes_eq name.now) intrinsics }
+    ensures { result ≡ list_any (bytes_eq name.now) intrinsic_names }
 {
     name == b"IABS".as_slice()
         || name == b"MOD".as_slice()

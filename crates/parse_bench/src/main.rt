@@ -3,13 +3,13 @@
 
 ghost use Rattle.std.specs.Prelude.{IfOk};
 ghost use Rattle.grammar.specs.Grammar.{EndsWith};
-ghost use Rattle.rat_table.specs.Ratfor.{certificate};
-ghost use Rattle.rat_grammar.specs.Ratfor.{grammar as ratfor};
+ghost use Rattle.rat_parse_table.specs.Ratfor.{certificate};
+ghost use Rattle.rat_parse.specs.Ratfor.{grammar as ratfor};
 
 use anyhow::{Result, bail};
 use free_scan::scan;
 use ground::{Dialect, Place, Refusal, Token, TokenKind};
-use rat_grammar::parse;
+use rat_parse::parse;
 use std::alloc::AllocError;
 use std::{env, fs};
 

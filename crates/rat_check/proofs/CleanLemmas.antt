@@ -8,9 +8,9 @@ use Rattle.ground.specs.declared.fault.FaultKind.{FaultKind}
 use Rattle.ground.specs.declared.fault.FaultKind.TheVariants.{Syntax, BadLabel, BadBreak, DuplicateCase}
 use Rattle.rule_table.proofs.RuleLemmas.{first_rule-least}
 use Rattle.rat_check.specs.Parts.{Part}
-use Rattle.rat_check.specs.Said.{said_by, context_of}
-use Rattle.rat_check.specs.Rules.{is_built_form, Before, nothing_before, behind, Whole, is_late, is_own_label, finds_labels, is_second_default, breaks_own, break_names, breaks, broken_rule}
-use Rattle.rat_check.specs.FirstFault.{or_else, first_unbuilt, fault_if, first_broken, whole_of, unbuilt_at, fault_of_parts}
+use Rattle.rat_check.specs.Said.{said_by, context_of_parts}
+use Rattle.rat_check.specs.Rules.{is_built_form, Before, nothing_before, behind, UnitRules, is_late_form, is_own_label, finds_labels, is_second_default, breaks_own, break_names, breaks, broken_rule}
+use Rattle.rat_check.specs.FirstFault.{or_else, first_unbuilt_part, fault_if, first_broken, unit_whole, unbuilt_at, fault_of_parts}
 
 -- ---- truth values and faults ----
 
@@ -41,15 +41,15 @@ built_none false p o e = absurd (none-some p (sym e))
 -- ---- a part without a fault ----
 
 -- what a part without a fault keeps, behind those before it
-pub record Keeps (u : Whole) (b : Before) (v : Part) : Type 0 where
-  pub early : is_late b.begun v.form ≡ false
+pub record Keeps (u : UnitRules) (b : Before) (v : Part) : Type 0 where
+  pub early : is_late_form b.begun v.form ≡ false
   pub own : is_own_label b.labels v.label ≡ true
   pub found : finds_labels u.formats v.reached v.form ≡ true
   pub inside : v.inside ≡ true
   pub single : is_second_default v.form ≡ false
   pub named : (k : FaultKind) → break_names u.context u.said b.said (said_by v.form) k ≡ false
 
-keeps : (u : Whole) (b : Before) (v : Part) → broken_rule u b v ≡ None → Keeps u b v
+keeps : (u : UnitRules) (b : Before) (v : Part) → broken_rule u b v ≡ None → Keeps u b v
 keeps u b v e =
     let clean : (k : FaultKind) → breaks u b v k ≡ false = first_rule-least (breaks u b v) None (sym e) in
     let rule : (k : FaultKind) → (breaks_own u.formats b v k ≡ false) × (break_names u.context u.said b.said (said_by v.form) k ≡ false) = λ k. or_parts (breaks_own u.formats b v k) _ (clean k) in
@@ -57,7 +57,7 @@ keeps u b v e =
     record { early = (rule Syntax).0; own = labels.0; found = labels.1; inside = not_false v.inside (rule BadBreak).0; single = (rule DuplicateCase).0; named = λ k. (rule k).1 }
 
 -- the first part keeps the rules, and those behind it do
-pub first_keeps : (u : Whole) (b : Before) (v : Part) (vs : List Part) → first_broken u b (v ∷ vs) ≡ None → Keeps u b v × (first_broken u (behind b v) vs ≡ None)
+pub first_keeps : (u : UnitRules) (b : Before) (v : Part) (vs : List Part) → first_broken u b (v ∷ vs) ≡ None → Keeps u b v × (first_broken u (behind b v) vs ≡ None)
 first_keeps u b v vs e =
     let n = or_none (fault_if v.place (broken_rule u b v)) (first_broken u (behind b v) vs) e in
     (keeps u b v (no_rule v.place (broken_rule u b v) n.0), n.1)
@@ -65,22 +65,22 @@ first_keeps u b v vs e =
 -- ---- a unit without a fault ----
 
 -- each part is built, and keeps the rules behind those before it
-abbrev pub AllKeep : Whole → Before → List Part → Type 0
+abbrev pub AllKeep : UnitRules → Before → List Part → Type 0
 AllKeep u b [] = ⊤
 AllKeep u b (v ∷ vs) = (is_built_form u.context v.form ≡ true) × Keeps u b v × AllKeep u (behind b v) vs
 
-all_keep : (u : Whole) (b : Before) (vs : List Part) → first_unbuilt u.context vs ≡ None → first_broken u b vs ≡ None → AllKeep u b vs
+all_keep : (u : UnitRules) (b : Before) (vs : List Part) → first_unbuilt_part u.context vs ≡ None → first_broken u b vs ≡ None → AllKeep u b vs
 all_keep u b [] built clean = tt
 all_keep u b (v ∷ vs) built clean =
     let n = first_keeps u b v vs clean in
-    let k = built_none (is_built_form u.context v.form) v.place (first_unbuilt u.context vs) built in
+    let k = built_none (is_built_form u.context v.form) v.place (first_unbuilt_part u.context vs) built in
     (k.0, n.0, all_keep u (behind b v) vs k.1 n.1)
 
 pub record Passed (vs : List Part) : Type 0 where
-  pub keep : AllKeep (whole_of vs) nothing_before vs
-  pub unbroken : first_broken (whole_of vs) nothing_before vs ≡ None
+  pub keep : AllKeep (unit_whole vs) nothing_before vs
+  pub unbroken : first_broken (unit_whole vs) nothing_before vs ≡ None
 
 pub passed : (vs : List Part) → fault_of_parts vs ≡ None → Passed vs
 passed vs e =
-    let n = or_none (unbuilt_at (first_unbuilt (context_of vs) vs)) (first_broken (whole_of vs) nothing_before vs) e in
-    record { keep = all_keep (whole_of vs) nothing_before vs (no_place (first_unbuilt (context_of vs) vs) n.0) n.1; unbroken = n.1 }
+    let n = or_none (unbuilt_at (first_unbuilt_part (context_of_parts vs) vs)) (first_broken (unit_whole vs) nothing_before vs) e in
+    record { keep = all_keep (unit_whole vs) nothing_before vs (no_place (first_unbuilt_part (context_of_parts vs) vs) n.0) n.1; unbroken = n.1 }

@@ -6,9 +6,9 @@ use Rattle.ground.specs.declared.fault.FaultKind.{FaultKind}
 use Rattle.ground.specs.declared.fault.FaultKind.TheVariants.{Syntax, NameTooLong, OutOfProfileType, TypeClash, WrongCount, DuplicateName, BadLabel, BadBreak, DuplicateCase, BadConstant, NotAssignable, Limit, Unbuilt}
 use Rattle.f66_tree.specs.declared.declaration.TypeWord.TheVariants.{Integer, Logical}
 use Rattle.f66_tree.specs.declared.expression.Operator.TheVariants.{Lt, And}
-use Rattle.f66_tree.specs.Forms.{Text, Applied, Joined, Nought, Also, Constant, Declared, Act, Assigns, Goes, Selects, Types, Dimensions, Invokes}
+use Rattle.f66_tree.specs.Syntax.{Text, Item, Pair, NoFormula, AndFormula, Constant, Declared, Act, Assign, Goto, Computed, Typed, Dimension, Invoke}
 use Rattle.f66_tree.proofs.ExampleParts.{here, i, k, num, var, with_one, set, i3}
-use Rattle.rat_tree.specs.Commands.{Command, Empty, Together, When, Whilst, Through, Repeats, Until, Counts, Switches, Leaves, GivesBack, Plainly, Marked, Commands, NoCommand, AndCommand, NoClause, AndClause}
+use Rattle.rat_tree.specs.Syntax.{Command, Empty, Block, If, While, For, Repeat, RepeatUntil, Do, Switch, Break, Return, Plain, Labelled, Commands, NoCommand, AndCommand, NoClause, AndClause}
 use Rattle.rat_check.specs.Parts.{unit_parts}
 use Rattle.rat_check.specs.FirstFault.{fault_at, fault_of_parts}
 
@@ -17,10 +17,10 @@ all [] = NoCommand
 all (c ∷ cs) = AndCommand c (all cs)
 
 abbrev plain : ℕ → Act → Command
-plain p a = Plainly None (here p) a
+plain p a = Plain None (here p) a
 
 abbrev block : ℕ → List Command → Command
-block p cs = Together (here p) (all cs)
+block p cs = Block (here p) (all cs)
 
 abbrev first : List Command → Option Fault
 first cs = fault_of_parts (unit_parts (all cs))
@@ -39,10 +39,10 @@ sized x n = record { name = x; sizes = Constant (pos n) ∷ [] }
 
 -- logical l; dimension k(10)
 abbrev logical : ℕ → Command
-logical p = plain p (Types Logical (scalar l ∷ []))
+logical p = plain p (Typed Logical (scalar l ∷ []))
 
 abbrev array : ℕ → Command
-array p = plain p (Dimensions (sized k 10 ∷ []))
+array p = plain p (Dimension (sized k 10 ∷ []))
 
 abbrev one : ℕ → Command
 one p = plain p (set i (num (pos 1)))
@@ -50,12 +50,12 @@ one p = plain p (set i (num (pos 1)))
 -- ---- what is accepted ----
 
 -- i = 1; if (l & k(i) < 3) k(i) = 2, with the declarations before
-mixed : first (logical 1 ∷ array 2 ∷ one 3 ∷ When (here 4) (Joined And (var l) (Joined Lt (with_one k (var i)) (num (pos 3)))) (plain 4 (Assigns (with_one k (var i)) (num (pos 2)))) ∷ []) ≡ None
+mixed : first (logical 1 ∷ array 2 ∷ one 3 ∷ If (here 4) (Pair And (var l) (Pair Lt (with_one k (var i)) (num (pos 3)))) (plain 4 (Assign (with_one k (var i)) (num (pos 2)))) ∷ []) ≡ None
 mixed = refl
 
 -- 9 format(i3), ;, { logical l } at the beginning
 abbrev format_first : Command
-format_first = Plainly (Some 9) (here 1) i3.act
+format_first = Plain (Some 9) (here 1) i3.act
 
 nothing_yet : first (format_first ∷ Empty (here 1) ∷ block 2 (logical 2 ∷ []) ∷ one 3 ∷ []) ≡ None
 nothing_yet = refl
@@ -63,81 +63,81 @@ nothing_yet = refl
 -- ---- the rules of names ----
 
 -- if (i) i = 1
-integer_condition : first (When (here 1) (var i) (one 1) ∷ []) ≡ at 1 TypeClash
+integer_condition : first (If (here 1) (var i) (one 1) ∷ []) ≡ at 1 TypeClash
 integer_condition = refl
 
 -- the condition of until takes its turn where it stands
-late_condition : first (Until (here 1) (block 1 (one 2 ∷ [])) (var i) (here 3) ∷ []) ≡ at 3 TypeClash
+late_condition : first (RepeatUntil (here 1) (block 1 (one 2 ∷ [])) (var i) (here 3) ∷ []) ≡ at 3 TypeClash
 late_condition = refl
 
 -- switch (l) with an array as a case: the value comes first
-logical_value : first (logical 1 ∷ Switches (here 2) (var l) (AndClause (Also (var k) Nought) false NoCommand (here 3) NoClause) ∷ []) ≡ at 2 TypeClash
+logical_value : first (logical 1 ∷ Switch (here 2) (var l) (AndClause (AndFormula (var k) NoFormula) false NoCommand (here 3) NoClause) ∷ []) ≡ at 2 TypeClash
 logical_value = refl
 
-array_case : first (array 1 ∷ Switches (here 2) (var i) (AndClause (Also (num (pos 1)) (Also (var k) Nought)) false NoCommand (here 3) NoClause) ∷ []) ≡ at 3 TypeClash
+array_case : first (array 1 ∷ Switch (here 2) (var i) (AndClause (AndFormula (num (pos 1)) (AndFormula (var k) NoFormula)) false NoCommand (here 3) NoClause) ∷ []) ≡ at 3 TypeClash
 array_case = refl
 
 -- a `for` whose condition is an integer, and whose step has a long name: the smaller number
-for_smaller : first (Through (here 1) (Some (set i (num (pos 1)))) (Some (var i)) (Some (set i (var (codes "IABCDEF")))) (one 1) ∷ []) ≡ at 1 NameTooLong
+for_smaller : first (For (here 1) (Some (set i (num (pos 1)))) (Some (var i)) (Some (set i (var (codes "IABCDEF")))) (one 1) ∷ []) ≡ at 1 NameTooLong
 for_smaller = refl
 
 -- do k = 1, 3 with the array k
-array_counts : first (array 1 ∷ Counts (here 2) k (Constant (pos 1)) (Constant (pos 3)) (Constant (pos 1)) (one 2) ∷ []) ≡ at 2 NotAssignable
+array_counts : first (array 1 ∷ Do (here 2) k (Constant (pos 1)) (Constant (pos 3)) (Constant (pos 1)) (one 2) ∷ []) ≡ at 2 NotAssignable
 array_counts = refl
 
 -- a declaration counts before it too, and stands at the wrong place
 real_declared : first (plain 1 (set (codes "A") (num (pos 1))) ∷ []) ≡ at 1 OutOfProfileType
 real_declared = refl
 
-declared_late : first (plain 1 (set (codes "A") (num (pos 1))) ∷ plain 2 (Types Integer (scalar (codes "A") ∷ [])) ∷ []) ≡ at 2 Syntax
+declared_late : first (plain 1 (set (codes "A") (num (pos 1))) ∷ plain 2 (Typed Integer (scalar (codes "A") ∷ [])) ∷ []) ≡ at 2 Syntax
 declared_late = refl
 
 twice_declared : first (logical 1 ∷ logical 2 ∷ []) ≡ at 2 DuplicateName
 twice_declared = refl
 
-wrong_count : first (array 1 ∷ plain 2 (set i (Applied k (Also (num (pos 1)) (Also (num (pos 2)) Nought)))) ∷ []) ≡ at 2 WrongCount
+wrong_count : first (array 1 ∷ plain 2 (set i (Item k (AndFormula (num (pos 1)) (AndFormula (num (pos 2)) NoFormula)))) ∷ []) ≡ at 2 WrongCount
 wrong_count = refl
 
-empty_array : first (plain 1 (Dimensions (sized k 0 ∷ [])) ∷ []) ≡ at 1 BadConstant
+empty_array : first (plain 1 (Dimension (sized k 0 ∷ [])) ∷ []) ≡ at 1 BadConstant
 empty_array = refl
 
 whole_array : first (array 1 ∷ plain 2 (set k (num (pos 1))) ∷ []) ≡ at 2 NotAssignable
 whole_array = refl
 
 -- limit 7
-large_array : first (plain 1 (Dimensions (sized k 32768 ∷ [])) ∷ []) ≡ Some (record { kind = Limit; place = here 1; number = 7 })
+large_array : first (plain 1 (Dimension (sized k 32768 ∷ [])) ∷ []) ≡ Some (record { kind = Limit; place = here 1; number = 7 })
 large_array = refl
 
 -- ---- the order of statements ----
 
-behind_repeat : first (Repeats (here 1) (logical 1) ∷ []) ≡ at 1 Syntax
+behind_repeat : first (Repeat (here 1) (logical 1) ∷ []) ≡ at 1 Syntax
 behind_repeat = refl
 
-behind_label : first (Marked 5 (here 1) (Empty (here 1)) ∷ logical 2 ∷ []) ≡ at 2 Syntax
+behind_label : first (Labelled 5 (here 1) (Empty (here 1)) ∷ logical 2 ∷ []) ≡ at 2 Syntax
 behind_label = refl
 
 -- ---- Ratfor's own ----
 
-own_rules : first (Whilst (here 1) (Joined Lt (var i) (num (pos 3))) (block 1 (plain 2 (Goes 10) ∷ Leaves (here 3) 2 ∷ [])) ∷ []) ≡ at 2 BadLabel
+own_rules : first (While (here 1) (Pair Lt (var i) (num (pos 3))) (block 1 (plain 2 (Goto 10) ∷ Break (here 3) 2 ∷ [])) ∷ []) ≡ at 2 BadLabel
 own_rules = refl
 
-too_far : first (Whilst (here 1) (Joined Lt (var i) (num (pos 3))) (Leaves (here 3) 2) ∷ []) ≡ at 3 BadBreak
+too_far : first (While (here 1) (Pair Lt (var i) (num (pos 3))) (Break (here 3) 2) ∷ []) ≡ at 3 BadBreak
 too_far = refl
 
-second_default : first (Switches (here 1) (var i) (AndClause Nought true NoCommand (here 2) (AndClause Nought true NoCommand (here 3) NoClause)) ∷ []) ≡ at 3 DuplicateCase
+second_default : first (Switch (here 1) (var i) (AndClause NoFormula true NoCommand (here 2) (AndClause NoFormula true NoCommand (here 3) NoClause)) ∷ []) ≡ at 3 DuplicateCase
 second_default = refl
 
 -- a jump to a label that is missing, by an array: the smaller number
-array_jump : first (array 1 ∷ Plainly None (here 2) (Selects (10 ∷ []) k) ∷ []) ≡ at 2 TypeClash
+array_jump : first (array 1 ∷ Plain None (here 2) (Computed (10 ∷ []) k) ∷ []) ≡ at 2 TypeClash
 array_jump = refl
 
 -- ---- what is not built goes first ----
 
-unbuilt_first : first (plain 1 (Goes 10) ∷ GivesBack (here 2) None ∷ []) ≡ at 2 Unbuilt
+unbuilt_first : first (plain 1 (Goto 10) ∷ Return (here 2) None ∷ []) ≡ at 2 Unbuilt
 unbuilt_first = refl
 
-call_unbuilt : first (When (here 1) (var i) (plain 1 (Invokes (codes "SUB") Nought)) ∷ []) ≡ at 1 Unbuilt
+call_unbuilt : first (If (here 1) (var i) (plain 1 (Invoke (codes "SUB") NoFormula)) ∷ []) ≡ at 1 Unbuilt
 call_unbuilt = refl
 
-function_unbuilt : first (logical 1 ∷ When (here 2) (with_one l (num (pos 1))) (one 2) ∷ []) ≡ at 2 Unbuilt
+function_unbuilt : first (logical 1 ∷ If (here 2) (with_one l (num (pos 1))) (one 2) ∷ []) ≡ at 2 Unbuilt
 function_unbuilt = refl

@@ -4,7 +4,7 @@ use Rattle.std.proofs.Math.Seq.{drop-cons}
 use Rattle.f66_tree.specs.Views.{formulas_of}
 use Rattle.rat_tree.specs.declared.program.RatStmt.{RatStmt}
 use Rattle.rat_tree.specs.declared.program.RatCase.{RatCase, out-RatCase, roll-out-RatCase}
-use Rattle.rat_tree.specs.Commands.{AndCommand, Clauses, AndClause}
+use Rattle.rat_tree.specs.Syntax.{AndCommand, Clauses, AndClause}
 use Rattle.rat_tree.specs.Views.{command, commands, clause_then, clauses}
 use Rattle.rat_tree.proofs.Rows.{case_clause}
 use Rattle.rat_check.specs.Parts.{Part, parts_of, parts_in, clause_parts}

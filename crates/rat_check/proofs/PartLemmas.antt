@@ -7,7 +7,7 @@ use Rattle.std.proofs.lemmas.List.Folds.{list_any-append}
 use Rattle.std.proofs.Math.Bool.{or-false}
 use Rattle.std.proofs.Math.Seq.{take-append_seam}
 use Rattle.ground.specs.declared.place.Place.{Place}
-use Rattle.rat_tree.specs.Commands.{Command, Commands, NoCommand, AndCommand}
+use Rattle.rat_tree.specs.Syntax.{Command, Commands, NoCommand, AndCommand}
 use Rattle.rat_tree.specs.Views.{labelled}
 use Rattle.rat_check.specs.Parts.{Labels, with_label, target_of, with_labels, Part, parts_of, parts_in}
 use Rattle.rat_check.specs.Survey.{is_among, adding_if, adding_all, Survey, noting, noting_all, reaching}

@@ -7,7 +7,7 @@ use Rattle.ground.specs.declared.fault.Fault.{Fault}
 use Rattle.ground.specs.declared.place.Place.{Place}
 use Rattle.rule_table.specs.FaultRules.{first_rule, lesser}
 use Rattle.rule_table.proofs.LesserLemmas.{first_either, lesser-assoc}
-use Rattle.f66_tree.specs.Forms.{Header, MainUnit, Act}
+use Rattle.f66_tree.specs.Syntax.{Header, MainUnit, Act}
 use Rattle.f66_tree.specs.Units.{Context}
 use Rattle.f66_tree.specs.Views.{header_of}
 use Rattle.f66_names.specs.declared.declarations.Declarations.{Declarations}
@@ -19,11 +19,11 @@ use Rattle.f66_names.specs.DeclarationViews.{context_in, acts_in}
 use Rattle.f66_names.specs.Rules.{breaks_name}
 use Rattle.rat_check.specs.declared.parts.Part as memory
 use Rattle.rat_check.specs.Parts.{Labels, no_label, Part}
-use Rattle.rat_check.specs.Said.{said_by, said_in, context_of}
-use Rattle.rat_check.specs.Rules.{Before, nothing_before, behind, Whole, break_names, broken_rule}
-use Rattle.rat_check.specs.FirstFault.{fault_at, or_else, fault_if, unbuilt_at, first_unbuilt, format_label, with_formats, first_broken, whole_of, fault_of_parts}
+use Rattle.rat_check.specs.Said.{said_by, said_in, context_of_parts}
+use Rattle.rat_check.specs.Rules.{Before, nothing_before, behind, UnitRules, break_names, broken_rule}
+use Rattle.rat_check.specs.FirstFault.{fault_at, or_else, fault_if, unbuilt_at, first_unbuilt_part, format_label, with_formats, first_broken, unit_whole, fault_of_parts}
 use Rattle.rat_check.specs.FormViews.{form_of}
-use Rattle.rat_check.specs.PartViews.{part_of, parts_seen, whole_in}
+use Rattle.rat_check.specs.PartViews.{part_of, parts_seen, whole_by}
 use Rattle.rat_check.specs.Survey.{is_among, adding_if}
 use Rattle.rat_check.proofs.PartLemmas.{among_adding_if}
 
@@ -44,10 +44,10 @@ pub format_passed : (v : Part) (rest : List Part) (fs gs : List ℕ) → gs ≡ 
 format_passed v rest fs gs next = ap (λ ls. with_formats rest (is_among ls)) next ∙ ap (with_formats rest) (among_adding_if (format_label v.label v.form) fs)
 
 -- a part that breaks no rule, and one that breaks one
-pub rule_passed : (u : Whole) (b c : Before) (v : Part) (rest : List Part) → None ≡ broken_rule u b v → c ≡ behind b v → first_broken u c rest ≡ first_broken u b (v ∷ rest)
+pub rule_passed : (u : UnitRules) (b c : Before) (v : Part) (rest : List Part) → None ≡ broken_rule u b v → c ≡ behind b v → first_broken u c rest ≡ first_broken u b (v ∷ rest)
 rule_passed u b c v rest fine next = ap (λ d. first_broken u d rest) next ∙ ap (λ o. or_else (fault_if v.place o) (first_broken u (behind b v) rest)) fine
 
-pub rule_broken : (u : Whole) (b : Before) (v : Part) (rest : List Part) (kind : FaultKind) (f : Fault) → Some kind ≡ broken_rule u b v → f ≡ fault_at v.place kind → first_broken u b (v ∷ rest) ≡ Some f
+pub rule_broken : (u : UnitRules) (b : Before) (v : Part) (rest : List Part) (kind : FaultKind) (f : Fault) → Some kind ≡ broken_rule u b v → f ≡ fault_at v.place kind → first_broken u b (v ∷ rest) ≡ Some f
 rule_broken u b v rest kind f told is = ap (λ o. or_else (fault_if v.place o) (first_broken u (behind b v) rest)) (sym told) ∙ ap Some (sym is)
 
 -- one saying more, whose rule is taken together with those before
@@ -73,24 +73,24 @@ rules_on c said n sayings i s broken rule lt is told =
     ∙ rules_passed c said (n + i) (act_said s) rest broken rule told
     ∙ ap (λ more. lesser broken (first_rule (break_names c said (n + i) more))) (sym (next_saying sayings i s lt is))
 
-abbrev whole : Header → List Act → Labels → Whole
+abbrev whole : Header → List Act → Labels → UnitRules
 whole h more formats = record { context = context_by h more; said = more; formats = formats }
 
-pub context_told : (vs : List Part) (d : Declarations) → header_of d.header.now ≡ MainUnit → acts_in d ≡ said_in vs → context_in d ≡ context_of vs
+pub context_told : (vs : List Part) (d : Declarations) → header_of d.header.now ≡ MainUnit → acts_in d ≡ said_in vs → context_in d ≡ context_of_parts vs
 context_told vs d main said = ap (λ h. context_by h (acts_in d)) main ∙ ap (context_by MainUnit) said
 
 -- what the tables know of a unit is what the rules ask
 pub whole_told : (vs : List Part) (names : Names) (formats : List ℕ) → header_of names.declarations.header.now ≡ MainUnit → acts_in names.declarations ≡ said_in vs →
-    is_among formats ≡ with_formats vs no_label → whole_in names formats ≡ whole_of vs
+    is_among formats ≡ with_formats vs no_label → whole_by names formats ≡ unit_whole vs
 whole_told vs names formats main said has =
     ap (λ h. whole h (acts_in names.declarations) (is_among formats)) main ∙ ap (λ more. whole MainUnit more (is_among formats)) said ∙ ap (whole MainUnit (said_in vs)) has
 
-pub unbuilt_told : (vs : List Part) (c : Context) (place : Place) (f : Fault) → c ≡ context_of vs → Some place ≡ first_unbuilt c vs → f ≡ fault_at place Unbuilt → fault_of_parts vs ≡ Some f
+pub unbuilt_told : (vs : List Part) (c : Context) (place : Place) (f : Fault) → c ≡ context_of_parts vs → Some place ≡ first_unbuilt_part c vs → f ≡ fault_at place Unbuilt → fault_of_parts vs ≡ Some f
 unbuilt_told vs c place f same found is =
-    ap (λ o. or_else (unbuilt_at o) (first_broken (whole_of vs) nothing_before vs)) (sym (found ∙ ap (λ d. first_unbuilt d vs) same)) ∙ ap Some (sym is)
+    ap (λ o. or_else (unbuilt_at o) (first_broken (unit_whole vs) nothing_before vs)) (sym (found ∙ ap (λ d. first_unbuilt_part d vs) same)) ∙ ap Some (sym is)
 
 -- of a unit whose parts are built the rules tell the first fault
-pub rules_told : (vs : List Part) (u : Whole) → u ≡ whole_of vs → None ≡ first_unbuilt u.context vs → first_broken u nothing_before vs ≡ fault_of_parts vs
+pub rules_told : (vs : List Part) (u : UnitRules) → u ≡ unit_whole vs → None ≡ first_unbuilt_part u.context vs → first_broken u nothing_before vs ≡ fault_of_parts vs
 rules_told vs u same built =
     ap (λ w. first_broken w nothing_before vs) same
-    ∙ ap (λ o. or_else (unbuilt_at o) (first_broken (whole_of vs) nothing_before vs)) (built ∙ ap (λ w. first_unbuilt w.context vs) same)
+    ∙ ap (λ o. or_else (unbuilt_at o) (first_broken (unit_whole vs) nothing_before vs)) (built ∙ ap (λ w. first_unbuilt_part w.context vs) same)

@@ -6,13 +6,13 @@ use Rattle.std.proofs.lemmas.Bool.{or_parts}
 use Rattle.std.proofs.lemmas.List.Folds.{list_all-append}
 use Rattle.ground.specs.declared.fault.FaultKind.{FaultKind}
 use Rattle.rule_table.specs.Words.{is_some_and}
-use Rattle.f66_tree.specs.Forms.{Act}
+use Rattle.f66_tree.specs.Syntax.{Act}
 use Rattle.f66_tree.specs.Units.{Context}
 use Rattle.f66_names.specs.BuiltActs.{is_built}
 use Rattle.f66_names.specs.Rules.{breaks_name}
 use Rattle.rat_check.specs.Parts.{Part}
 use Rattle.rat_check.specs.Said.{said_by, said_in}
-use Rattle.rat_check.specs.Rules.{is_ratfor, Before, behind, Whole, break_names}
+use Rattle.rat_check.specs.Rules.{is_ratfor, Before, behind, UnitRules, break_names}
 use Rattle.rat_check.proofs.CleanLemmas.{and_true, AllKeep}
 
 -- ---- the rules ----
@@ -33,7 +33,7 @@ both_clean c said n (x ∷ xs) ys h more =
     let e : n + suc (length xs) ≡ n + 1 + length xs = omega arith in
     (h.0, both_clean c said (n + 1) xs ys h.1 (subst (λ m. AllClean c said m ys) e more))
 
-pub said_clean : (u : Whole) (b : Before) (vs : List Part) → AllKeep u b vs → AllClean u.context u.said b.said (said_in vs)
+pub said_clean : (u : UnitRules) (b : Before) (vs : List Part) → AllKeep u b vs → AllClean u.context u.said b.said (said_in vs)
 said_clean u b [] h = tt
 said_clean u b (v ∷ vs) h =
     both_clean u.context u.said b.said (said_by v.form) (said_in vs) (none_broken u.context u.said b.said (said_by v.form) h.1.named) (said_clean u (behind b v) vs h.2)
@@ -52,7 +52,7 @@ clean_at c said n (x ∷ xs) (suc i) a k h e =
 both_true : (a b : Bool) → a ≡ true → b ≡ true → (a && b) ≡ true
 both_true a b e f = ap (λ v. v && b) e ∙ f
 
-pub said_built : (u : Whole) (b : Before) (vs : List Part) → AllKeep u b vs → list_all (is_built u.context) (said_in vs) ≡ true
+pub said_built : (u : UnitRules) (b : Before) (vs : List Part) → AllKeep u b vs → list_all (is_built u.context) (said_in vs) ≡ true
 said_built u b [] h = refl
 said_built u b (v ∷ vs) h =
     list_all-append (is_built u.context) (said_by v.form) (said_in vs)

@@ -1,7 +1,7 @@
 -- What a walk has seen after a list of parts, and the labels of the parts.
 use Rattle.std.proofs.Common.{◌≡◌, ℕ, List, [], ◌∷◌, ◌++◌, refl, ap, ◌∙◌, sym}
 use Rattle.std.proofs.lemmas.List.{append-nil, append_assoc}
-use Rattle.rat_tree.specs.Commands.{Commands}
+use Rattle.rat_tree.specs.Syntax.{Commands}
 use Rattle.rat_check.specs.Parts.{no_label, Part, with_labels, parts_in, unit_parts}
 use Rattle.rat_check.specs.FirstFault.{with_own}
 use Rattle.rat_check.specs.Survey.{is_among, adding_if, own_labels, Survey, starting, noting, noting_all}

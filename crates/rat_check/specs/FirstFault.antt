@@ -8,12 +8,12 @@ use Rattle.ground.specs.declared.fault.FaultKind.TheVariants.{Unbuilt}
 use Rattle.rule_table.specs.FaultRules.{limit_of}
 use Rattle.ground.specs.declared.fault.Refusal.{Refusal}
 use Rattle.ground.specs.declared.fault.Refusal.TheVariants.{Fault as Faulty, Memory}
-use Rattle.f66_tree.specs.Forms.{Formats}
+use Rattle.f66_tree.specs.Syntax.{Format}
 use Rattle.f66_tree.specs.Units.{Context, is_main}
-use Rattle.rat_tree.specs.Commands.{RatRoutine, RatProgram}
-use Rattle.rat_check.specs.Parts.{Form, Says, Labels, no_label, with_label, Part, unit_parts}
-use Rattle.rat_check.specs.Said.{said_in, context_of}
-use Rattle.rat_check.specs.Rules.{is_built_form, Before, nothing_before, behind, Whole, broken_rule}
+use Rattle.rat_tree.specs.Syntax.{RatRoutine, RatProgram}
+use Rattle.rat_check.specs.Parts.{Form, Statement, Labels, no_label, with_label, Part, unit_parts}
+use Rattle.rat_check.specs.Said.{said_in, context_of_parts}
+use Rattle.rat_check.specs.Rules.{is_built_form, Before, nothing_before, behind, UnitRules, broken_rule}
 
 abbrev pub fault_at : Place → FaultKind → Fault
 fault_at p kind = record { kind = kind; place = p; number = limit_of kind }
@@ -23,14 +23,14 @@ or_else None o = o
 or_else (Some a) o = Some a
 
 -- the first part that isn't built
-abbrev pub first_unbuilt : Context → List Part → Option Place
-first_unbuilt c [] = None
-first_unbuilt c (v ∷ vs) = if is_built_form c v.form then first_unbuilt c vs else Some v.place
+abbrev pub first_unbuilt_part : Context → List Part → Option Place
+first_unbuilt_part c [] = None
+first_unbuilt_part c (v ∷ vs) = if is_built_form c v.form then first_unbuilt_part c vs else Some v.place
 
 -- the label of a format
 abbrev pub format_label : Option ℕ → Form → Option ℕ
 format_label None form = None
-format_label (Some l) (Says (Formats f)) = Some l
+format_label (Some l) (Statement (Format f)) = Some l
 format_label (Some l) _ = None
 
 -- these labels, and those of the formats
@@ -48,20 +48,20 @@ with_own [] ls = ls
 with_own (v ∷ vs) ls = with_own vs (with_label v.label ls)
 
 -- the first part that breaks a rule
-abbrev pub first_broken : Whole → Before → List Part → Option Fault
+abbrev pub first_broken : UnitRules → Before → List Part → Option Fault
 first_broken u b [] = None
 first_broken u b (v ∷ vs) = or_else (fault_if v.place (broken_rule u b v)) (first_broken u (behind b v) vs)
 
 -- a unit of these parts
-abbrev pub whole_of : List Part → Whole
-whole_of vs = record { context = context_of vs; said = said_in vs; formats = with_formats vs no_label }
+abbrev pub unit_whole : List Part → UnitRules
+unit_whole vs = record { context = context_of_parts vs; said = said_in vs; formats = with_formats vs no_label }
 
 abbrev pub unbuilt_at : Option Place → Option Fault
 unbuilt_at None = None
 unbuilt_at (Some p) = Some (fault_at p Unbuilt)
 
 abbrev pub fault_of_parts : List Part → Option Fault
-fault_of_parts vs = or_else (unbuilt_at (first_unbuilt (context_of vs) vs)) (first_broken (whole_of vs) nothing_before vs)
+fault_of_parts vs = or_else (unbuilt_at (first_unbuilt_part (context_of_parts vs) vs)) (first_broken (unit_whole vs) nothing_before vs)
 
 -- a unit with a header isn't built
 abbrev pub unit_fault : RatRoutine → Option Fault

@@ -12,19 +12,19 @@ use Rattle.rat_check.specs.declared.forms.Form.TheVariants as f
 use Rattle.rat_check.specs.declared.forms.Around.{Around}
 use Rattle.rat_check.specs.declared.forms.Around.TheVariants.{Outside, Inside'}
 use Rattle.rat_check.specs.Parts as parts
-use Rattle.rat_check.specs.Parts.{Labels, Part, part, parts_of, parts_in, with_labels, Rests, Repeating, Says, Asks, Takes, Compares, Prepares, Counting, Leaving, Returning}
+use Rattle.rat_check.specs.Parts.{Labels, Part, part, parts_of, parts_in, with_labels, Bare, RepeatHead, Statement, Condition, Selector, CaseList, ForHead, DoHead, LoopExit, ReturnHead}
 
 abbrev pub form_of : Form → parts.Form
-form_of f.Rests = Rests
-form_of f.Repeating = Repeating
-form_of (f.Says a) = Says (act_of a.now)
-form_of (f.Asks e) = Asks (formula_of e.now)
-form_of (f.Takes e) = Takes (formula_of e.now)
-form_of (f.Compares es second) = Compares (formulas_of es.now) second
-form_of (f.Prepares a e b) = Prepares (act_if_any a.now) (formula_if_any e.now) (act_if_any b.now)
-form_of (f.Counting x a b c) = Counting x.now (par_of a.now) (par_of b.now) (par_of c.now)
-form_of (f.Leaving n) = Leaving n
-form_of f.Returning = Returning
+form_of f.Bare = Bare
+form_of f.RepeatHead = RepeatHead
+form_of (f.Statement a) = Statement (act_of a.now)
+form_of (f.Condition e) = Condition (formula_of e.now)
+form_of (f.Selector e) = Selector (formula_of e.now)
+form_of (f.CaseList es second) = CaseList (formulas_of es.now) second
+form_of (f.ForHead a e b) = ForHead (act_if_any a.now) (formula_if_any e.now) (act_if_any b.now)
+form_of (f.DoHead x a b c) = DoHead x.now (par_of a.now) (par_of b.now) (par_of c.now)
+form_of (f.LoopExit n) = LoopExit n
+form_of f.ReturnHead = ReturnHead
 
 abbrev pub depth_of : Around → ℕ
 depth_of Outside = zero
@@ -37,10 +37,10 @@ other_parts k r (Some other) = parts_of k r None (command other.value)
 
 abbrev pub until_parts : ℕ → Labels → Option (Expr × Place) → List Part
 until_parts k r None = []
-until_parts k r (Some u) = part k r None u.1 (Asks (formula_of u.0)) ∷ []
+until_parts k r (Some u) = part k r None u.1 (Condition (formula_of u.0)) ∷ []
 
 -- the parts of a clause, and whether it is a second default
 abbrev pub case_parts : ℕ → Labels → Bool → RatCase → List Part
 case_parts k r second c =
-    part k r None (out-RatCase c).place (Compares (formulas_of (out-RatCase c).tests.items) second)
+    part k r None (out-RatCase c).place (CaseList (formulas_of (out-RatCase c).tests.items) second)
     ∷ parts_in k (with_labels (commands (out-RatCase c).body.items) r) (commands (out-RatCase c).body.items)

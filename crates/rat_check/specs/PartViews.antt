@@ -6,7 +6,7 @@ use Rattle.rat_check.specs.declared.parts.Part as memory
 use Rattle.rat_check.specs.declared.survey.Survey as walks
 use Rattle.rat_check.specs.declared.before.Before as fronts
 use Rattle.rat_check.specs.Parts.{Part}
-use Rattle.rat_check.specs.Rules.{Before, Whole}
+use Rattle.rat_check.specs.Rules.{Before, UnitRules}
 use Rattle.rat_check.specs.FormViews.{form_of}
 use Rattle.rat_check.specs.Survey.{is_among, Survey}
 
@@ -22,5 +22,5 @@ survey_of s = record { reach = s.reach; parts = parts_seen s.parts.items }
 abbrev pub before_of : fronts.Before → Before
 before_of b = record { labels = is_among b.labels; begun = b.begun; said = b.said }
 
-abbrev pub whole_in : Names → List ℕ → Whole
-whole_in names formats = record { context = context_in names.declarations; said = acts_in names.declarations; formats = is_among formats }
+abbrev pub whole_by : Names → List ℕ → UnitRules
+whole_by names formats = record { context = context_in names.declarations; said = acts_in names.declarations; formats = is_among formats }

@@ -5,33 +5,33 @@ use Rattle.std.specs.List.{list_all}
 use Rattle.ground.specs.declared.fault.FaultKind.{FaultKind}
 use Rattle.ground.specs.declared.fault.FaultKind.TheVariants.{Syntax, BadLabel, BadBreak, DuplicateCase}
 use Rattle.rule_table.specs.FaultRules.{first_rule}
-use Rattle.f66_tree.specs.Forms.{Act, Assigns, Signs, Chooses, Loops, Reads, Writes}
+use Rattle.f66_tree.specs.Syntax.{Act, Assign, Sign, When, Loop, Read, Write}
 use Rattle.f66_tree.specs.Units.{Context}
 use Rattle.f66_names.specs.BuiltActs.{is_built}
 use Rattle.f66_names.specs.Rules.{breaks_name}
 use Rattle.f66_flow.specs.Acts.{is_specification, is_format}
-use Rattle.rat_check.specs.Parts.{Form, Rests, Says, Compares, Prepares, Returning, Labels, no_label, with_label, Part}
+use Rattle.rat_check.specs.Parts.{Form, Bare, Statement, CaseList, ForHead, ReturnHead, Labels, no_label, with_label, Part}
 use Rattle.rat_check.specs.Said.{said_by}
 
 -- ---- what is built ----
 
 -- a plain statement of Ratfor: neither an IF nor a DO of FORTRAN
 abbrev pub is_plain : Act → Bool
-is_plain (Signs e l m n) = false
-is_plain (Chooses e a) = false
-is_plain (Loops l x a b c) = false
+is_plain (Sign e l m n) = false
+is_plain (When e a) = false
+is_plain (Loop l x a b c) = false
 is_plain _ = true
 
 -- an assignment or nothing
 abbrev pub is_simple : Option Act → Bool
 is_simple None = true
-is_simple (Some (Assigns x e)) = true
+is_simple (Some (Assign x e)) = true
 is_simple (Some _) = false
 
 abbrev pub is_ratfor : Form → Bool
-is_ratfor (Says a) = is_plain a
-is_ratfor (Prepares a e b) = is_simple a && is_simple b
-is_ratfor Returning = false
+is_ratfor (Statement a) = is_plain a
+is_ratfor (ForHead a e b) = is_simple a && is_simple b
+is_ratfor ReturnHead = false
 is_ratfor _ = true
 
 abbrev pub is_built_form : Context → Form → Bool
@@ -51,9 +51,9 @@ nothing_before = record { labels = no_label; begun = false; said = 0 }
 -- Behind which no specification comes: each statement but specifications and FORMAT, and an empty statement or a brace
 -- where it has a label.
 abbrev pub begins : Option ℕ → Form → Bool
-begins None Rests = false
-begins (Some l) Rests = true
-begins l (Says a) = not (is_specification a || is_format a)
+begins None Bare = false
+begins (Some l) Bare = true
+begins l (Statement a) = not (is_specification a || is_format a)
 begins l _ = true
 
 abbrev pub behind : Before → Part → Before
@@ -62,15 +62,15 @@ behind b v = record { labels = with_label v.label b.labels; begun = b.begun || b
 -- ---- the rules ----
 
 -- what the rules ask of a unit as a whole: what its names mean, all that it says of names, and the labels of its formats
-pub record Whole : Type 0 where
+pub record UnitRules : Type 0 where
   pub context : Context
   pub said : List Act
   pub formats : Labels
 
 -- a specification behind an executable statement
-abbrev pub is_late : Bool → Form → Bool
-is_late begun (Says a) = is_specification a && begun
-is_late begun _ = false
+abbrev pub is_late_form : Bool → Form → Bool
+is_late_form begun (Statement a) = is_specification a && begun
+is_late_form begun _ = false
 
 -- a label is one to 99999, and no part before has it
 abbrev pub is_own_label : Labels → Option ℕ → Bool
@@ -79,17 +79,17 @@ is_own_label before (Some l) = (nat_le 1 l && nat_le l 99999) && not (before l)
 
 -- a jump reaches its labels, and a READ or WRITE has a format
 abbrev pub finds_labels : Labels → Bool → Form → Bool
-finds_labels formats reached (Says (Reads u l es)) = formats l
-finds_labels formats reached (Says (Writes u l es)) = formats l
+finds_labels formats reached (Statement (Read u l es)) = formats l
+finds_labels formats reached (Statement (Write u l es)) = formats l
 finds_labels formats reached _ = reached
 
 abbrev pub is_second_default : Form → Bool
-is_second_default (Compares es second) = second
+is_second_default (CaseList es second) = second
 is_second_default _ = false
 
 -- the rules of Ratfor itself, one row for each fault
 abbrev pub breaks_own : Labels → Before → Part → FaultKind → Bool
-breaks_own formats b v Syntax = is_late b.begun v.form
+breaks_own formats b v Syntax = is_late_form b.begun v.form
 breaks_own formats b v BadLabel = not (is_own_label b.labels v.label && finds_labels formats v.reached v.form)
 breaks_own formats b v BadBreak = not v.inside
 breaks_own formats b v DuplicateCase = is_second_default v.form
@@ -100,9 +100,9 @@ abbrev pub break_names : Context → List Act → ℕ → List Act → FaultKind
 break_names c said n [] k = false
 break_names c said n (a ∷ more) k = breaks_name c said n a k || break_names c said (n + 1) more k
 
-abbrev pub breaks : Whole → Before → Part → FaultKind → Bool
+abbrev pub breaks : UnitRules → Before → Part → FaultKind → Bool
 breaks u b v k = breaks_own u.formats b v k || break_names u.context u.said b.said (said_by v.form) k
 
 -- of the rules that a part breaks, that with the smallest number
-abbrev pub broken_rule : Whole → Before → Part → Option FaultKind
+abbrev pub broken_rule : UnitRules → Before → Part → Option FaultKind
 broken_rule u b v = first_rule (breaks u b v)

@@ -1,7 +1,7 @@
 -- What a walk over a unit's parts has seen so far.
 use Rattle.std.specs.Prelude.{ℕ, nat_eq, List, [], ◌∷◌, ◌++◌, Option, Some, None, fold, if◌then◌else◌}
 use Rattle.std.specs.List.{list_any}
-use Rattle.rat_tree.specs.Commands.{Commands, NoCommand, AndCommand}
+use Rattle.rat_tree.specs.Syntax.{Commands, NoCommand, AndCommand}
 use Rattle.rat_check.specs.Parts.{Labels, target_of, Part}
 
 -- a set of labels by the list of its members

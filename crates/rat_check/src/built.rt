@@ -7,7 +7,7 @@ ghost use Rattle.f66_names.specs.ActViews.{acts_of};
 ghost use Rattle.f66_names.specs.BuiltActs.{is_built as is_built_act};
 ghost use Rattle.f66_names.specs.DeclarationViews.{context_in};
 ghost use Rattle.rat_check.specs.Rules.{is_plain, is_simple, is_ratfor, is_built_form};
-ghost use Rattle.rat_check.specs.FirstFault.{first_unbuilt as unbuilt_part};
+ghost use Rattle.rat_check.specs.FirstFault.{first_unbuilt_part as unbuilt_part};
 ghost use Rattle.rat_check.specs.FormViews.{form_of};
 ghost use Rattle.rat_check.specs.PartViews.{part_of, parts_seen};
 
@@ -57,9 +57,9 @@ fn is_ratfor(form: Form) -> bool
     ensures { result ≡ is_ratfor (form_of form.entry) }
 {
     match form {
-        Form::Says(kind) => is_plain(kind),
-        Form::Prepares(first, _, step) => is_simple(first) && is_simple(step),
-        Form::Returning => false,
+        Form::Statement(kind) => is_plain(kind),
+        Form::ForHead(first, _, step) => is_simple(first) && is_simple(step),
+        Form::ReturnHead => false,
         _ => true,
     }
 }

@@ -11,22 +11,22 @@ use f66_tree::{Expr, Name, Par, StmtKind};
 #[derive(Clone, Copy, Drop)]
 pub enum Form<'a> {
     /// A sign alone.
-    Rests,
+    Bare,
     /// The word `repeat`.
-    Repeating,
-    Says(&'a StmtKind),
-    Asks(&'a Expr),
+    RepeatHead,
+    Statement(&'a StmtKind),
+    Condition(&'a Expr),
     /// The value of a switch.
-    Takes(&'a Expr),
+    Selector(&'a Expr),
     /// The case expressions of a clause, and whether it is a second default.
-    Compares(&'a [Expr], bool),
+    CaseList(&'a [Expr], bool),
     /// The parts of a `for`.
-    Prepares(&'a Option<StmtKind>, &'a Option<Expr>, &'a Option<StmtKind>),
+    ForHead(&'a Option<StmtKind>, &'a Option<Expr>, &'a Option<StmtKind>),
     /// The variable and the parameters of a `do`.
-    Counting(&'a Name, &'a Par, &'a Par, &'a Par),
+    DoHead(&'a Name, &'a Par, &'a Par, &'a Par),
     /// `break` and `next`.
-    Leaving(u32),
-    Returning,
+    LoopExit(u32),
+    ReturnHead,
 }
 
 /// The loops around a part.
@@ -55,7 +55,7 @@ impl Form<'_> {
         ensures { result ≡ finds_loop (depth_of around.now) (form_of self.entry) }
     {
         match self {
-            Form::Leaving(count) => 1 <= count && has_loops(around, count),
+            Form::LoopExit(count) => 1 <= count && has_loops(around, count),
             _ => true,
         }
     }
@@ -64,7 +64,7 @@ impl Form<'_> {
         ensures { result ≡ is_second_default (form_of self.entry) }
     {
         match self {
-            Form::Compares(_, second) => second,
+            Form::CaseList(_, second) => second,
             _ => false,
         }
     }
@@ -74,8 +74,8 @@ impl Form<'_> {
         ensures { result ≡ begins label (form_of self.entry) }
     {
         match self {
-            Form::Rests => label.is_some(),
-            Form::Says(kind) => !(is_specification(kind) || is_format(kind)),
+            Form::Bare => label.is_some(),
+            Form::Statement(kind) => !(is_specification(kind) || is_format(kind)),
             _ => true,
         }
     }

@@ -3,10 +3,10 @@ ghost use Rattle.std.specs.Prelude.{◌≡◌, ◌+◌, ◌<◌, ◌^◌, length
 ghost use Rattle.rule_table.specs.FaultRules.{first_rule};
 ghost use Rattle.f66_names.specs.ActViews.{acts_of};
 ghost use Rattle.f66_names.specs.DeclarationViews.{context_in, acts_in};
-ghost use Rattle.rat_check.specs.Rules.{is_late, is_own_label, finds_labels, breaks_own, break_names, broken_rule as rule_broken};
+ghost use Rattle.rat_check.specs.Rules.{is_late_form, is_own_label, finds_labels, breaks_own, break_names, broken_rule as rule_broken};
 ghost use Rattle.rat_check.specs.Said.{said_by};
 ghost use Rattle.rat_check.specs.FormViews.{form_of};
-ghost use Rattle.rat_check.specs.PartViews.{part_of, before_of, whole_in};
+ghost use Rattle.rat_check.specs.PartViews.{part_of, before_of, whole_by};
 ghost use Rattle.rat_check.specs.Survey.{is_among};
 
 use crate::{Before, Form, LabelSet, Part};
@@ -28,7 +28,7 @@ pub fn broken_rule(
 ) -> Result<Option<FaultKind>, AllocError>
     requires said { acts_of sayings.now ≡ said_by (form_of part.now.form) }
     requires within { before.now.said + length sayings.now < 2 ^ 64 }
-    ensures { IfOk result (λ o. o ≡ rule_broken (whole_in names.now formats.now) (before_of before.now) (part_of part.now)) }
+    ensures { IfOk result (λ o. o ≡ rule_broken (whole_by names.now formats.now) (before_of before.now) (part_of part.now)) }
 {
     let own = own_rule(formats, before, part);
     let by_names = names_rule(alloc, names, before.said, sayings)?;
@@ -77,10 +77,10 @@ fn names_rule(
 
 /// Whether it is a specification behind an executable statement.
 fn is_late(begun: bool, form: Form) -> bool
-    ensures { result ≡ is_late begun (form_of form.entry) }
+    ensures { result ≡ is_late_form begun (form_of form.entry) }
 {
     match form {
-        Form::Says(kind) => is_specification(kind) && begun,
+        Form::Statement(kind) => is_specification(kind) && begun,
         _ => false,
     }
 }
@@ -98,8 +98,8 @@ fn finds_labels(formats: &LabelSet, reached: bool, form: Form) -> bool
     ensures { result ≡ finds_labels (is_among formats.now) reached (form_of form.entry) }
 {
     match form {
-        Form::Says(StmtKind::Read(_, label, _)) => formats.contains(*label),
-        Form::Says(StmtKind::Write(_, label, _)) => formats.contains(*label),
+        Form::Statement(StmtKind::Read(_, label, _)) => formats.contains(*label),
+        Form::Statement(StmtKind::Write(_, label, _)) => formats.contains(*label),
         _ => reached,
     }
 }

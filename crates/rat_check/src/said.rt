@@ -3,7 +3,7 @@ ghost use Rattle.std.specs.Prelude.{◌≡◌, ◌++◌, ◌∷◌, [], IfOk, On
 ghost use Rattle.f66_tree.specs.Views.{formula_of, formulas_of, act_of};
 ghost use Rattle.rat_tree.specs.Views.{act_if_any, formula_if_any};
 ghost use Rattle.f66_names.specs.ActViews.{act_said, acts_of};
-ghost use Rattle.rat_check.specs.Said.{said_by, values, condition_if_any, act_if_any as said_if_any};
+ghost use Rattle.rat_check.specs.Said.{said_by, value_acts, condition_if_any, said_if_any};
 ghost use Rattle.rat_check.specs.FormViews.{form_of};
 
 use crate::Form;
@@ -25,17 +25,17 @@ pub fn add_form<'a>(form: Form<'a>, sayings: &mut Vec<Saying<'a>>) -> Result<(),
     ensures { OnOk result (acts_of sayings.new.items ≡ acts_of sayings.old.items ++ said_by (form_of form.entry)) }
 {
     match form {
-        Form::Rests | Form::Repeating | Form::Leaving(_) | Form::Returning => Ok(()),
-        Form::Says(kind) => add(Saying::Act(kind), sayings),
-        Form::Asks(e) => add(Saying::Condition(e), sayings),
-        Form::Takes(e) => add(Saying::Value(e), sayings),
-        Form::Compares(list, _) => add_values(list, sayings),
-        Form::Prepares(first, e, step) => {
+        Form::Bare | Form::RepeatHead | Form::LoopExit(_) | Form::ReturnHead => Ok(()),
+        Form::Statement(kind) => add(Saying::Act(kind), sayings),
+        Form::Condition(e) => add(Saying::Condition(e), sayings),
+        Form::Selector(e) => add(Saying::Value(e), sayings),
+        Form::CaseList(list, _) => add_values(list, sayings),
+        Form::ForHead(first, e, step) => {
             add_act(first, sayings)?;
             add_condition(e, sayings)?;
             add_act(step, sayings)
         }
-        Form::Counting(name, first, last, step) => {
+        Form::DoHead(name, first, last, step) => {
             add(Saying::Counting(name, first, last, step), sayings)
         }
     }
@@ -49,7 +49,7 @@ fn add<'a>(saying: Saying<'a>, sayings: &mut Vec<Saying<'a>>) -> Result<(), Allo
 }
 
 fn add_values<'a>(list: &'a [Expr], sayings: &mut Vec<Saying<'a>>) -> Result<(), AllocError>
-    ensures { OnOk result (acts_of sayings.new.items ≡ acts_of sayings.old.items ++ values (formulas_of list.now)) }
+    ensures { OnOk result (acts_of sayings.new.items ≡ acts_of sayings.old.items ++ value_acts (formulas_of list.now)) }
 {
     for e in list {
         sayings.push(Saying::Value(e))?;

@@ -74,8 +74,8 @@ impl<'a> Survey<'a> {
         ensures { result ≡ reaches (is_among self.now.reach) (form_of form.entry) }
     {
         match form {
-            Form::Says(StmtKind::Goto(label)) => self.reach.contains(*label),
-            Form::Says(StmtKind::Computed(labels, _)) => self.reaches_all(labels),
+            Form::Statement(StmtKind::Goto(label)) => self.reach.contains(*label),
+            Form::Statement(StmtKind::Computed(labels, _)) => self.reaches_all(labels),
             _ => true,
         }
     }

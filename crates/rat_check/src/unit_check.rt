@@ -1,6 +1,6 @@
 // The check of a unit.
 ghost use Rattle.std.specs.Prelude.{◌≡◌, [], IfOk, OnOk};
-ghost use Rattle.rat_tree.specs.Views.{commands, routine_of};
+ghost use Rattle.rat_tree.specs.Views.{commands, rat_routine_of};
 ghost use Rattle.f66_names.specs.ActViews.{acts_of};
 ghost use Rattle.f66_names.specs.DeclarationViews.{acts_in};
 ghost use Rattle.rat_check.specs.Parts.{unit_parts, no_label};
@@ -8,7 +8,7 @@ ghost use Rattle.rat_check.specs.Said.{said_in};
 ghost use Rattle.rat_check.specs.Rules.{nothing_before};
 ghost use Rattle.rat_check.specs.FirstFault.{Tells, fault_at as fault_of, format_label as label_of_format, with_formats, first_broken, fault_of_parts, unit_fault};
 ghost use Rattle.rat_check.specs.FormViews.{form_of};
-ghost use Rattle.rat_check.specs.PartViews.{parts_seen, whole_in};
+ghost use Rattle.rat_check.specs.PartViews.{parts_seen, whole_by};
 ghost use Rattle.rat_check.specs.Survey.{is_among, adding_if, own_labels};
 
 use crate::{
@@ -24,7 +24,7 @@ use std::alloc::{AllocError, Global};
 
 /// Checks a unit, and gives the labels of its statements, each once. Faults 9 to 18, 26, 27, 30 and 31.
 pub fn check(alloc: Global, unit: &RatUnit) -> Result<List<u32>, Refusal>
-    ensures fault { Tells result (unit_fault (routine_of unit.now)) }
+    ensures fault { Tells result (unit_fault (rat_routine_of unit.now)) }
     ensures labels { IfOk result (λ labels. labels.items ≡ own_labels (unit_parts (commands unit.now.body.items)) []) }
 {
     match unit.header {
@@ -105,7 +105,7 @@ fn add_format(part: &Part, formats: &mut LabelSet) -> Result<(), AllocError>
         return Ok(());
     };
     match part.form {
-        Form::Says(StmtKind::Format(_)) => formats.insert(label),
+        Form::Statement(StmtKind::Format(_)) => formats.insert(label),
         _ => Ok(()),
     }
 }
@@ -118,7 +118,7 @@ fn check_parts(
     parts: &[Part],
 ) -> Result<List<u32>, Refusal>
     requires { said_in (parts_seen parts.now) ≡ acts_in names.now.declarations }
-    ensures fault { Tells result (first_broken (whole_in names.now formats.now) nothing_before (parts_seen parts.now)) }
+    ensures fault { Tells result (first_broken (whole_by names.now formats.now) nothing_before (parts_seen parts.now)) }
     ensures labels { IfOk result (λ labels. labels.items ≡ own_labels (parts_seen parts.now) []) }
 {
     let mut before = Before::new(alloc);

@@ -26,26 +26,26 @@ fn visit<'a>(
     let place = statement.place;
     let inside = Around::Inside(&*around);
     match &statement.kind {
-        RatKind::Empty => survey.note(&*around, label, place, Form::Rests),
+        RatKind::Empty => survey.note(&*around, label, place, Form::Bare),
         RatKind::Block(list) => {
-            survey.note(&*around, label, place, Form::Rests)?;
+            survey.note(&*around, label, place, Form::Bare)?;
             visit_list(list, &*around, survey)
         }
         RatKind::If(test, body, other) => {
-            survey.note(&*around, label, place, Form::Asks(test))?;
+            survey.note(&*around, label, place, Form::Condition(test))?;
             visit(body, &*around, survey)?;
             visit_other(other, &*around, survey)
         }
         RatKind::While(test, body) => {
-            survey.note(&*around, label, place, Form::Asks(test))?;
+            survey.note(&*around, label, place, Form::Condition(test))?;
             visit(body, &inside, survey)
         }
         RatKind::For(first, test, step, body) => {
-            survey.note(&*around, label, place, Form::Prepares(first, test, step))?;
+            survey.note(&*around, label, place, Form::ForHead(first, test, step))?;
             visit(body, &inside, survey)
         }
         RatKind::Repeat(body, until) => {
-            survey.note(&*around, label, place, Form::Repeating)?;
+            survey.note(&*around, label, place, Form::RepeatHead)?;
             visit(body, &inside, survey)?;
             note_until(until, &*around, survey)
         }
@@ -54,18 +54,18 @@ fn visit<'a>(
                 &*around,
                 label,
                 place,
-                Form::Counting(name, first, last, step),
+                Form::DoHead(name, first, last, step),
             )?;
             visit(body, &inside, survey)
         }
         RatKind::Switch(value, list) => {
-            survey.note(&*around, label, place, Form::Takes(value))?;
+            survey.note(&*around, label, place, Form::Selector(value))?;
             visit_clauses(list, &*around, survey)
         }
-        RatKind::Break(count) => survey.note(&*around, label, place, Form::Leaving(*count)),
-        RatKind::Next(count) => survey.note(&*around, label, place, Form::Leaving(*count)),
-        RatKind::Return(_) => survey.note(&*around, label, place, Form::Returning),
-        RatKind::Plain(kind) => survey.note(&*around, label, place, Form::Says(kind)),
+        RatKind::Break(count) => survey.note(&*around, label, place, Form::LoopExit(*count)),
+        RatKind::Next(count) => survey.note(&*around, label, place, Form::LoopExit(*count)),
+        RatKind::Return(_) => survey.note(&*around, label, place, Form::ReturnHead),
+        RatKind::Plain(kind) => survey.note(&*around, label, place, Form::Statement(kind)),
     }
 }
 
@@ -94,7 +94,7 @@ fn note_until<'a>(
 {
     match until {
         None => Ok(()),
-        Some((test, place)) => survey.note(around, None, *place, Form::Asks(test)),
+        Some((test, place)) => survey.note(around, None, *place, Form::Condition(test)),
     }
 }
 
@@ -152,7 +152,7 @@ fn visit_clause<'a>(
 ) -> Result<(), AllocError>
     ensures { OnOk result (survey_of survey.new ≡ noting_all (case_parts (depth_of around.now) (is_among survey.old.reach) second clause.now) (survey_of survey.old)) }
 {
-    let form = Form::Compares(&clause.tests, second);
+    let form = Form::CaseList(&clause.tests, second);
     survey.note(&*around, None, clause.place, form)?;
     visit_list(&clause.body, &*around, survey)
 }

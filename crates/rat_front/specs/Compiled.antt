@@ -4,10 +4,10 @@ use Rattle.ground.specs.declared.token.Token.{Token}
 use Rattle.ground.specs.declared.fault.Refusal.{Refusal}
 use Rattle.ground.specs.declared.fault.Refusal.TheVariants as whole
 use Rattle.f66_tree.specs.declared.unit.Unit.{Unit as AUnit}
-use Rattle.rat_tree.specs.Commands.{Commands}
+use Rattle.rat_tree.specs.Syntax.{Commands}
 use Rattle.rat_lower.specs.Served.{Serves}
-use Rattle.macro_define.specs.declared.refusal.GatherRefusal.{GatherRefusal}
-use Rattle.macro_define.specs.declared.refusal.GatherRefusal.TheVariants as refusals
+use Rattle.macro_define.specs.declared.refusal.TextRefusal.{TextRefusal}
+use Rattle.macro_define.specs.declared.refusal.TextRefusal.TheVariants as refusals
 use Rattle.macro_define.specs.Answers.{Known, IsOf}
 use Rattle.rat_front.specs.declared.compile.Compiled.{Compiled}
 use Rattle.rat_front.specs.Verdict.{Verdict, Refuses, Accepts, Checked, Faulty, Main, Becomes}
@@ -19,14 +19,14 @@ Finds P (Err (whole.Fault fault)) = P (Faulty fault)
 Finds P (Err whole.Memory) = ⊤
 
 -- the same of a whole text; a failed fetch says nothing either
-abbrev pub Gives : (Verdict → Type 0) → Result Compiled GatherRefusal → Type 0
-Gives P (Ok compiled) = (body : Commands) × P (Accepts compiled.files.items body) × Serves body compiled.unit
-Gives P (Err (refusals.Fault fault name)) = P (Refuses fault name)
-Gives P (Err refusals.Library) = ⊤
-Gives P (Err refusals.Memory) = ⊤
+abbrev pub IsAnswered : (Verdict → Type 0) → Result Compiled TextRefusal → Type 0
+IsAnswered P (Ok compiled) = (body : Commands) × P (Accepts compiled.files.items body) × Serves body compiled.unit
+IsAnswered P (Err (refusals.Fault fault name)) = P (Refuses fault name)
+IsAnswered P (Err refusals.Library) = ⊤
+IsAnswered P (Err refusals.Memory) = ⊤
 
 -- The answer is by what the library tells, or where it tells nothing by what its fetches gave.
-pub record IsCompiled (files : Option (List ℕ → Option (List ℕ))) (name : List ℕ) (result : Result Compiled GatherRefusal) : Type 0 where
+pub record IsCompiled (files : Option (List ℕ → Option (List ℕ))) (name : List ℕ) (result : Result Compiled TextRefusal) : Type 0 where
   pub known : Known
   pub of : IsOf files known
-  pub gives : Gives (Becomes name known) result
+  pub gives : IsAnswered (Becomes name known) result

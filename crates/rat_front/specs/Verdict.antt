@@ -7,13 +7,13 @@ use Rattle.ground.specs.declared.place.Place.{Place}
 use Rattle.ground.specs.declared.token.Token.{Token}
 use Rattle.ground.specs.declared.token.Dialect.TheVariants.{Ratfor}
 use Rattle.macro_define.specs.Answers.{Known}
-use Rattle.macro_define.specs.Expansion.{Stop, World, gathered}
+use Rattle.macro_define.specs.Expansion.{Stop, GatherState, gathered}
 use Rattle.grammar.specs.Answers.{IsFirstFault}
 use Rattle.grammar.specs.Limits.{IsAccepted}
-use Rattle.rat_grammar.specs.Ratfor.{grammar}
-use Rattle.rat_table.specs.Limits.{meter}
-use Rattle.rat_parts.specs.Values.{program}
-use Rattle.rat_tree.specs.Commands.{Commands, RatRoutine, RatProgram}
+use Rattle.rat_parse.specs.Ratfor.{grammar}
+use Rattle.rat_parse_table.specs.Limits.{meter}
+use Rattle.rat_parse_values.specs.Values.{program}
+use Rattle.rat_tree.specs.Syntax.{Commands, RatRoutine, RatProgram}
 use Rattle.rat_check.specs.FirstFault.{fault_at}
 use Rattle.rat_lower.specs.Lowered.{first_lower_fault}
 
@@ -31,17 +31,17 @@ pub data Checked : Type 0 where
   Main : Commands → Checked
 
 -- there is exactly one unit; the fault of none stands at the end of the text, that of several at the second one
-abbrev pub counted : Place → List RatRoutine → Checked
-counted finish [] = Faulty (fault_at finish MainCount)
-counted finish (u ∷ []) = Main u.body
-counted finish (u ∷ second ∷ more) = Faulty (fault_at second.place MainCount)
+abbrev pub one_main : Place → List RatRoutine → Checked
+one_main finish [] = Faulty (fault_at finish MainCount)
+one_main finish (u ∷ []) = Main u.body
+one_main finish (u ∷ second ∷ more) = Faulty (fault_at second.place MainCount)
 
-abbrev pub unless : Option Fault → Checked → Checked
-unless None all = all
-unless (Some fault) all = Faulty fault
+abbrev pub or_fault : Option Fault → Checked → Checked
+or_fault None all = all
+or_fault (Some fault) all = Faulty fault
 
 abbrev pub checked : RatProgram → Checked
-checked tree = unless (first_lower_fault tree.routines) (counted tree.finish tree.routines)
+checked tree = or_fault (first_lower_fault tree.routines) (one_main tree.finish tree.routines)
 
 -- ---- parse ----
 
@@ -54,14 +54,14 @@ IsParsed ts c =
 -- ---- gather ----
 
 -- the name of the file that has this number
-abbrev pub name_of : List (List ℕ) → ℕ → List ℕ
-name_of files n = unwrap_or (slice_get files n) []
+abbrev pub file_name : List (List ℕ) → ℕ → List ℕ
+file_name files n = unwrap_or (slice_get files n) []
 
 abbrev pub in_files : List (List ℕ) → Checked → Verdict
-in_files files (Faulty fault) = Refuses fault (name_of files fault.place.file)
+in_files files (Faulty fault) = Refuses fault (file_name files fault.place.file)
 in_files files (Main body) = Accepts files body
 
-abbrev pub IsVerdictOf : Result World Stop → Verdict → Type 0
+abbrev pub IsVerdictOf : Result GatherState Stop → Verdict → Type 0
 IsVerdictOf (Err stop) verdict = verdict ≡ Refuses stop.fault stop.file
 IsVerdictOf (Ok w) verdict = (c : Checked) × IsParsed w.made.tokens c × (verdict ≡ in_files w.files c)
 

@@ -1,13 +1,13 @@
 // From a file to its unit.
 ghost use Rattle.std.specs.Prelude.{◌≡◌, IfOk};
 ghost use Rattle.macro_define.specs.Gathered.{HasCause};
-ghost use Rattle.rat_front.specs.Verdict.{name_of as name_of_file};
+ghost use Rattle.rat_front.specs.Verdict.{file_name as name_of_file};
 ghost use Rattle.rat_front.specs.Compiled.{IsCompiled};
 
 use crate::unit_of;
 use f66_check::CheckedUnit;
 use ground::{Dialect, List, Refusal, Text};
-use macro_define::{GatherRefusal, Gathered, gather};
+use macro_define::{TextRefusal, Gathered, gather};
 use ports::Library;
 use std::alloc::{AllocError, Global};
 
@@ -25,7 +25,7 @@ pub fn compile_text<L: Library>(
     alloc: Global,
     name: &str,
     library: &mut L,
-) -> Result<Compiled, GatherRefusal>
+) -> Result<Compiled, TextRefusal>
     ensures text { IsCompiled (L.files library.old) name.now result }
     ensures same { L.files library.new ≡ L.files library.old }
     ensures becomes { L.becomes library.old library.new }
@@ -36,9 +36,9 @@ pub fn compile_text<L: Library>(
         Ok(unit) => Ok(Compiled { unit, files }),
         Err(Refusal::Fault(fault)) => {
             let name = name_of(alloc, &files, fault.place.file)?;
-            Err(GatherRefusal::Fault(fault, name))
+            Err(TextRefusal::Fault(fault, name))
         }
-        Err(Refusal::Memory) => Err(GatherRefusal::Memory),
+        Err(Refusal::Memory) => Err(TextRefusal::Memory),
     }
 }
 

@@ -6,5 +6,5 @@ mod compile;
 mod tree;
 
 pub use compile::{Compiled, compile_text};
-pub use macro_define::GatherRefusal;
+pub use macro_define::TextRefusal;
 use tree::unit_of;

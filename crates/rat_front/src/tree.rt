@@ -7,7 +7,7 @@ ghost use Rattle.rat_front.specs.Compiled.{Finds};
 
 use f66_check::CheckedUnit;
 use ground::{Fault, FaultKind, List, Place, Refusal, Token};
-use rat_grammar::parse;
+use rat_parse::parse;
 use rat_lower::lower;
 use rat_tree::RatProgram;
 use std::alloc::Global;

@@ -1,30 +1,30 @@
 -- A main unit without a fault: its statements are built, its loops are left from within, and its jumps land.
 use Rattle.std.proofs.Common.{◌≡◌, ℕ, suc, ◌≤◌, Bool, true, false, true≢false, List, [], ◌∷◌, Option, Some, None, sym, leb-true}
 use Rattle.std.specs.Prelude.{nat_le, ◌&&◌, ◌||◌}
-use Rattle.f66_tree.specs.Forms.{Act, Chooses, Loops}
-use Rattle.rat_tree.specs.Commands.{Command, Empty, Together, When, Either, Whilst, Through, Repeats, Until, Counts, Switches, Leaves, Turns, GivesBack, Plainly, Marked, Commands, NoCommand, AndCommand, Clauses, NoClause, AndClause}
-use Rattle.rat_check.specs.Parts.{Asks, Says, Labels, part, with_labels, parts_of, parts_in, clause_parts}
-use Rattle.rat_check.specs.Rules.{is_plain, is_simple, Whole}
+use Rattle.f66_tree.specs.Syntax.{Act, When, Loop}
+use Rattle.rat_tree.specs.Syntax.{Command, Empty, Block, If, IfElse, While, For, Repeat, RepeatUntil, Do, Switch, Break, Next, Return, Plain, Labelled, Commands, NoCommand, AndCommand, Clauses, NoClause, AndClause}
+use Rattle.rat_check.specs.Parts.{Condition, Statement, Labels, part, with_labels, parts_of, parts_in, clause_parts}
+use Rattle.rat_check.specs.Rules.{is_plain, is_simple, UnitRules}
 use Rattle.rat_check.proofs.CleanLemmas.{and_true}
 use Rattle.rat_lower.specs.Checked.{IsPlain, IsPlainIfAny, IsBuilt, AreBuilt, ClausesBuilt, Fits, AllFit, ClausesFit, Lands, AllLand, ClausesLand}
 use Rattle.rat_lower.proofs.NoFault.{split, unmarked, Fine, AllFine}
 use Rattle.rat_lower.proofs.Reached.{Sees, sees_list, act_lands, step_lands}
 
 act_plain : (a : Act) → is_plain a ≡ true → IsPlain a
-act_plain (Chooses e b) h = absurd (true≢false (sym h))
-act_plain (Loops l x i j m) h = absurd (true≢false (sym h))
+act_plain (When e b) h = absurd (true≢false (sym h))
+act_plain (Loop l x i j m) h = absurd (true≢false (sym h))
 act_plain _ h = tt
 
 step_plain : (o : Option Act) → is_simple o ≡ true → IsPlainIfAny o
 step_plain None h = tt
-step_plain (Some (Chooses e b)) h = absurd (true≢false (sym h))
-step_plain (Some (Loops l x i j m)) h = absurd (true≢false (sym h))
+step_plain (Some (When e b)) h = absurd (true≢false (sym h))
+step_plain (Some (Loop l x i j m)) h = absurd (true≢false (sym h))
 step_plain (Some _) h = tt
 
 count_is : (k n : ℕ) → (nat_le 1 n && nat_le n k) ≡ true → (1 ≤ n) × (n ≤ k)
 count_is k n e = let h = and_true (nat_le 1 n) (nat_le n k) e in (leb-true 1 n h.0, leb-true n k h.1)
 
-module _ (u : Whole) where
+module _ (u : UnitRules) where
   -- what a statement without a fault is
   record Clear (k : ℕ) (around : List Commands) (c : Command) : Type 0 where
     pub built : IsBuilt c
@@ -44,34 +44,34 @@ module _ (u : Whole) where
   mutual
     clear : (c : Command) (k : ℕ) (r : Labels) (l : Option ℕ) (around : List Commands) → Sees r around → AllFine u (parts_of k r l c) → Clear k around c
     clear (Empty p) k r l around sees h = record { built = tt; fits = tt; lands = tt }
-    clear (Together p ss) k r l around sees h =
+    clear (Block p ss) k r l around sees h =
         let a = all_clear ss k (with_labels ss r) (ss ∷ around) (sees_list ss r around sees) h.1 in
         record { built = a.built; fits = a.fits; lands = a.lands }
-    clear (When p f c) k r l around sees h = let a = clear c k r None around sees h.1 in record { built = a.built; fits = a.fits; lands = a.lands }
-    clear (Either p f c d) k r l around sees h =
+    clear (If p f c) k r l around sees h = let a = clear c k r None around sees h.1 in record { built = a.built; fits = a.fits; lands = a.lands }
+    clear (IfElse p f c d) k r l around sees h =
         let both = split (Fine u) (parts_of k r None c) (parts_of k r None d) h.1 in
         let a = clear c k r None around sees both.0 in
         let b = clear d k r None around sees both.1 in
         record { built = (a.built, b.built); fits = (a.fits, b.fits); lands = (a.lands, b.lands) }
-    clear (Whilst p f c) k r l around sees h = let a = clear c (suc k) r None around sees h.1 in record { built = a.built; fits = a.fits; lands = a.lands }
-    clear (Through p first f step c) k r l around sees h =
+    clear (While p f c) k r l around sees h = let a = clear c (suc k) r None around sees h.1 in record { built = a.built; fits = a.fits; lands = a.lands }
+    clear (For p first f step c) k r l around sees h =
         let a = clear c (suc k) r None around sees h.1 in
         let form = and_true (is_simple first) (is_simple step) h.0.ratfor in
         record { built = (step_plain first form.0, step_plain step form.1, a.built); fits = a.fits; lands = (step_lands around first form.0, step_lands around step form.1, a.lands) }
-    clear (Repeats p c) k r l around sees h = let a = clear c (suc k) r None around sees h.1 in record { built = a.built; fits = a.fits; lands = a.lands }
-    clear (Until p c f q) k r l around sees h =
-        let both = split (Fine u) (parts_of (suc k) r None c) (part k r None q (Asks f) ∷ []) h.1 in
+    clear (Repeat p c) k r l around sees h = let a = clear c (suc k) r None around sees h.1 in record { built = a.built; fits = a.fits; lands = a.lands }
+    clear (RepeatUntil p c f q) k r l around sees h =
+        let both = split (Fine u) (parts_of (suc k) r None c) (part k r None q (Condition f) ∷ []) h.1 in
         let a = clear c (suc k) r None around sees both.0 in
         record { built = a.built; fits = a.fits; lands = a.lands }
-    clear (Counts p x i j m c) k r l around sees h = let a = clear c (suc k) r None around sees h.1 in record { built = a.built; fits = a.fits; lands = a.lands }
-    clear (Switches p f cs) k r l around sees h = let a = clauses_clear cs k r false around sees h.1 in record { built = a.built; fits = a.fits; lands = a.lands }
-    clear (Leaves p n) k r l around sees h = record { built = tt; fits = count_is k n h.0.inside; lands = tt }
-    clear (Turns p n) k r l around sees h = record { built = tt; fits = count_is k n h.0.inside; lands = tt }
-    clear (GivesBack p f) k r l around sees h = absurd (true≢false (sym h.0.ratfor))
-    clear (Plainly m p a) k r l around sees h =
-        let one = unmarked (Fine u) k r l p (part k r m p (Says a) ∷ []) h in
+    clear (Do p x i j m c) k r l around sees h = let a = clear c (suc k) r None around sees h.1 in record { built = a.built; fits = a.fits; lands = a.lands }
+    clear (Switch p f cs) k r l around sees h = let a = clauses_clear cs k r false around sees h.1 in record { built = a.built; fits = a.fits; lands = a.lands }
+    clear (Break p n) k r l around sees h = record { built = tt; fits = count_is k n h.0.inside; lands = tt }
+    clear (Next p n) k r l around sees h = record { built = tt; fits = count_is k n h.0.inside; lands = tt }
+    clear (Return p f) k r l around sees h = absurd (true≢false (sym h.0.ratfor))
+    clear (Plain m p a) k r l around sees h =
+        let one = unmarked (Fine u) k r l p (part k r m p (Statement a) ∷ []) h in
         record { built = act_plain a one.0.ratfor; fits = tt; lands = act_lands u.formats r around sees a one.0.ratfor one.0.found }
-    clear (Marked m p c) k r l around sees h =
+    clear (Labelled m p c) k r l around sees h =
         let a = clear c k r (Some m) around sees (unmarked (Fine u) k r l p (parts_of k r (Some m) c) h) in
         record { built = a.built; fits = a.fits; lands = a.lands }
 

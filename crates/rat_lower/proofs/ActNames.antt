@@ -6,7 +6,7 @@ use Rattle.std.specs.List.{list_any, flat_map}
 use Rattle.std.proofs.lemmas.Bool.{or_parts}
 use Rattle.std.proofs.lemmas.List.Folds.{list_any-append}
 use Rattle.std.proofs.lemmas.Slice.Eq.{bytes_eq-Decides}
-use Rattle.f66_tree.specs.Forms.{Text, Formula, Number, Fact, Letter, Variable, Applied, Grouped, Positive, Negative, Negated, Joined, Formulas, Nought, Also, Par, Constant, Named, Declared, Entry, One, Many, Entries, NoEntry, AndEntry, Act, Assigns, Selects, Signs, Chooses, Loops, Invokes, Reads, Writes, Types, Dimensions, Commons}
+use Rattle.f66_tree.specs.Syntax.{Text, Formula, Int, Truth, Letter, Ref, Item, Group, Plus, Minus, Not, Pair, Formulas, NoFormula, AndFormula, Par, Constant, Named, Declared, Entry, One, Many, Entries, NoEntry, AndEntry, Act, Assign, Computed, Sign, When, Loop, Invoke, Read, Write, Typed, Dimension, Common}
 use Rattle.f66_tree.specs.Units.{Context}
 use Rattle.f66_tree.specs.Uses.{Names, NamesOfAll, NameOfPar, NamesOfPars, NamesOfEntry, NamesOfEntries, NamesOfAct}
 use Rattle.f66_names.specs.Declaring.{declared_in}
@@ -46,32 +46,32 @@ module _ (K : Text → Type 0) where
 
   mutual
     names : (f : Formula) → AllUsed K (uses_of f) → Names K f
-    names (Number z) h = tt
-    names (Fact b) h = tt
+    names (Int z) h = tt
+    names (Truth b) h = tt
     names (Letter c) h = tt
-    names (Variable x) h = h.0
-    names (Applied x es) h = (h.0, names_all es h.1)
-    names (Grouped a) h = names a h
-    names (Positive a) h = names a h
-    names (Negative a) h = names a h
-    names (Negated a) h = names a h
-    names (Joined op a b) h = let k = used_split (uses_of a) (uses_of b) h in (names a k.0, names b k.1)
+    names (Ref x) h = h.0
+    names (Item x es) h = (h.0, names_all es h.1)
+    names (Group a) h = names a h
+    names (Plus a) h = names a h
+    names (Minus a) h = names a h
+    names (Not a) h = names a h
+    names (Pair op a b) h = let k = used_split (uses_of a) (uses_of b) h in (names a k.0, names b k.1)
 
     names_all : (es : Formulas) → AllUsed K (uses_of_all es) → NamesOfAll K es
-    names_all Nought h = tt
-    names_all (Also f es) h = let k = used_split (uses_of f) (uses_of_all es) h in (names f k.0, names_all es k.1)
+    names_all NoFormula h = tt
+    names_all (AndFormula f es) h = let k = used_split (uses_of f) (uses_of_all es) h in (names f k.0, names_all es k.1)
 
   target : (f : Formula) → AllUsed K (uses_of_target f) → Names K f
-  target (Number z) h = tt
-  target (Fact b) h = tt
+  target (Int z) h = tt
+  target (Truth b) h = tt
   target (Letter c) h = tt
-  target (Variable x) h = h.0
-  target (Applied x es) h = (h.0, names_all es h.1)
-  target (Grouped a) h = names a h
-  target (Positive a) h = names a h
-  target (Negative a) h = names a h
-  target (Negated a) h = names a h
-  target (Joined op a b) h = names (Joined op a b) h
+  target (Ref x) h = h.0
+  target (Item x es) h = (h.0, names_all es h.1)
+  target (Group a) h = names a h
+  target (Plus a) h = names a h
+  target (Minus a) h = names a h
+  target (Not a) h = names a h
+  target (Pair op a b) h = names (Pair op a b) h
 
   par : (a : Par) → AllUsed K (uses_of_par a) → NameOfPar K a
   par (Constant z) h = tt
@@ -100,14 +100,14 @@ module _ (K : Text → Type 0) where
   listed u es h = let k = used_split (uses_of_par u) (uses_of_entries es) h in (par u k.0, entries es k.1)
 
   pub act_names : (a : Act) → is_built_form a ≡ true → AllUsed K (uses_in a) → NamesOfAct K a
-  act_names (Assigns x e) is h = let k = used_split (uses_of_target x) (uses_of e) h in (target x k.0, names e k.1)
-  act_names (Selects ls x) is h = h.0
-  act_names (Signs e l m n) is h = names e h
-  act_names (Chooses e a) is h = let k = used_split (uses_of e) (uses_in a) h in (names e k.0, act_names a is k.1)
-  act_names (Loops l x i j m) is h = counted x i j m h
-  act_names (Invokes x es) is h = absurd (true≢false (sym is))
-  act_names (Reads u l es) is h = listed u es h
-  act_names (Writes u l es) is h = listed u es h
+  act_names (Assign x e) is h = let k = used_split (uses_of_target x) (uses_of e) h in (target x k.0, names e k.1)
+  act_names (Computed ls x) is h = h.0
+  act_names (Sign e l m n) is h = names e h
+  act_names (When e a) is h = let k = used_split (uses_of e) (uses_in a) h in (names e k.0, act_names a is k.1)
+  act_names (Loop l x i j m) is h = counted x i j m h
+  act_names (Invoke x es) is h = absurd (true≢false (sym is))
+  act_names (Read u l es) is h = listed u es h
+  act_names (Write u l es) is h = listed u es h
   act_names _ is h = tt
 
   pars : (ns : List Par) → AllUsed K (flat_map uses_of_par ns) → NamesOfPars K ns
@@ -119,9 +119,9 @@ module _ (K : Text → Type 0) where
   sizes (d ∷ ds) h = let k = used_split (flat_map uses_of_par d.sizes) (uses_of_sizes ds) h in (pars d.sizes k.0, sizes ds k.1)
 
   pub note_names : (a : Act) → is_built_form a ≡ true → AllUsed K (uses_in a) → NamesOfNote K a
-  note_names (Types t ds) is h = sizes ds h
-  note_names (Dimensions ds) is h = sizes ds h
-  note_names (Commons areas) is h = absurd (true≢false (sym is))
+  note_names (Typed t ds) is h = sizes ds h
+  note_names (Dimension ds) is h = sizes ds h
+  note_names (Common areas) is h = absurd (true≢false (sym is))
   note_names _ is h = tt
 
 -- ---- a name that is not there ----

@@ -9,10 +9,10 @@ use Rattle.ground.specs.declared.fault.FaultKind.TheVariants.{Syntax, NameTooLon
 use Rattle.rule_table.specs.Words.{is_some_and}
 use Rattle.f66_tree.specs.declared.editing.Way.{Way}
 use Rattle.f66_tree.specs.declared.editing.Way.TheVariants.{Reading, Writing}
-use Rattle.f66_tree.specs.Forms.{Text, Formula, Number, Fact, Letter, Variable, Applied, Grouped, Positive, Negative, Negated, Joined, Formulas, Nought, Also, Par, Constant, Named, Declared, Entry, One, Many, Entries, NoEntry, AndEntry, Act, Assigns, Selects, Signs, Chooses, Loops, Reads, Writes}
+use Rattle.f66_tree.specs.Syntax.{Text, Formula, Int, Truth, Letter, Ref, Item, Group, Plus, Minus, Not, Pair, Formulas, NoFormula, AndFormula, Par, Constant, Named, Declared, Entry, One, Many, Entries, NoEntry, AndEntry, Act, Assign, Computed, Sign, When, Loop, Read, Write}
 use Rattle.f66_tree.specs.Units.{Context, kind_by, kind_of}
 use Rattle.f66_names.specs.Declaring.{declared_in}
-use Rattle.f66_names.specs.Sorts.{form_of, type_of, is_array_form, is_array, is_integer, is_counter}
+use Rattle.f66_names.specs.Sorts.{name_form, type_of, is_array_form, is_array_name, is_integer, is_counter}
 use Rattle.f66_names.specs.Uses.{Usage, uses_of, uses_of_all, uses_of_target, uses_of_par, uses_of_counting, uses_of_entry, uses_of_entries, uses_in}
 use Rattle.f66_names.specs.Kinds.{is_number, is_index, is_times, is_plus_or_minus, is_multiple, is_shifted, is_subscript, are_subscripts, same_kind, is_kind, operand, outcome, when, kind_applied, kind_in, are_integers, takes_kind, is_counting, is_listed, counts, is_entry, are_entries, clashes}
 use Rattle.f66_names.specs.StoreRules.{is_assignable, stores_item, stores_entry, store_entries, stores_wrong}
@@ -21,17 +21,17 @@ use Rattle.f66_names.specs.BuiltActs.{is_function_by, is_function, is_built_form
 use Rattle.f66_names.specs.Rules.{breaks_name}
 use Rattle.rat_lower.proofs.ActNames.{AllUsed, AllDeclared, used_split}
 
-module _ (c d : Context) (K : Text → Type 0) (forms : (x : Text) → K x → form_of d x ≡ form_of c x) (types : (x : Text) → K x → type_of d x ≡ type_of c x) where
+module _ (c d : Context) (K : Text → Type 0) (forms : (x : Text) → K x → name_form d x ≡ name_form c x) (types : (x : Text) → K x → type_of d x ≡ type_of c x) where
   -- ---- names ----
 
   kinds : (x : Text) → K x → kind_of d x ≡ kind_of c x
   kinds x k = ap kind_by (types x k)
 
-  arrays : (x : Text) → K x → is_array d x ≡ is_array c x
+  arrays : (x : Text) → K x → is_array_name d x ≡ is_array_name c x
   arrays x k = ap is_array_form (forms x k)
 
   counters : (x : Text) → K x → is_counter d x ≡ is_counter c x
-  counters x k = ap (λ b. not b && is_integer (kind_of d x)) (arrays x k) ∙ ap (λ t. not (is_array c x) && is_integer t) (kinds x k)
+  counters x k = ap (λ b. not b && is_integer (kind_of d x)) (arrays x k) ∙ ap (λ t. not (is_array_name c x) && is_integer t) (kinds x k)
 
   miscounted : (u : Usage) → K u.name → miscounts d u ≡ miscounts c u
   miscounted u k = ap (λ f. miscounts_by f u.manner) (forms u.name k)
@@ -53,61 +53,61 @@ module _ (c d : Context) (K : Text → Type 0) (forms : (x : Text) → K x → f
   -- ---- expressions ----
 
   index : (e : Formula) → AllUsed K (uses_of e) → is_index d e ≡ is_index c e
-  index (Variable x) h = counters x h.0
+  index (Ref x) h = counters x h.0
   index _ h = refl
 
   multiple : (e : Formula) → AllUsed K (uses_of e) → is_multiple d e ≡ is_multiple c e
-  multiple (Variable x) h = counters x h.0
-  multiple (Joined op a b) h = ap (λ v. is_times op && (is_number a && v)) (index b (used_split K (uses_of a) (uses_of b) h).1)
+  multiple (Ref x) h = counters x h.0
+  multiple (Pair op a b) h = ap (λ v. is_times op && (is_number a && v)) (index b (used_split K (uses_of a) (uses_of b) h).1)
   multiple _ h = refl
 
   shifted : (e : Formula) → AllUsed K (uses_of e) → is_shifted d e ≡ is_shifted c e
-  shifted (Joined op a b) h = ap (λ v. is_plus_or_minus op && (v && is_number b)) (multiple a (used_split K (uses_of a) (uses_of b) h).0)
+  shifted (Pair op a b) h = ap (λ v. is_plus_or_minus op && (v && is_number b)) (multiple a (used_split K (uses_of a) (uses_of b) h).0)
   shifted _ h = refl
 
   subscript : (e : Formula) → AllUsed K (uses_of e) → is_subscript d e ≡ is_subscript c e
   subscript e h = ap (λ v. is_number e || (v || is_shifted d e)) (multiple e h) ∙ ap (λ v. is_number e || (is_multiple c e || v)) (shifted e h)
 
   subscripts : (es : Formulas) → AllUsed K (uses_of_all es) → are_subscripts d es ≡ are_subscripts c es
-  subscripts Nought h = refl
-  subscripts (Also e es) h =
+  subscripts NoFormula h = refl
+  subscripts (AndFormula e es) h =
       let k = used_split K (uses_of e) (uses_of_all es) h in
       ap (λ v. v && are_subscripts d es) (subscript e k.0) ∙ ap (λ v. is_subscript c e && v) (subscripts es k.1)
 
   mutual
     kinded : (e : Formula) → AllUsed K (uses_of e) → kind_in d e ≡ kind_in c e
-    kinded (Number z) h = refl
-    kinded (Fact b) h = refl
+    kinded (Int z) h = refl
+    kinded (Truth b) h = refl
     kinded (Letter l) h = refl
-    kinded (Variable x) h = ap (λ b. when (not b) (kind_of d x)) (arrays x h.0) ∙ ap (λ t. when (not (is_array c x)) t) (kinds x h.0)
-    kinded (Applied x es) h =
+    kinded (Ref x) h = ap (λ b. when (not b) (kind_of d x)) (arrays x h.0) ∙ ap (λ t. when (not (is_array_name c x)) t) (kinds x h.0)
+    kinded (Item x es) h =
         ap (λ f. kind_applied f (kind_of d x) (are_subscripts d es) (are_integers d es)) (forms x h.0)
-        ∙ ap (λ t. kind_applied (form_of c x) t (are_subscripts d es) (are_integers d es)) (kinds x h.0)
-        ∙ ap (λ b. kind_applied (form_of c x) (kind_of c x) b (are_integers d es)) (subscripts es h.1)
-        ∙ ap (λ b. kind_applied (form_of c x) (kind_of c x) (are_subscripts c es) b) (integers es h.1)
-    kinded (Grouped a) h = kinded a h
-    kinded (Positive a) h = ap (λ o. when (is_kind Integer o) Integer) (kinded a h)
-    kinded (Negative a) h = ap (λ o. when (is_kind Integer o) Integer) (kinded a h)
-    kinded (Negated a) h = ap (λ o. when (is_kind Logical o) Logical) (kinded a h)
-    kinded (Joined op a b) h =
+        ∙ ap (λ t. kind_applied (name_form c x) t (are_subscripts d es) (are_integers d es)) (kinds x h.0)
+        ∙ ap (λ b. kind_applied (name_form c x) (kind_of c x) b (are_integers d es)) (subscripts es h.1)
+        ∙ ap (λ b. kind_applied (name_form c x) (kind_of c x) (are_subscripts c es) b) (integers es h.1)
+    kinded (Group a) h = kinded a h
+    kinded (Plus a) h = ap (λ o. when (is_kind Integer o) Integer) (kinded a h)
+    kinded (Minus a) h = ap (λ o. when (is_kind Integer o) Integer) (kinded a h)
+    kinded (Not a) h = ap (λ o. when (is_kind Logical o) Logical) (kinded a h)
+    kinded (Pair op a b) h =
         let k = used_split K (uses_of a) (uses_of b) h in
         ap (λ o. when (is_kind (operand op) o && is_kind (operand op) (kind_in d b)) (outcome op)) (kinded a k.0)
         ∙ ap (λ o. when (is_kind (operand op) (kind_in c a) && is_kind (operand op) o) (outcome op)) (kinded b k.1)
 
     integers : (es : Formulas) → AllUsed K (uses_of_all es) → are_integers d es ≡ are_integers c es
-    integers Nought h = refl
-    integers (Also e es) h =
+    integers NoFormula h = refl
+    integers (AndFormula e es) h =
         let k = used_split K (uses_of e) (uses_of_all es) h in
         ap (λ o. is_kind Integer o && are_integers d es) (kinded e k.0) ∙ ap (λ b. is_kind Integer (kind_in c e) && b) (integers es k.1)
 
   -- ---- statements ----
 
   taken : (x : Formula) → AllUsed K (uses_of_target x) → (t : Kind) → takes_kind d x t ≡ takes_kind c x t
-  taken (Variable x) h t = ap (λ b. b || same_kind (kind_of d x) t) (arrays x h.0) ∙ ap (λ q. is_array c x || same_kind q t) (kinds x h.0)
-  taken (Applied x es) h t =
+  taken (Ref x) h t = ap (λ b. b || same_kind (kind_of d x) t) (arrays x h.0) ∙ ap (λ q. is_array_name c x || same_kind q t) (kinds x h.0)
+  taken (Item x es) h t =
       ap (λ b. not b || (are_subscripts d es && same_kind (kind_of d x) t)) (arrays x h.0)
-      ∙ ap (λ b. not (is_array c x) || (b && same_kind (kind_of d x) t)) (subscripts es h.1)
-      ∙ ap (λ q. not (is_array c x) || (are_subscripts c es && same_kind q t)) (kinds x h.0)
+      ∙ ap (λ b. not (is_array_name c x) || (b && same_kind (kind_of d x) t)) (subscripts es h.1)
+      ∙ ap (λ q. not (is_array_name c x) || (are_subscripts c es && same_kind q t)) (kinds x h.0)
   taken _ h t = refl
 
   counting : (p : Par) → AllUsed K (uses_of_par p) → is_counting d p ≡ is_counting c p
@@ -124,9 +124,9 @@ module _ (c d : Context) (K : Text → Type 0) (forms : (x : Text) → K x → f
       ∙ ap (λ b. is_integer (kind_of c x) && (is_counting c p && (is_counting c q && b))) (counting r m.1)
 
   listed : (way : Way) (e : Formula) → AllUsed K (uses_of_target e) → is_listed way d e ≡ is_listed way c e
-  listed way (Variable x) h = refl
-  listed Reading (Applied x es) h = ap (λ b. not b || are_subscripts d es) (arrays x h.0) ∙ ap (λ b. not (is_array c x) || b) (subscripts es h.1)
-  listed Writing (Applied x es) h = ap (λ b. b && are_subscripts d es) (arrays x h.0) ∙ ap (λ b. is_array c x && b) (subscripts es h.1)
+  listed way (Ref x) h = refl
+  listed Reading (Item x es) h = ap (λ b. not b || are_subscripts d es) (arrays x h.0) ∙ ap (λ b. not (is_array_name c x) || b) (subscripts es h.1)
+  listed Writing (Item x es) h = ap (λ b. b && are_subscripts d es) (arrays x h.0) ∙ ap (λ b. is_array_name c x && b) (subscripts es h.1)
   listed way _ h = refl
 
   mutual
@@ -148,26 +148,26 @@ module _ (c d : Context) (K : Text → Type 0) (forms : (x : Text) → K x → f
       ap (λ b. not (b && are_entries way d es)) (counting u k.0) ∙ ap (λ b. not (is_counting c u && b)) (entries way es k.1)
 
   clashed : (a : Act) → AllUsed K (uses_in a) → clashes d a ≡ clashes c a
-  clashed (Assigns x e) h =
+  clashed (Assign x e) h =
       let k = used_split K (uses_of_target x) (uses_of e) h in
       ap (λ o. not (is_some_and (takes_kind d x) o)) (kinded e k.1) ∙ ap (λ (f : Kind → Bool). not (is_some_and f (kind_in c e))) (λ i t. taken x k.0 t i)
-  clashed (Selects ls x) h = ap not (counters x h.0)
-  clashed (Signs e l m n) h = ap (λ o. not (is_kind Integer o)) (kinded e h)
-  clashed (Chooses e a) h =
+  clashed (Computed ls x) h = ap not (counters x h.0)
+  clashed (Sign e l m n) h = ap (λ o. not (is_kind Integer o)) (kinded e h)
+  clashed (When e a) h =
       let k = used_split K (uses_of e) (uses_in a) h in
       ap (λ o. not (is_kind Logical o) || clashes d a) (kinded e k.0) ∙ ap (λ b. not (is_kind Logical (kind_in c e)) || b) (clashed a k.1)
-  clashed (Loops l x p q r) h = ap not (counted x p q r h)
-  clashed (Reads u l es) h = transferred Reading u es h
-  clashed (Writes u l es) h = transferred Writing u es h
+  clashed (Loop l x p q r) h = ap not (counted x p q r h)
+  clashed (Read u l es) h = transferred Reading u es h
+  clashed (Write u l es) h = transferred Writing u es h
   clashed _ h = refl
 
   assigned : (x : Formula) → AllUsed K (uses_of_target x) → is_assignable d x ≡ is_assignable c x
-  assigned (Variable x) h = ap not (arrays x h.0)
-  assigned (Applied x es) h = arrays x h.0
+  assigned (Ref x) h = ap not (arrays x h.0)
+  assigned (Item x es) h = arrays x h.0
   assigned _ h = refl
 
   items_stored : (way : Way) (e : Formula) → AllUsed K (uses_of_target e) → stores_item way d e ≡ stores_item way c e
-  items_stored Reading (Applied x es) h = arrays x h.0
+  items_stored Reading (Item x es) h = arrays x h.0
   items_stored Reading _ h = refl
   items_stored Writing e h = refl
 
@@ -176,7 +176,7 @@ module _ (c d : Context) (K : Text → Type 0) (forms : (x : Text) → K x → f
     entry_stored way (One e) h = items_stored way e h
     entry_stored way (Many es x p q r) h =
         let k = used_split K (uses_of_entries es) (uses_of_counting x p q r) h in
-        ap (λ b. b && not (is_array d x)) (entries_stored way es k.0) ∙ ap (λ b. store_entries way c es && not b) (arrays x k.1.0)
+        ap (λ b. b && not (is_array_name d x)) (entries_stored way es k.0) ∙ ap (λ b. store_entries way c es && not b) (arrays x k.1.0)
 
     entries_stored : (way : Way) (es : Entries) → AllUsed K (uses_of_entries es) → store_entries way d es ≡ store_entries way c es
     entries_stored way NoEntry h = refl
@@ -185,11 +185,11 @@ module _ (c d : Context) (K : Text → Type 0) (forms : (x : Text) → K x → f
         ap (λ b. b && store_entries way d es) (entry_stored way e k.0) ∙ ap (λ b. stores_entry way c e && b) (entries_stored way es k.1)
 
   stored : (a : Act) → AllUsed K (uses_in a) → stores_wrong d a ≡ stores_wrong c a
-  stored (Assigns x e) h = ap not (assigned x (used_split K (uses_of_target x) (uses_of e) h).0)
-  stored (Loops l x p q r) h = arrays x h.0
-  stored (Chooses e a) h = stored a (used_split K (uses_of e) (uses_in a) h).1
-  stored (Reads u l es) h = ap not (entries_stored Reading es (used_split K (uses_of_par u) (uses_of_entries es) h).1)
-  stored (Writes u l es) h = ap not (entries_stored Writing es (used_split K (uses_of_par u) (uses_of_entries es) h).1)
+  stored (Assign x e) h = ap not (assigned x (used_split K (uses_of_target x) (uses_of e) h).0)
+  stored (Loop l x p q r) h = arrays x h.0
+  stored (When e a) h = stored a (used_split K (uses_of e) (uses_in a) h).1
+  stored (Read u l es) h = ap not (entries_stored Reading es (used_split K (uses_of_par u) (uses_of_entries es) h).1)
+  stored (Write u l es) h = ap not (entries_stored Writing es (used_split K (uses_of_par u) (uses_of_entries es) h).1)
   stored _ h = refl
 
   typed : (a : Act) → AllUsed K (uses_in a) → AllDeclared K (declared_in a) → has_other_type d a ≡ has_other_type c a

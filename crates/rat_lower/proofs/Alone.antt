@@ -5,7 +5,7 @@ use Rattle.std.specs.Str.{bytes_eq}
 use Rattle.std.proofs.Math.Nat.{pow-zero, pow-suc}
 use Rattle.std.proofs.lemmas.Slice.Eq.{bytes_eq-Decides}
 use Rattle.f66_tree.specs.declared.declaration.TypeWord.TheVariants.{Integer}
-use Rattle.f66_tree.specs.Forms.{Text, Par, Declared, Area, Act, Assigns, Goes, Selects, Signs, Chooses, Loops, Invokes, Passes, Stops, Returns, Reads, Writes, Formats, Types, Dimensions, Commons, Equivalences, Presets, Line}
+use Rattle.f66_tree.specs.Syntax.{Text, Par, Declared, Area, Act, Assign, Goto, Computed, Sign, When, Loop, Invoke, Continue, Stop, Return, Read, Write, Format, Typed, Dimension, Common, Equivalence, Preset, Line}
 use Rattle.f66_tree.specs.Units.{Note, by_letter, if_any, sizes_in, sizes_in_areas, sizes_by, sizes_of, type_in, kind_by, Spot, Held, Lent}
 use Rattle.f66_tree.specs.Uses.{NamesOfPars}
 use Rattle.f66_tree.specs.OneUnit.{list_number, one_unit}
@@ -69,24 +69,24 @@ module _ (K : Text → Type 0) where
   in_areas x (a ∷ areas) others h k = in_sizes x a.list (sizes_in_areas x areas others) h.0 (in_areas x areas others h.1 k)
 
   in_note : (x : Text) (a : Act) (others : List Par) → NamesOfNote K a → NamesOfPars K others → NamesOfPars K (sizes_by x a others)
-  in_note x (Types t ds) others h k = in_sizes x ds others h k
-  in_note x (Dimensions ds) others h k = in_sizes x ds others h k
-  in_note x (Commons areas) others h k = in_areas x areas others h k
-  in_note x (Assigns y e) others h k = k
-  in_note x (Goes m) others h k = k
-  in_note x (Selects ls y) others h k = k
-  in_note x (Signs e i1 i2 i3) others h k = k
-  in_note x (Chooses e a) others h k = k
-  in_note x (Loops m y i1 i2 i3) others h k = k
-  in_note x (Invokes y es) others h k = k
-  in_note x Passes others h k = k
-  in_note x (Stops n) others h k = k
-  in_note x Returns others h k = k
-  in_note x (Reads u m es) others h k = k
-  in_note x (Writes u m es) others h k = k
-  in_note x (Formats fs) others h k = k
-  in_note x (Equivalences es) others h k = k
-  in_note x (Presets ps) others h k = k
+  in_note x (Typed t ds) others h k = in_sizes x ds others h k
+  in_note x (Dimension ds) others h k = in_sizes x ds others h k
+  in_note x (Common areas) others h k = in_areas x areas others h k
+  in_note x (Assign y e) others h k = k
+  in_note x (Goto m) others h k = k
+  in_note x (Computed ls y) others h k = k
+  in_note x (Sign e i1 i2 i3) others h k = k
+  in_note x (When e a) others h k = k
+  in_note x (Loop m y i1 i2 i3) others h k = k
+  in_note x (Invoke y es) others h k = k
+  in_note x Continue others h k = k
+  in_note x (Stop n) others h k = k
+  in_note x Return others h k = k
+  in_note x (Read u m es) others h k = k
+  in_note x (Write u m es) others h k = k
+  in_note x (Format fs) others h k = k
+  in_note x (Equivalence es) others h k = k
+  in_note x (Preset ps) others h k = k
 
   in_notes : (x : Text) (notes : List Note) → NamesOfNotes K notes → NamesOfPars K (sizes_of x notes)
   in_notes x [] h = tt
@@ -116,7 +116,7 @@ unspared code notes = record {
 
 -- INTEGER spare
 abbrev pub spare_note : Text → Note
-spare_note spare = record { label = None; act = Types Integer (record { name = spare; sizes = [] } ∷ []) }
+spare_note spare = record { label = None; act = Typed Integer (record { name = spare; sizes = [] } ∷ []) }
 
 module _ (spare : Text) (notes : List Note) where
   abbrev Other : Text → Type 0

@@ -4,19 +4,19 @@ use Rattle.std.proofs.Math.Seq.{drop-cons}
 use Rattle.std.proofs.Math.ListN.{drop_of_length-le}
 use Rattle.ground.specs.declared.place.Place.{Place}
 use Rattle.f66_tree.specs.declared.expression.Expr.{Expr}
-use Rattle.f66_tree.specs.Forms.{Text, Formula, Formulas, Also, Chooses, Goes, Line, bare}
+use Rattle.f66_tree.specs.Syntax.{Text, Formula, Formulas, AndFormula, When, Goto, Line, unlabelled_line}
 use Rattle.f66_tree.specs.Views.{formula_of, formulas_of}
 use Rattle.rat_tree.specs.declared.program.RatStmt.{RatStmt}
-use Rattle.rat_tree.specs.Commands.{Command, Commands, NoCommand, AndCommand}
+use Rattle.rat_tree.specs.Syntax.{Command, Commands, NoCommand, AndCommand}
 use Rattle.rat_tree.specs.Views.{command, commands}
 use Rattle.rat_lower.specs.Code.{Rings, case_test, all_labels, code_of, all_code, each_test}
 use Rattle.rat_lower.specs.Emitted.{Making, labels_past, Adds, Emitted, AllEmitted}
 use Rattle.rat_lower.proofs.Sizes.{size_of, size_of_all}
 
-pub next_formulas : (list : List Expr) (i : ℕ) (e : Expr) → i < length list → e ≡ get_or list i e → formulas_of (drop i list) ≡ Also (formula_of e) (formulas_of (drop (i + 1) list))
+pub next_formulas : (list : List Expr) (i : ℕ) (e : Expr) → i < length list → e ≡ get_or list i e → formulas_of (drop i list) ≡ AndFormula (formula_of e) (formulas_of (drop (i + 1) list))
 next_formulas list i e lt is =
     let k : suc i ≡ i + 1 = omega arith in
-    ap formulas_of (drop-cons list i e lt) ∙ ap (λ x. Also (formula_of x) (formulas_of (drop (suc i) list))) (sym is) ∙ ap (λ m. Also (formula_of e) (formulas_of (drop m list))) k
+    ap formulas_of (drop-cons list i e lt) ∙ ap (λ x. AndFormula (formula_of x) (formulas_of (drop (suc i) list))) (sym is) ∙ ap (λ m. AndFormula (formula_of e) (formulas_of (drop m list))) k
 
 -- ---- statements ----
 
@@ -73,11 +73,11 @@ label_or (Some l) m = l
 -- ---- case expressions ----
 
 pub more_tests : (spare name : Text) (p : Place) (l : ℕ) (all here left : Formulas) (e : Formula) (old now new : List Line) →
-    here ≡ Also e left → name ≡ spare → Adds now new (λ rest. bare p (Chooses (case_test name e) (Goes l)) ∷ rest) →
+    here ≡ AndFormula e left → name ≡ spare → Adds now new (λ rest. unlabelled_line p (When (case_test name e) (Goto l)) ∷ rest) →
     ((rest : List Line) → now ++ each_test spare p here l rest ≡ old ++ each_test spare p all l rest) →
     (rest : List Line) → new ++ each_test spare p left l rest ≡ old ++ each_test spare p all l rest
 more_tests spare name p l all here left e old now new next same add so_far rest =
     add.by (each_test spare p left l rest)
-    ∙ ap (λ x. now ++ (bare p (Chooses (case_test x e) (Goes l)) ∷ each_test spare p left l rest)) same
+    ∙ ap (λ x. now ++ (unlabelled_line p (When (case_test x e) (Goto l)) ∷ each_test spare p left l rest)) same
     ∙ sym (ap (λ es. now ++ each_test spare p es l rest) next)
     ∙ so_far rest

@@ -1,19 +1,19 @@
 -- A main unit without a fault agrees with the unit that it becomes, which breaks no rule on order, labels and DO ranges.
 use Rattle.std.proofs.Common.{◌≡◌, ◌≢◌, ℕ, ◌+◌, ◌≤◌, ◌<◌, Bool, true, false, List, [], ◌∷◌, length, None, arith}
 use Rattle.ground.specs.declared.place.Place.{Place}
-use Rattle.f66_tree.specs.Forms.{Text, Act}
+use Rattle.f66_tree.specs.Syntax.{Text, Act}
 use Rattle.f66_tree.specs.World.{Record}
 use Rattle.f66_tree.specs.Uses.{NamesOfAct}
 use Rattle.f66_tree.specs.Agreement.{Agrees}
 use Rattle.f66_tree.specs.OneUnit.{executed}
 use Rattle.f66_names.specs.BuiltActs.{is_built}
-use Rattle.rat_tree.specs.Commands.{Commands}
+use Rattle.rat_tree.specs.Syntax.{Commands}
 use Rattle.name_alloc.proofs.Free.{made-free, made-low, made-rises}
 use Rattle.name_alloc.proofs.KeptNames.{next_apart}
 use Rattle.rat_check.specs.Parts.{no_label, Part, with_labels, unit_parts}
 use Rattle.rat_check.specs.Said.{said_in}
-use Rattle.rat_check.specs.Rules.{nothing_before, Whole}
-use Rattle.rat_check.specs.FirstFault.{with_own, whole_of, fault_of_parts}
+use Rattle.rat_check.specs.Rules.{nothing_before, UnitRules}
+use Rattle.rat_check.specs.FirstFault.{with_own, unit_whole, fault_of_parts}
 use Rattle.rat_check.specs.Survey.{is_among}
 use Rattle.rat_check.proofs.CleanLemmas.{Passed, passed}
 use Rattle.rat_check.proofs.SaidLemmas.{said_built}
@@ -43,8 +43,8 @@ module _ (ss : Commands) (accepted : fault_of_parts (unit_parts ss) ≡ None) wh
   abbrev vs : List Part
   vs = unit_parts ss
 
-  abbrev u : Whole
-  u = whole_of vs
+  abbrev u : UnitRules
+  u = unit_whole vs
 
   abbrev said : List Act
   said = said_in vs

@@ -7,17 +7,17 @@ use Rattle.std.specs.Str.{bytes_eq}
 use Rattle.std.proofs.lemmas.Option.{none-some}
 use Rattle.std.proofs.lemmas.Slice.Eq.{bytes_eq-Decides}
 use Rattle.rule_table.specs.Words.{find_map}
-use Rattle.f66_tree.specs.Forms.{Text, Act, Line}
+use Rattle.f66_tree.specs.Syntax.{Text, Act, Line}
 use Rattle.f66_tree.specs.Units.{Context}
 use Rattle.f66_names.specs.declared.name_form.Class.{Class}
 use Rattle.f66_names.specs.declared.name_form.Class.TheVariants.{Scalar, Function}
 use Rattle.f66_names.specs.declared.name_form.NameForm.{NameForm}
 use Rattle.f66_names.specs.declared.name_form.NameForm.TheVariants as forms
 use Rattle.f66_names.specs.declared.name_form.Manner.TheVariants.{Alone}
-use Rattle.f66_names.specs.Sorts.{form_of, is_array_form, is_array}
+use Rattle.f66_names.specs.Sorts.{name_form, is_array_form, is_array_name}
 use Rattle.f66_names.specs.Uses.{Usage, usage, uses_of, uses_in}
 use Rattle.f66_names.specs.NameRules.{class_by, class_used, class_given, class_of, same_class, has_other_class, misuses}
-use Rattle.f66_sound.specs.SoundUnits.{acts_of}
+use Rattle.f66_soundness.specs.SoundUnits.{acts_in_unit}
 use Rattle.rat_lower.proofs.NoFault.{AllOf}
 use Rattle.rat_lower.proofs.Kept.{AllSay, Keeps, KeepsValues}
 use Rattle.rat_lower.proofs.KeptBack.{KeepsBack}
@@ -39,13 +39,13 @@ module _ (P : Usage → Type 0) where
   pub uses_back : (spare : Text) → KeepsBack Uses spare
   uses_back spare = record { denied = λ e l h. h; counts = λ l x a b c h. h; compared = λ e l h. (uses_split P (uses_of e) [] h.1).0; stored = λ e h. h.1 }
 
-  pub lines_used : (lines : List Line) → AllSay Uses lines → AllUses P (flat_map uses_in (acts_of lines))
+  pub lines_used : (lines : List Line) → AllSay Uses lines → AllUses P (flat_map uses_in (acts_in_unit lines))
   lines_used [] h = tt
-  lines_used (s ∷ rest) h = uses_join P (uses_in s.act) (flat_map uses_in (acts_of rest)) h.0 (lines_used rest h.1)
+  lines_used (s ∷ rest) h = uses_join P (uses_in s.act) (flat_map uses_in (acts_in_unit rest)) h.0 (lines_used rest h.1)
 
-  pub used_lines : (lines : List Line) → AllUses P (flat_map uses_in (acts_of lines)) → AllSay Uses lines
+  pub used_lines : (lines : List Line) → AllUses P (flat_map uses_in (acts_in_unit lines)) → AllSay Uses lines
   used_lines [] h = tt
-  used_lines (s ∷ rest) h = let k = uses_split P (uses_in s.act) (flat_map uses_in (acts_of rest)) h in (k.0, used_lines rest k.1)
+  used_lines (s ∷ rest) h = let k = uses_split P (uses_in s.act) (flat_map uses_in (acts_in_unit rest)) h in (k.0, used_lines rest k.1)
 
   pub said_used : (acts : List Act) → AllOf Uses acts → AllUses P (flat_map uses_in acts)
   said_used [] h = tt
@@ -162,11 +162,11 @@ module _ (c d : Context) (said acts : List Act) (spare : Text) (classed : (u : U
   scalar_form forms.Plain e = refl
 
   -- the spare name, where the unit uses it
-  pub spare_right : is_array d spare ≡ false → (((f : Usage → Option Class) → AllUses (λ v. f v ≡ None) (flat_map uses_in acts) → f (usage spare Alone) ≡ None)) → misuses d acts (usage spare Alone) ≡ false
+  pub spare_right : is_array_name d spare ≡ false → (((f : Usage → Option Class) → AllUses (λ v. f v ≡ None) (flat_map uses_in acts) → f (usage spare Alone) ≡ None)) → misuses d acts (usage spare Alone) ≡ false
   spare_right plain there = by (class_of d acts spare) refl
     where
       used : class_used d (usage spare Alone) ≡ Some Scalar
-      used = scalar_form (form_of d spare) plain
+      used = scalar_form (name_form d spare) plain
 
       by_use : (j : Class) → (v : Usage) → Right c said spare v → spare ≡ v.name → class_used d v ≡ Some j → same_class Scalar j ≡ true
       by_use j v (inl e) name gives =

@@ -10,14 +10,14 @@ use Rattle.rule_table.specs.Words.{repeats}
 use Rattle.ground.specs.declared.fault.FaultKind.{FaultKind}
 use Rattle.ground.specs.declared.fault.FaultKind.TheVariants.{DuplicateName}
 use Rattle.f66_tree.specs.declared.declaration.TypeWord.TheVariants.{Integer}
-use Rattle.f66_tree.specs.Forms.{Text, Par, Declared, Act, Types, Dimensions, Commons, MainUnit, Line}
+use Rattle.f66_tree.specs.Syntax.{Text, Par, Declared, Act, Typed, Dimension, Common, MainUnit, Line}
 use Rattle.f66_tree.specs.Units.{is_note, Note, Context, notes_of, if_any, sizes_in, sizes_by, sizes_of, type_in, by_letter, kind_by}
 use Rattle.f66_tree.specs.Evaluation.{AnIntrinsic, Intrinsic, known, intrinsics, array_or}
 use Rattle.name_alloc.specs.Numbers.{next_number}
 use Rattle.name_alloc.specs.MadeNames.{made_name, unused, keeping_all}
 use Rattle.name_alloc.proofs.KeptNames.{kept_letter}
 use Rattle.f66_names.specs.Shapes.{is_capital, is_digit, is_name}
-use Rattle.f66_names.specs.Sorts.{form_by, form_of, type_of, is_array_form, is_array}
+use Rattle.f66_names.specs.Sorts.{form_by, name_form, type_of, is_array_form, is_array_name}
 use Rattle.f66_names.specs.Declaring.{noted, context_by, typed_in, declared_in, sized_in, types, sizes}
 use Rattle.f66_names.specs.declared.name_form.Manner.TheVariants.{Alone}
 use Rattle.f66_names.specs.Uses.{Usage, usage, uses_in}
@@ -25,13 +25,13 @@ use Rattle.f66_names.specs.NameRules.{is_other, redeclares, misuses}
 use Rattle.f66_names.specs.BuiltActs.{is_built_form, is_built}
 use Rattle.f66_names.specs.Rules.{breaks_name}
 use Rattle.f66_names.proofs.JumpLemmas.{IsScalar}
-use Rattle.f66_sound.specs.SoundUnits.{acts_of}
+use Rattle.f66_soundness.specs.SoundUnits.{acts_in_unit}
 use Rattle.f66_check.specs.Answers.{IsSound}
-use Rattle.rat_tree.specs.Commands.{Commands}
-use Rattle.rat_check.specs.Parts.{Form, Rests, Repeating, Says, Asks, Takes, Compares, Prepares, Counting, Leaving, Returning, Part, unit_parts}
-use Rattle.rat_check.specs.Said.{said_by, said_in, context_of}
-use Rattle.rat_check.specs.Rules.{is_ratfor, nothing_before, Whole}
-use Rattle.rat_check.specs.FirstFault.{whole_of, fault_of_parts}
+use Rattle.rat_tree.specs.Syntax.{Commands}
+use Rattle.rat_check.specs.Parts.{Form, Bare, RepeatHead, Statement, Condition, Selector, CaseList, ForHead, DoHead, LoopExit, ReturnHead, Part, unit_parts}
+use Rattle.rat_check.specs.Said.{said_by, said_in, context_of_parts}
+use Rattle.rat_check.specs.Rules.{is_ratfor, nothing_before, UnitRules}
+use Rattle.rat_check.specs.FirstFault.{unit_whole, fault_of_parts}
 use Rattle.rat_check.proofs.CleanLemmas.{and_true}
 use Rattle.rat_check.proofs.SaidLemmas.{AllClean, said_clean}
 use Rattle.rat_lower.specs.Code.{have_switch, all_code, ends_so, stop_unless, declared_if, unit_code}
@@ -54,12 +54,12 @@ use Rattle.rat_lower.proofs.Checks.{clean, fine, all_built, says, lacking}
 abbrev stripped : List Note → List Note
 stripped notes = map (λ n. record { label = None; act = n.act }) notes
 
-noted_lines : (code : List Line) → noted (acts_of code) ≡ stripped (notes_of code)
+noted_lines : (code : List Line) → noted (acts_in_unit code) ≡ stripped (notes_of code)
 noted_lines [] = refl
 noted_lines (s ∷ rest) = by (is_note s.act) (noted_lines rest)
   where
-    by : (v : Bool) → noted (acts_of rest) ≡ stripped (notes_of rest) →
-        (if v then (record { label = None; act = s.act } ∷ noted (acts_of rest)) else noted (acts_of rest)) ≡ stripped (if v then (record { label = s.label; act = s.act } ∷ notes_of rest) else notes_of rest)
+    by : (v : Bool) → noted (acts_in_unit rest) ≡ stripped (notes_of rest) →
+        (if v then (record { label = None; act = s.act } ∷ noted (acts_in_unit rest)) else noted (acts_in_unit rest)) ≡ stripped (if v then (record { label = s.label; act = s.act } ∷ notes_of rest) else notes_of rest)
     by true h = ap (λ ns. record { label = None; act = s.act } ∷ ns) h
     by false h = h
 
@@ -76,18 +76,18 @@ noted_act true l a more rest e = ap (λ ns. record { label = None; act = a } ∷
 noted_act false l a more rest e = e
 
 noted_form : (l : Option ℕ) (form : Form) (more : List Act) (rest : List Note) → is_ratfor form ≡ true → noted more ≡ stripped rest → noted (said_by form ++ more) ≡ stripped (form_note l form rest)
-noted_form l Rests more rest is e = e
-noted_form l Repeating more rest is e = e
-noted_form l (Says a) more rest is e = noted_act (is_note a) l a more rest e
-noted_form l (Asks f) more rest is e = e
-noted_form l (Takes f) more rest is e = e
-noted_form l (Compares es second) more rest is e = noted_past (said_by (Compares es second)) more (values_so Runs (λ f. refl) es) ∙ e
-noted_form l (Prepares a f b) more rest is e = noted_past (said_by (Prepares a f b)) more (prepared_so Runs (λ x g. refl) (λ g. refl) a f b is) ∙ e
-noted_form l (Counting x a b c) more rest is e = e
-noted_form l (Leaving n) more rest is e = e
-noted_form l Returning more rest is e = e
+noted_form l Bare more rest is e = e
+noted_form l RepeatHead more rest is e = e
+noted_form l (Statement a) more rest is e = noted_act (is_note a) l a more rest e
+noted_form l (Condition f) more rest is e = e
+noted_form l (Selector f) more rest is e = e
+noted_form l (CaseList es second) more rest is e = noted_past (said_by (CaseList es second)) more (values_so Runs (λ f. refl) es) ∙ e
+noted_form l (ForHead a f b) more rest is e = noted_past (said_by (ForHead a f b)) more (prepared_so Runs (λ x g. refl) (λ g. refl) a f b is) ∙ e
+noted_form l (DoHead x a b c) more rest is e = e
+noted_form l (LoopExit n) more rest is e = e
+noted_form l ReturnHead more rest is e = e
 
-noted_said : (u : Whole) (vs : List Part) → AllFine u vs → noted (said_in vs) ≡ stripped (part_notes vs [])
+noted_said : (u : UnitRules) (vs : List Part) → AllFine u vs → noted (said_in vs) ≡ stripped (part_notes vs [])
 noted_said u [] h = refl
 noted_said u (v ∷ vs) h = noted_form v.label v.form (said_in vs) (part_notes vs []) h.0.ratfor (noted_said u vs h.1)
 
@@ -115,9 +115,9 @@ sizes_without q [] others h = refl
 sizes_without q (d ∷ ds) others h = ap (λ b. if b then if_any d.sizes (sizes_in q ds others) else sizes_in q ds others) (never_itself q d.name (λ e. h.0 (sym e))) ∙ sizes_without q ds others h.1
 
 act_without : (q : Text) (a : Act) (others : List Par) → is_built_form a ≡ true → AllDeclared (λ x. x ≢ q) (declared_in a) → sizes_by q a others ≡ others
-act_without q (Types t ds) others is h = sizes_without q ds others h
-act_without q (Dimensions ds) others is h = sizes_without q ds others h
-act_without q (Commons areas) others is h = absurd (true≢false (sym is))
+act_without q (Typed t ds) others is h = sizes_without q ds others h
+act_without q (Dimension ds) others is h = sizes_without q ds others h
+act_without q (Common areas) others is h = absurd (true≢false (sym is))
 act_without q _ others is h = refl
 
 none_sized : (c : Context) (q : Text) (acts : List Act) → AllOf (λ a. (is_built c a ≡ true) × Lacking q a) acts → sizes_of q (noted acts) ≡ []
@@ -183,7 +183,7 @@ uses_both : (P Q : Usage → Type 0) (us : List Usage) → AllUses P us → AllU
 uses_both P Q [] h k = tt
 uses_both P Q (u ∷ us) h k = ((h.0, k.0), uses_both P Q us h.1 k.1)
 
-get_act : (code : List Line) (i : ℕ) (s : Line) → slice_get code i ≡ Some s → slice_get (acts_of code) i ≡ Some s.act
+get_act : (code : List Line) (i : ℕ) (s : Line) → slice_get code i ≡ Some s → slice_get (acts_in_unit code) i ≡ Some s.act
 get_act [] i s e = absurd (cc)
 get_act (x ∷ rest) zero s e = let same : x ≡ s = cc in ap (λ (y : Line). Some y.act) same
 get_act (x ∷ rest) (suc i) s e = get_act rest i s e
@@ -204,7 +204,7 @@ module _ (ss : Commands) (accepted : fault_of_parts (unit_parts ss) ≡ None) (f
   said = said_in vs
 
   abbrev c : Context
-  c = context_of vs
+  c = context_of_parts vs
 
   abbrev added : Bool
   added = ends_so false (all_code made q ss 0 [] [])
@@ -216,7 +216,7 @@ module _ (ss : Commands) (accepted : fault_of_parts (unit_parts ss) ≡ None) (f
   lines_by v = declared_if v first q code1
 
   abbrev acts_by : Bool → List Act
-  acts_by v = acts_of (lines_by v)
+  acts_by v = acts_in_unit (lines_by v)
 
   abbrev d : Bool → Context
   d v = context_by MainUnit (acts_by v)
@@ -231,30 +231,30 @@ module _ (ss : Commands) (accepted : fault_of_parts (unit_parts ss) ≡ None) (f
   used_others = of_weaker (λ a. AllUsed K (uses_in a)) (Lacking q) said (λ a h. (lacking_parts q a h).1) (lacking ss accepted few)
 
   said_is_clean : AllClean c said 0 said
-  said_is_clean = said_clean (whole_of vs) nothing_before vs (clean ss accepted).keep
+  said_is_clean = said_clean (unit_whole vs) nothing_before vs (clean ss accepted).keep
 
   -- ---- names mean the same ----
 
-  same_notes : noted (acts_of code1) ≡ noted said
+  same_notes : noted (acts_in_unit code1) ≡ noted said
   same_notes =
-      noted_lines code1 ∙ ap stripped (notes_whole made q ss added last ∙ unit_notes (whole_of vs) ss (fine ss accepted)) ∙ sym (noted_said (whole_of vs) vs (fine ss accepted))
+      noted_lines code1 ∙ ap stripped (notes_whole made q ss added last ∙ unit_notes (unit_whole vs) ss (fine ss accepted)) ∙ sym (noted_said (unit_whole vs) vs (fine ss accepted))
 
   either_way : (w : Bool) (others : List Par) → (if w then others else others) ≡ others
   either_way true others = refl
   either_way false others = refl
 
   same_sizes : (v : Bool) (x : Text) → sizes_of x (noted (acts_by v)) ≡ sizes_of x (noted said)
-  same_sizes true x = either_way (bytes_eq x q) (sizes_of x (noted (acts_of code1))) ∙ ap (sizes_of x) same_notes
+  same_sizes true x = either_way (bytes_eq x q) (sizes_of x (noted (acts_in_unit code1))) ∙ ap (sizes_of x) same_notes
   same_sizes false x = ap (sizes_of x) same_notes
 
   same_types : (v : Bool) (x : Text) → K x → type_of (d v) x ≡ type_of c x
-  same_types true x k = ap (λ b. if b || false then Integer else type_in x (noted (acts_of code1)) (by_letter x)) (never_itself x q k) ∙ ap (λ ns. type_in x ns (by_letter x)) same_notes
+  same_types true x k = ap (λ b. if b || false then Integer else type_in x (noted (acts_in_unit code1)) (by_letter x)) (never_itself x q k) ∙ ap (λ ns. type_in x ns (by_letter x)) same_notes
   same_types false x k = ap (λ ns. type_in x ns (by_letter x)) same_notes
 
-  same_forms : (v : Bool) (x : Text) → form_of (d v) x ≡ form_of c x
+  same_forms : (v : Bool) (x : Text) → name_form (d v) x ≡ name_form c x
   same_forms v x = ap (λ ns. form_by (array_or ns x)) (same_sizes v x)
 
-  plain : (v : Bool) → is_array (d v) q ≡ false
+  plain : (v : Bool) → is_array_name (d v) q ≡ false
   plain v = ap is_array_form (same_forms v q) ∙ ap (λ ns. is_array_form (form_by (array_or ns q))) (none_sized c q said built_lacking) ∙ no_array intrinsics q
 
   -- ---- names are used in their classes ----
@@ -264,7 +264,7 @@ module _ (ss : Commands) (accepted : fault_of_parts (unit_parts ss) ≡ None) (f
       uses_both (λ u. u.name ≢ q) (λ u. misuses c said u ≡ false) (flat_map uses_in said) (said_used (λ u. u.name ≢ q) said used_others)
       (said_used (λ u. misuses c said u ≡ false) said (of_weaker (Uses (λ u. misuses c said u ≡ false)) (CleanThere c said) said (no_misuse c said) (clean_there c said 0 said said_is_clean)))
 
-  code_right : AllUses (Right c said q) (flat_map uses_in (acts_of code1))
+  code_right : AllUses (Right c said q) (flat_map uses_in (acts_in_unit code1))
   code_right =
       lines_used (Right c said q) code1
       (good_unit (Uses (Right c said q)) made q (uses_keep (Right c said q)) ss added last (λ e. uses_keep_values (Right c said q) q (inl refl))
@@ -322,7 +322,7 @@ module _ (ss : Commands) (accepted : fault_of_parts (unit_parts ss) ≡ None) (f
 
   -- ---- nothing is declared again ----
 
-  same_declarations : declarations (acts_of code1) ≡ declarations said
+  same_declarations : declarations (acts_in_unit code1) ≡ declarations said
   same_declarations = ap (map (λ (n : Note). n.act)) same_notes
 
   all_anew : (v : Bool) → Anew [] (acts_by v)
@@ -342,7 +342,7 @@ module _ (ss : Commands) (accepted : fault_of_parts (unit_parts ss) ≡ None) (f
   itself = (bytes_eq-Decides q q).1 refl
 
   typed_integer : type_of (d true) q ≡ Integer
-  typed_integer = ap (λ b. if b || false then Integer else type_in q (noted (acts_of code1)) (by_letter q)) itself
+  typed_integer = ap (λ b. if b || false then Integer else type_in q (noted (acts_in_unit code1)) (by_letter q)) itself
 
   spare_there : have_switch ss ≡ true → (N : Usage → Type 0) → AllUses N (flat_map uses_in (acts_by true)) → N (usage q Alone)
   spare_there e N h = (store_in (Uses N) made q (uses_back N q) ss 0 [] (stop_unless added last) e (used_lines N code1 h)).1.0

@@ -2,11 +2,12 @@
 use Rattle.std.proofs.Common.{◌≡◌, ℕ, ◌+◌, List, [], ◌∷◌, Option, Some, None, Bool, true, false, refl, arith}
 use Rattle.std.specs.Prelude.{nat_eq}
 use Rattle.ground.specs.declared.place.Place.{Place}
-use Rattle.f66_tree.specs.Forms.{Text, Formula, Formulas, Nought, Also, Act, Assigns, Goes, Selects, Signs, Chooses, Loops, Invokes, Passes, Stops, Returns, Reads, Writes, Formats, Types, Dimensions, Commons, Equivalences, Presets, Line}
+use Rattle.f66_tree.specs.Syntax.{Text, Formula, Formulas, NoFormula, AndFormula, Act, Assign, Goto, Computed, Sign, When, Loop, Invoke, Continue, Stop, Return, Read, Write, Format, Typed, Dimension, Common, Equivalence, Preset, Line}
 use Rattle.f66_tree.specs.Execution.{has_label}
-use Rattle.rat_tree.specs.Commands.{Command, Empty, Together, When, Either, Whilst, Through, Repeats, Until, Counts, Switches, Leaves, Turns, GivesBack, Plainly, Marked, Commands, NoCommand, AndCommand, Clauses, NoClause, AndClause}
+use Rattle.rat_tree.specs.Syntax.{Command, Empty, Block, If, IfElse, While, For, Repeat, RepeatUntil, Do, Switch, Break, Next, Plain, Labelled, Commands, NoCommand, AndCommand, Clauses, NoClause, AndClause}
 use Rattle.rat_lower.specs.Checked.{bit, IsBuilt, AreBuilt, ClausesBuilt, IsPlain, IsPlainIfAny}
 use Rattle.rat_lower.specs.Code.{each_test, tests, default_label, bodies, Rings, jump, unless, here, with_test, with_act, labels, all_labels, code_of, all_code}
+use Rattle.rat_tree.specs.Syntax as ratfor_tree
 
 pub same_number : (n : ℕ) → nat_eq n n ≡ true
 same_number n = grind arith
@@ -16,20 +17,20 @@ module _ (made : ℕ → ℕ) where
   abbrev mutual
     pub heads : ℕ → Command → ℕ → ℕ
     heads l (Empty p) n = 0
-    heads l (Together p ss) n = all_heads l ss n
-    heads l (When p e s) n = bit (nat_eq (made n) l) + heads l s (n + 1)
-    heads l (Either p e s t) n = bit (nat_eq (made n) l) + bit (nat_eq (made (n + 1)) l) + heads l s (n + 2) + heads l t (n + 2 + labels s)
-    heads l (Whilst p e s) n = bit (nat_eq (made n) l) + bit (nat_eq (made (n + 1)) l) + bit (nat_eq (made (n + 2)) l) + heads l s (n + 3)
-    heads l (Through p first e step s) n = bit (nat_eq (made n) l) + bit (nat_eq (made (n + 1)) l) + bit (nat_eq (made (n + 2)) l) + heads l s (n + 3)
-    heads l (Repeats p s) n = bit (nat_eq (made n) l) + bit (nat_eq (made (n + 1)) l) + bit (nat_eq (made (n + 2)) l) + heads l s (n + 3)
-    heads l (Until p s e q) n = bit (nat_eq (made n) l) + bit (nat_eq (made (n + 1)) l) + bit (nat_eq (made (n + 2)) l) + heads l s (n + 3)
-    heads l (Counts p x a b c s) n = bit (nat_eq (made (n + 1)) l) + heads l s (n + 2)
-    heads l (Switches p e cs) n = bit (nat_eq (made n) l) + clause_heads l cs (n + 1)
-    heads l (Leaves p k) n = 0
-    heads l (Turns p k) n = 0
-    heads l (GivesBack p e) n = 0
-    heads l (Plainly m p a) n = bit (has_label l m)
-    heads l (Marked m p s) n = bit (nat_eq m l) + heads l s n
+    heads l (Block p ss) n = all_heads l ss n
+    heads l (If p e s) n = bit (nat_eq (made n) l) + heads l s (n + 1)
+    heads l (IfElse p e s t) n = bit (nat_eq (made n) l) + bit (nat_eq (made (n + 1)) l) + heads l s (n + 2) + heads l t (n + 2 + labels s)
+    heads l (While p e s) n = bit (nat_eq (made n) l) + bit (nat_eq (made (n + 1)) l) + bit (nat_eq (made (n + 2)) l) + heads l s (n + 3)
+    heads l (For p first e step s) n = bit (nat_eq (made n) l) + bit (nat_eq (made (n + 1)) l) + bit (nat_eq (made (n + 2)) l) + heads l s (n + 3)
+    heads l (Repeat p s) n = bit (nat_eq (made n) l) + bit (nat_eq (made (n + 1)) l) + bit (nat_eq (made (n + 2)) l) + heads l s (n + 3)
+    heads l (RepeatUntil p s e q) n = bit (nat_eq (made n) l) + bit (nat_eq (made (n + 1)) l) + bit (nat_eq (made (n + 2)) l) + heads l s (n + 3)
+    heads l (Do p x a b c s) n = bit (nat_eq (made (n + 1)) l) + heads l s (n + 2)
+    heads l (Switch p e cs) n = bit (nat_eq (made n) l) + clause_heads l cs (n + 1)
+    heads l (Break p k) n = 0
+    heads l (Next p k) n = 0
+    heads l (ratfor_tree.Return p e) n = 0
+    heads l (Plain m p a) n = bit (has_label l m)
+    heads l (Labelled m p s) n = bit (nat_eq m l) + heads l s n
 
     pub all_heads : ℕ → Commands → ℕ → ℕ
     all_heads l NoCommand n = 0
@@ -42,20 +43,20 @@ module _ (made : ℕ → ℕ) where
   abbrev mutual
     pub dos : ℕ → Command → ℕ → ℕ
     dos l (Empty p) n = 0
-    dos l (Together p ss) n = all_dos l ss n
-    dos l (When p e s) n = dos l s (n + 1)
-    dos l (Either p e s t) n = dos l s (n + 2) + dos l t (n + 2 + labels s)
-    dos l (Whilst p e s) n = dos l s (n + 3)
-    dos l (Through p first e step s) n = dos l s (n + 3)
-    dos l (Repeats p s) n = dos l s (n + 3)
-    dos l (Until p s e q) n = dos l s (n + 3)
-    dos l (Counts p x a b c s) n = bit (nat_eq (made n) l) + dos l s (n + 2)
-    dos l (Switches p e cs) n = clause_dos l cs (n + 1)
-    dos l (Leaves p k) n = 0
-    dos l (Turns p k) n = 0
-    dos l (GivesBack p e) n = 0
-    dos l (Plainly m p a) n = 0
-    dos l (Marked m p s) n = dos l s n
+    dos l (Block p ss) n = all_dos l ss n
+    dos l (If p e s) n = dos l s (n + 1)
+    dos l (IfElse p e s t) n = dos l s (n + 2) + dos l t (n + 2 + labels s)
+    dos l (While p e s) n = dos l s (n + 3)
+    dos l (For p first e step s) n = dos l s (n + 3)
+    dos l (Repeat p s) n = dos l s (n + 3)
+    dos l (RepeatUntil p s e q) n = dos l s (n + 3)
+    dos l (Do p x a b c s) n = bit (nat_eq (made n) l) + dos l s (n + 2)
+    dos l (Switch p e cs) n = clause_dos l cs (n + 1)
+    dos l (Break p k) n = 0
+    dos l (Next p k) n = 0
+    dos l (ratfor_tree.Return p e) n = 0
+    dos l (Plain m p a) n = 0
+    dos l (Labelled m p s) n = dos l s n
 
     pub all_dos : ℕ → Commands → ℕ → ℕ
     all_dos l NoCommand n = 0
@@ -71,7 +72,7 @@ occurs l [] = 0
 occurs l (s ∷ rest) = bit (has_label l s.label) + occurs l rest
 
 abbrev pub names : ℕ → Act → Bool
-names l (Loops m x a b c) = nat_eq m l
+names l (Loop m x a b c) = nat_eq m l
 names l _ = false
 
 abbrev pub ends : ℕ → List Line → ℕ
@@ -79,24 +80,24 @@ ends l [] = 0
 ends l (s ∷ rest) = bit (names l s.act) + ends l rest
 
 pub plain_names : (l : ℕ) (a : Act) → IsPlain a → bit (names l a) ≡ 0
-plain_names l (Assigns y e) is = refl
-plain_names l (Goes m) is = refl
-plain_names l (Selects ms y) is = refl
-plain_names l (Signs e i1 i2 i3) is = refl
-plain_names l (Chooses e a) is = absurd is
-plain_names l (Loops m y i1 i2 i3) is = absurd is
-plain_names l (Invokes y es) is = refl
-plain_names l Passes is = refl
-plain_names l (Stops i) is = refl
-plain_names l Returns is = refl
-plain_names l (Reads i m es) is = refl
-plain_names l (Writes i m es) is = refl
-plain_names l (Formats fs) is = refl
-plain_names l (Types t es) is = refl
-plain_names l (Dimensions es) is = refl
-plain_names l (Commons es) is = refl
-plain_names l (Equivalences es) is = refl
-plain_names l (Presets es) is = refl
+plain_names l (Assign y e) is = refl
+plain_names l (Goto m) is = refl
+plain_names l (Computed ms y) is = refl
+plain_names l (Sign e i1 i2 i3) is = refl
+plain_names l (When e a) is = absurd is
+plain_names l (Loop m y i1 i2 i3) is = absurd is
+plain_names l (Invoke y es) is = refl
+plain_names l Continue is = refl
+plain_names l (Stop i) is = refl
+plain_names l Return is = refl
+plain_names l (Read i m es) is = refl
+plain_names l (Write i m es) is = refl
+plain_names l (Format fs) is = refl
+plain_names l (Typed t es) is = refl
+plain_names l (Dimension es) is = refl
+plain_names l (Common es) is = refl
+plain_names l (Equivalence es) is = refl
+plain_names l (Preset es) is = refl
 
 pub occurs-test : (l : ℕ) (p : Place) (o : Option Formula) (m : ℕ) (next : List Line) → occurs l (with_test p o m next) ≡ occurs l next
 occurs-test l p None m next = refl
@@ -115,12 +116,12 @@ ends-act l p None next is = refl
 ends-act l p (Some a) next is = omega (arith, plain_names l a is)
 
 pub occurs-each : (l : ℕ) (x : Text) (p : Place) (es : Formulas) (q : ℕ) (next : List Line) → occurs l (each_test x p es q next) ≡ occurs l next
-occurs-each l x p Nought q next = refl
-occurs-each l x p (Also e es) q next = omega (arith, occurs-each l x p es q next)
+occurs-each l x p NoFormula q next = refl
+occurs-each l x p (AndFormula e es) q next = omega (arith, occurs-each l x p es q next)
 
 pub ends-each : (l : ℕ) (x : Text) (p : Place) (es : Formulas) (q : ℕ) (next : List Line) → ends l (each_test x p es q next) ≡ ends l next
-ends-each l x p Nought q next = refl
-ends-each l x p (Also e es) q next = omega (arith, ends-each l x p es q next)
+ends-each l x p NoFormula q next = refl
+ends-each l x p (AndFormula e es) q next = omega (arith, ends-each l x p es q next)
 
 module _ (made : ℕ → ℕ) (spare : Text) where
   pub occurs-tests : (l : ℕ) (cs : Clauses) (m : ℕ) (next : List Line) → occurs l (tests made spare cs m next) ≡ occurs l next
@@ -134,33 +135,33 @@ module _ (made : ℕ → ℕ) (spare : Text) where
   mutual
     pub occurs-code : (l : ℕ) (s : Command) (n : ℕ) (ls : Rings) (next : List Line) → IsBuilt s → occurs l (code_of made spare s n ls next) ≡ heads made l s n + dos made l s n + occurs l next
     occurs-code l (Empty p) n ls next is = omega arith
-    occurs-code l (Together p ss) n ls next is = occurs-all l ss n ls next is
-    occurs-code l (When p e s) n ls next is = omega (arith, occurs-code l s (n + 1) ls (here (made n) p ∷ next) is)
-    occurs-code l (Either p e s t) n ls next is =
+    occurs-code l (Block p ss) n ls next is = occurs-all l ss n ls next is
+    occurs-code l (If p e s) n ls next is = omega (arith, occurs-code l s (n + 1) ls (here (made n) p ∷ next) is)
+    occurs-code l (IfElse p e s t) n ls next is =
         omega (arith, occurs-code l s (n + 2) ls (jump p (made (n + 1)) ∷ here (made n) p ∷ code_of made spare t (n + 2 + labels s) ls (here (made (n + 1)) p ∷ next)) is.0, occurs-code l t (n + 2 + labels s) ls (here (made (n + 1)) p ∷ next) is.1)
-    occurs-code l (Whilst p e s) n ls next is =
+    occurs-code l (While p e s) n ls next is =
         omega (arith, occurs-code l s (n + 3) ((made (n + 2), made (n + 1)) ∷ ls) (here (made (n + 1)) p ∷ jump p (made n) ∷ here (made (n + 2)) p ∷ next) is)
-    occurs-code l (Through p first e step s) n ls next is =
+    occurs-code l (For p first e step s) n ls next is =
         let out = jump p (made n) ∷ here (made (n + 2)) p ∷ next in
         let mid = here (made (n + 1)) p ∷ with_act p step out in
         let inner = code_of made spare s (n + 3) ((made (n + 2), made (n + 1)) ∷ ls) mid in
         omega (arith, occurs-act l p first (here (made n) p ∷ with_test p e (made (n + 2)) inner), occurs-test l p e (made (n + 2)) inner, occurs-code l s (n + 3) ((made (n + 2), made (n + 1)) ∷ ls) mid is.2, occurs-act l p step out)
-    occurs-code l (Repeats p s) n ls next is =
+    occurs-code l (Repeat p s) n ls next is =
         omega (arith, occurs-code l s (n + 3) ((made (n + 2), made (n + 1)) ∷ ls) (here (made (n + 1)) p ∷ jump p (made n) ∷ here (made (n + 2)) p ∷ next) is)
-    occurs-code l (Until p s e q) n ls next is =
+    occurs-code l (RepeatUntil p s e q) n ls next is =
         omega (arith, occurs-code l s (n + 3) ((made (n + 2), made (n + 1)) ∷ ls) (here (made (n + 1)) p ∷ unless q e (made n) ∷ here (made (n + 2)) p ∷ next) is)
-    occurs-code l (Counts p x a b c s) n ls next is =
+    occurs-code l (Do p x a b c s) n ls next is =
         omega (arith, occurs-code l s (n + 2) ((made (n + 1), made n) ∷ ls) (here (made n) p ∷ here (made (n + 1)) p ∷ next) is)
-    occurs-code l (Switches p e cs) n ls next is =
+    occurs-code l (Switch p e cs) n ls next is =
         let last = here (made n) p ∷ next in
         let all = bodies made spare cs (n + 1) (made n) ls last in
         omega (arith, occurs-tests l cs (n + 1) (jump p (default_label made spare cs (n + 1) (made n)) ∷ all), occurs-bodies l cs (n + 1) (made n) ls last is)
-    occurs-code l (Leaves p k) n ls next is = omega arith
-    occurs-code l (Turns p k) n ls next is = omega arith
-    occurs-code l (GivesBack p None) n ls next is = omega arith
-    occurs-code l (GivesBack p (Some e)) n ls next is = omega arith
-    occurs-code l (Plainly m p a) n ls next is = omega arith
-    occurs-code l (Marked m p s) n ls next is = omega (arith, occurs-code l s n ls next is)
+    occurs-code l (Break p k) n ls next is = omega arith
+    occurs-code l (Next p k) n ls next is = omega arith
+    occurs-code l (ratfor_tree.Return p None) n ls next is = omega arith
+    occurs-code l (ratfor_tree.Return p (Some e)) n ls next is = omega arith
+    occurs-code l (Plain m p a) n ls next is = omega arith
+    occurs-code l (Labelled m p s) n ls next is = omega (arith, occurs-code l s n ls next is)
 
     pub occurs-all : (l : ℕ) (ss : Commands) (n : ℕ) (ls : Rings) (next : List Line) → AreBuilt ss → occurs l (all_code made spare ss n ls next) ≡ all_heads made l ss n + all_dos made l ss n + occurs l next
     occurs-all l NoCommand n ls next is = omega arith
@@ -175,33 +176,33 @@ module _ (made : ℕ → ℕ) (spare : Text) where
   mutual
     pub ends-code : (l : ℕ) (s : Command) (n : ℕ) (ls : Rings) (next : List Line) → IsBuilt s → ends l (code_of made spare s n ls next) ≡ dos made l s n + ends l next
     ends-code l (Empty p) n ls next is = omega arith
-    ends-code l (Together p ss) n ls next is = ends-all l ss n ls next is
-    ends-code l (When p e s) n ls next is = omega (arith, ends-code l s (n + 1) ls (here (made n) p ∷ next) is)
-    ends-code l (Either p e s t) n ls next is =
+    ends-code l (Block p ss) n ls next is = ends-all l ss n ls next is
+    ends-code l (If p e s) n ls next is = omega (arith, ends-code l s (n + 1) ls (here (made n) p ∷ next) is)
+    ends-code l (IfElse p e s t) n ls next is =
         omega (arith, ends-code l s (n + 2) ls (jump p (made (n + 1)) ∷ here (made n) p ∷ code_of made spare t (n + 2 + labels s) ls (here (made (n + 1)) p ∷ next)) is.0, ends-code l t (n + 2 + labels s) ls (here (made (n + 1)) p ∷ next) is.1)
-    ends-code l (Whilst p e s) n ls next is =
+    ends-code l (While p e s) n ls next is =
         omega (arith, ends-code l s (n + 3) ((made (n + 2), made (n + 1)) ∷ ls) (here (made (n + 1)) p ∷ jump p (made n) ∷ here (made (n + 2)) p ∷ next) is)
-    ends-code l (Through p first e step s) n ls next is =
+    ends-code l (For p first e step s) n ls next is =
         let out = jump p (made n) ∷ here (made (n + 2)) p ∷ next in
         let mid = here (made (n + 1)) p ∷ with_act p step out in
         let inner = code_of made spare s (n + 3) ((made (n + 2), made (n + 1)) ∷ ls) mid in
         omega (arith, ends-act l p first (here (made n) p ∷ with_test p e (made (n + 2)) inner) is.0, ends-test l p e (made (n + 2)) inner, ends-code l s (n + 3) ((made (n + 2), made (n + 1)) ∷ ls) mid is.2, ends-act l p step out is.1)
-    ends-code l (Repeats p s) n ls next is =
+    ends-code l (Repeat p s) n ls next is =
         omega (arith, ends-code l s (n + 3) ((made (n + 2), made (n + 1)) ∷ ls) (here (made (n + 1)) p ∷ jump p (made n) ∷ here (made (n + 2)) p ∷ next) is)
-    ends-code l (Until p s e q) n ls next is =
+    ends-code l (RepeatUntil p s e q) n ls next is =
         omega (arith, ends-code l s (n + 3) ((made (n + 2), made (n + 1)) ∷ ls) (here (made (n + 1)) p ∷ unless q e (made n) ∷ here (made (n + 2)) p ∷ next) is)
-    ends-code l (Counts p x a b c s) n ls next is =
+    ends-code l (Do p x a b c s) n ls next is =
         omega (arith, ends-code l s (n + 2) ((made (n + 1), made n) ∷ ls) (here (made n) p ∷ here (made (n + 1)) p ∷ next) is)
-    ends-code l (Switches p e cs) n ls next is =
+    ends-code l (Switch p e cs) n ls next is =
         let last = here (made n) p ∷ next in
         let all = bodies made spare cs (n + 1) (made n) ls last in
         omega (arith, ends-tests l cs (n + 1) (jump p (default_label made spare cs (n + 1) (made n)) ∷ all), ends-bodies l cs (n + 1) (made n) ls last is)
-    ends-code l (Leaves p k) n ls next is = omega arith
-    ends-code l (Turns p k) n ls next is = omega arith
-    ends-code l (GivesBack p None) n ls next is = omega arith
-    ends-code l (GivesBack p (Some e)) n ls next is = omega arith
-    ends-code l (Plainly m p a) n ls next is = omega (arith, plain_names l a is)
-    ends-code l (Marked m p s) n ls next is = omega (arith, ends-code l s n ls next is)
+    ends-code l (Break p k) n ls next is = omega arith
+    ends-code l (Next p k) n ls next is = omega arith
+    ends-code l (ratfor_tree.Return p None) n ls next is = omega arith
+    ends-code l (ratfor_tree.Return p (Some e)) n ls next is = omega arith
+    ends-code l (Plain m p a) n ls next is = omega (arith, plain_names l a is)
+    ends-code l (Labelled m p s) n ls next is = omega (arith, ends-code l s n ls next is)
 
     pub ends-all : (l : ℕ) (ss : Commands) (n : ℕ) (ls : Rings) (next : List Line) → AreBuilt ss → ends l (all_code made spare ss n ls next) ≡ all_dos made l ss n + ends l next
     ends-all l NoCommand n ls next is = omega arith

@@ -2,7 +2,7 @@
 use Rattle.std.proofs.Common.{◌≡◌, ◌≢◌, subst, ℕ, zero, suc, ◌+◌, ◌≤◌, ◌<◌, Bool, true, false, refl, ap, ◌∙◌, arith, ⊎_elim}
 use Rattle.std.specs.Prelude.{nat_eq}
 use Rattle.std.proofs.lemmas.Bool.{cases_lt, eqb-true}
-use Rattle.rat_tree.specs.Commands.{Command, Empty, Together, When, Either, Whilst, Through, Repeats, Until, Counts, Switches, Leaves, Turns, GivesBack, Plainly, Marked, Commands, NoCommand, AndCommand, Clauses, NoClause, AndClause}
+use Rattle.rat_tree.specs.Syntax.{Command, Empty, Block, If, IfElse, While, For, Repeat, RepeatUntil, Do, Switch, Break, Next, Return, Plain, Labelled, Commands, NoCommand, AndCommand, Clauses, NoClause, AndClause}
 use Rattle.rat_lower.specs.Checked.{bit, given, all_given, clause_given}
 use Rattle.rat_lower.specs.Code.{labels, all_labels, clause_labels}
 use Rattle.rat_lower.proofs.Counts.{heads, all_heads, clause_heads, dos, all_dos, clause_dos}
@@ -46,20 +46,20 @@ module _ (made : ℕ → ℕ) where
   mutual
     count : (l : ℕ) (s : Command) (n : ℕ) → heads made l s n + dos made l s n ≡ given l s + span l n (labels s)
     count l (Empty p) n = omega arith
-    count l (Together p ss) n = count-all l ss n
-    count l (When p e s) n = omega (arith, span-one l n (labels s), count l s (n + 1))
-    count l (Either p e s t) n = omega (arith, count l s (n + 2), count l t (n + 2 + labels s), span-add l (n + 2) (labels s) (labels t), span-two l n (labels s + labels t))
-    count l (Whilst p e s) n = omega (arith, span-three l n (labels s), count l s (n + 3))
-    count l (Through p first e step s) n = omega (arith, span-three l n (labels s), count l s (n + 3))
-    count l (Repeats p s) n = omega (arith, span-three l n (labels s), count l s (n + 3))
-    count l (Until p s e q) n = omega (arith, span-three l n (labels s), count l s (n + 3))
-    count l (Counts p x a b c s) n = omega (arith, span-two l n (labels s), count l s (n + 2))
-    count l (Switches p e cs) n = omega (arith, span-one l n (clause_labels cs), count-clauses l cs (n + 1))
-    count l (Leaves p k) n = omega arith
-    count l (Turns p k) n = omega arith
-    count l (GivesBack p e) n = omega arith
-    count l (Plainly m p a) n = omega arith
-    count l (Marked m p s) n = omega (arith, count l s n)
+    count l (Block p ss) n = count-all l ss n
+    count l (If p e s) n = omega (arith, span-one l n (labels s), count l s (n + 1))
+    count l (IfElse p e s t) n = omega (arith, count l s (n + 2), count l t (n + 2 + labels s), span-add l (n + 2) (labels s) (labels t), span-two l n (labels s + labels t))
+    count l (While p e s) n = omega (arith, span-three l n (labels s), count l s (n + 3))
+    count l (For p first e step s) n = omega (arith, span-three l n (labels s), count l s (n + 3))
+    count l (Repeat p s) n = omega (arith, span-three l n (labels s), count l s (n + 3))
+    count l (RepeatUntil p s e q) n = omega (arith, span-three l n (labels s), count l s (n + 3))
+    count l (Do p x a b c s) n = omega (arith, span-two l n (labels s), count l s (n + 2))
+    count l (Switch p e cs) n = omega (arith, span-one l n (clause_labels cs), count-clauses l cs (n + 1))
+    count l (Break p k) n = omega arith
+    count l (Next p k) n = omega arith
+    count l (Return p e) n = omega arith
+    count l (Plain m p a) n = omega arith
+    count l (Labelled m p s) n = omega (arith, count l s n)
 
     pub count-all : (l : ℕ) (ss : Commands) (n : ℕ) → all_heads made l ss n + all_dos made l ss n ≡ all_given l ss + span l n (all_labels ss)
     count-all l NoCommand n = omega arith

@@ -6,13 +6,13 @@ use Rattle.std.proofs.lemmas.Bool.Decides.{nat_tests}
 use Rattle.std.proofs.lemmas.Bool.{or_parts, or_from, and_left, and_right, le-ltb}
 use Rattle.ground.specs.declared.place.Place.{Place}
 use Rattle.rule_table.specs.Words.{first_place, is_below}
-use Rattle.f66_tree.specs.Forms.{Text, Act, Formats, Types, Dimensions, Commons, Equivalences, Line}
+use Rattle.f66_tree.specs.Syntax.{Text, Act, Format, Typed, Dimension, Common, Equivalence, Line}
 use Rattle.f66_flow.specs.Acts.{is_executable, is_specification, is_data, is_format}
 use Rattle.f66_flow.specs.FlowRules.{is_late as is_late_line}
-use Rattle.rat_tree.specs.Commands.{Command, Empty, Together, When, Either, Whilst, Through, Repeats, Until, Counts, Switches, Leaves, Turns, GivesBack, Plainly, Marked, Commands, NoCommand, AndCommand}
-use Rattle.rat_check.specs.Parts.{Form, Rests, Repeating, Says, Asks, Takes, Compares, Prepares, Counting, Leaving, Returning, Labels, Part, part, with_mark, with_labels, parts_of, parts_in, clause_parts}
+use Rattle.rat_tree.specs.Syntax.{Command, Empty, Block, If, IfElse, While, For, Repeat, RepeatUntil, Do, Switch, Break, Next, Return, Plain, Labelled, Commands, NoCommand, AndCommand}
+use Rattle.rat_check.specs.Parts.{Form, Bare, RepeatHead, Statement, Condition, Selector, CaseList, ForHead, DoHead, LoopExit, ReturnHead, Labels, Part, part, with_mark, with_labels, parts_of, parts_in, clause_parts}
 use Rattle.rat_check.specs.Said.{said_by}
-use Rattle.rat_check.specs.Rules.{is_ratfor, Before, begins, behind, Whole, is_late}
+use Rattle.rat_check.specs.Rules.{is_ratfor, Before, begins, behind, UnitRules, is_late_form}
 use Rattle.rat_check.proofs.CleanLemmas.{AllKeep}
 use Rattle.rat_lower.specs.Code.{Rings, labels, here, code_of, all_code, stop_unless}
 use Rattle.rat_lower.proofs.NoFault.{AllParts, split, Fine, AllFine, AllOf, SaysSo, values_so, prepared_so}
@@ -107,7 +107,7 @@ special_values spare = record { compared = λ e l h. refl; stored = λ e h. refl
 
 abbrev pub EarlyParts : Bool → List Part → Type 0
 EarlyParts begun [] = ⊤
-EarlyParts begun (v ∷ vs) = (is_late begun v.form ≡ false) × EarlyParts (begins v.label v.form || begun) vs
+EarlyParts begun (v ∷ vs) = (is_late_form begun v.form ≡ false) × EarlyParts (begins v.label v.form || begun) vs
 
 -- whether the executable statements have begun behind these parts
 abbrev after : Bool → List Part → Bool
@@ -120,7 +120,7 @@ or_turned true false = refl
 or_turned false true = refl
 or_turned false false = refl
 
-pub early_parts : (u : Whole) (b : Before) (vs : List Part) → AllKeep u b vs → EarlyParts b.begun vs
+pub early_parts : (u : UnitRules) (b : Before) (vs : List Part) → AllKeep u b vs → EarlyParts b.begun vs
 early_parts u b [] h = tt
 early_parts u b (v ∷ vs) h = (h.1.early, subst (λ x. EarlyParts x vs) (or_turned b.begun (begins v.label v.form)) (early_parts u (behind b v) vs h.2))
 
@@ -137,10 +137,10 @@ stays [] begun e = e
 stays (v ∷ vs) begun e = stays vs (begins v.label v.form || begun) (right_is (begins v.label v.form) begun e)
 
 abbrev Quiet : Part → Type 0
-Quiet v = is_late true v.form ≡ false
+Quiet v = is_late_form true v.form ≡ false
 
-late_true : (begun : Bool) (form : Form) → begun ≡ true → is_late begun form ≡ false → is_late true form ≡ false
-late_true begun form e h = sym (ap (λ b. is_late b form) e) ∙ h
+late_true : (begun : Bool) (form : Form) → begun ≡ true → is_late_form begun form ≡ false → is_late_form true form ≡ false
+late_true begun form e h = sym (ap (λ b. is_late_form b form) e) ∙ h
 
 all_quiet : (vs : List Part) (begun : Bool) → begun ≡ true → EarlyParts begun vs → AllParts Quiet vs
 all_quiet [] begun e h = tt
@@ -152,19 +152,19 @@ and_one : (a : Bool) → (a && true) ≡ false → a ≡ false
 and_one true e = e
 and_one false e = refl
 
-quiet_so : (form : Form) → is_ratfor form ≡ true → is_late true form ≡ false → AllOf NotSpecial (said_by form)
-quiet_so Rests is h = tt
-quiet_so Repeating is h = tt
-quiet_so (Says a) is h = (and_one (is_specification a) h, tt)
-quiet_so (Asks e) is h = (refl, tt)
-quiet_so (Takes e) is h = (refl, tt)
-quiet_so (Compares es second) is h = values_so NotSpecial (λ e. refl) es
-quiet_so (Prepares a e b) is h = prepared_so NotSpecial (λ x f. refl) (λ f. refl) a e b is
-quiet_so (Counting x a b c) is h = (refl, tt)
-quiet_so (Leaving n) is h = tt
-quiet_so Returning is h = tt
+quiet_so : (form : Form) → is_ratfor form ≡ true → is_late_form true form ≡ false → AllOf NotSpecial (said_by form)
+quiet_so Bare is h = tt
+quiet_so RepeatHead is h = tt
+quiet_so (Statement a) is h = (and_one (is_specification a) h, tt)
+quiet_so (Condition e) is h = (refl, tt)
+quiet_so (Selector e) is h = (refl, tt)
+quiet_so (CaseList es second) is h = values_so NotSpecial (λ e. refl) es
+quiet_so (ForHead a e b) is h = prepared_so NotSpecial (λ x f. refl) (λ f. refl) a e b is
+quiet_so (DoHead x a b c) is h = (refl, tt)
+quiet_so (LoopExit n) is h = tt
+quiet_so ReturnHead is h = tt
 
-all_quiet_so : (u : Whole) (vs : List Part) → AllFine u vs → AllParts Quiet vs → AllParts (SaysSo NotSpecial) vs
+all_quiet_so : (u : UnitRules) (vs : List Part) → AllFine u vs → AllParts Quiet vs → AllParts (SaysSo NotSpecial) vs
 all_quiet_so u [] h q = tt
 all_quiet_so u (v ∷ vs) h q = (quiet_so v.form h.0.ratfor q.0, all_quiet_so u vs h.1 q.1)
 
@@ -173,22 +173,22 @@ all_quiet_so u (v ∷ vs) h q = (quiet_so v.form h.0.ratfor q.0, all_quiet_so u 
 -- a control statement and a jump do
 abbrev starts : Command → Bool
 starts (Empty p) = false
-starts (Together p ss) = false
-starts (Plainly m p a) = false
-starts (Marked m p c) = false
+starts (Block p ss) = false
+starts (Plain m p a) = false
+starts (Labelled m p c) = false
 starts _ = true
 
 -- a form by itself
 abbrev opens : Form → Bool
-opens Rests = false
-opens (Says a) = false
+opens Bare = false
+opens (Statement a) = false
 opens _ = true
 
 opened : (l : Option ℕ) (form : Form) → opens form ≡ true → begins l form ≡ true
-opened None Rests e = absurd (true≢false (sym e))
-opened (Some l) Rests e = absurd (true≢false (sym e))
-opened None (Says a) e = absurd (true≢false (sym e))
-opened (Some l) (Says a) e = absurd (true≢false (sym e))
+opened None Bare e = absurd (true≢false (sym e))
+opened (Some l) Bare e = absurd (true≢false (sym e))
+opened None (Statement a) e = absurd (true≢false (sym e))
+opened (Some l) (Statement a) e = absurd (true≢false (sym e))
 opened None _ e = refl
 opened (Some l) _ e = refl
 
@@ -197,11 +197,11 @@ left_is a b e = ap (λ v. v || b) e
 
 -- what is executed is no specification and no FORMAT, and neither is a DATA
 executed : (a : Act) → begins_line a ≡ true → not (is_specification a || is_format a) ≡ true
-executed (Types t ds) e = absurd (true≢false (sym e))
-executed (Dimensions ds) e = absurd (true≢false (sym e))
-executed (Commons areas) e = absurd (true≢false (sym e))
-executed (Equivalences es) e = absurd (true≢false (sym e))
-executed (Formats f) e = absurd (true≢false (sym e))
+executed (Typed t ds) e = absurd (true≢false (sym e))
+executed (Dimension ds) e = absurd (true≢false (sym e))
+executed (Common areas) e = absurd (true≢false (sym e))
+executed (Equivalence es) e = absurd (true≢false (sym e))
+executed (Format f) e = absurd (true≢false (sym e))
 executed _ e = refl
 
 or_case : {A : Type 0} (a b : Bool) → (a || b) ≡ true → (a ≡ true → A) → (b ≡ true → A) → A
@@ -209,7 +209,7 @@ or_case true b e left right = left refl
 or_case false b e left right = right e
 
 -- what is executed begins
-says_begins : (m : Option ℕ) (a : Act) → begins_line a ≡ true → begins m (Says a) ≡ true
+says_begins : (m : Option ℕ) (a : Act) → begins_line a ≡ true → begins m (Statement a) ≡ true
 says_begins None a e = executed a e
 says_begins (Some m) a e = executed a e
 
@@ -223,39 +223,39 @@ behind_first begun v vs e q h =
     record { quiet = (q, all_quiet vs (begins v.label v.form || begun) open_now h.1); ends = stays vs (begins v.label v.form || begun) open_now }
 
 started : (c : Command) (k : ℕ) (r : Labels) (l : Option ℕ) (begun : Bool) → starts c ≡ true → EarlyParts begun (parts_of k r l c) → Begun begun (parts_of k r l c)
-started (When p e c) k r l begun is h = behind_first begun (part k r l p (Asks e)) (parts_of k r None c) (opened l (Asks e) refl) refl h
-started (Either p e c d) k r l begun is h = behind_first begun (part k r l p (Asks e)) (parts_of k r None c ++ parts_of k r None d) (opened l (Asks e) refl) refl h
-started (Whilst p e c) k r l begun is h = behind_first begun (part k r l p (Asks e)) (parts_of (suc k) r None c) (opened l (Asks e) refl) refl h
-started (Through p a e b c) k r l begun is h = behind_first begun (part k r l p (Prepares a e b)) (parts_of (suc k) r None c) (opened l (Prepares a e b) refl) refl h
-started (Repeats p c) k r l begun is h = behind_first begun (part k r l p Repeating) (parts_of (suc k) r None c) (opened l Repeating refl) refl h
-started (Until p c e q) k r l begun is h = behind_first begun (part k r l p Repeating) (parts_of (suc k) r None c ++ part k r None q (Asks e) ∷ []) (opened l Repeating refl) refl h
-started (Counts p x a b d c) k r l begun is h = behind_first begun (part k r l p (Counting x a b d)) (parts_of (suc k) r None c) (opened l (Counting x a b d) refl) refl h
-started (Switches p e cs) k r l begun is h = behind_first begun (part k r l p (Takes e)) (clause_parts k r false cs) (opened l (Takes e) refl) refl h
-started (Leaves p n) k r l begun is h = behind_first begun (part k r l p (Leaving n)) [] (opened l (Leaving n) refl) refl h
-started (Turns p n) k r l begun is h = behind_first begun (part k r l p (Leaving n)) [] (opened l (Leaving n) refl) refl h
-started (GivesBack p e) k r l begun is h = behind_first begun (part k r l p Returning) [] (opened l Returning refl) refl h
+started (If p e c) k r l begun is h = behind_first begun (part k r l p (Condition e)) (parts_of k r None c) (opened l (Condition e) refl) refl h
+started (IfElse p e c d) k r l begun is h = behind_first begun (part k r l p (Condition e)) (parts_of k r None c ++ parts_of k r None d) (opened l (Condition e) refl) refl h
+started (While p e c) k r l begun is h = behind_first begun (part k r l p (Condition e)) (parts_of (suc k) r None c) (opened l (Condition e) refl) refl h
+started (For p a e b c) k r l begun is h = behind_first begun (part k r l p (ForHead a e b)) (parts_of (suc k) r None c) (opened l (ForHead a e b) refl) refl h
+started (Repeat p c) k r l begun is h = behind_first begun (part k r l p RepeatHead) (parts_of (suc k) r None c) (opened l RepeatHead refl) refl h
+started (RepeatUntil p c e q) k r l begun is h = behind_first begun (part k r l p RepeatHead) (parts_of (suc k) r None c ++ part k r None q (Condition e) ∷ []) (opened l RepeatHead refl) refl h
+started (Do p x a b d c) k r l begun is h = behind_first begun (part k r l p (DoHead x a b d)) (parts_of (suc k) r None c) (opened l (DoHead x a b d) refl) refl h
+started (Switch p e cs) k r l begun is h = behind_first begun (part k r l p (Selector e)) (clause_parts k r false cs) (opened l (Selector e) refl) refl h
+started (Break p n) k r l begun is h = behind_first begun (part k r l p (LoopExit n)) [] (opened l (LoopExit n) refl) refl h
+started (Next p n) k r l begun is h = behind_first begun (part k r l p (LoopExit n)) [] (opened l (LoopExit n) refl) refl h
+started (Return p e) k r l begun is h = behind_first begun (part k r l p ReturnHead) [] (opened l ReturnHead refl) refl h
 started (Empty p) k r l begun is h = absurd (true≢false (sym is))
-started (Together p ss) k r l begun is h = absurd (true≢false (sym is))
-started (Plainly m p a) k r l begun is h = absurd (true≢false (sym is))
-started (Marked m p c) k r l begun is h = absurd (true≢false (sym is))
+started (Block p ss) k r l begun is h = absurd (true≢false (sym is))
+started (Plain m p a) k r l begun is h = absurd (true≢false (sym is))
+started (Labelled m p c) k r l begun is h = absurd (true≢false (sym is))
 
 -- behind a label all has begun
 labelled : (c : Command) (k : ℕ) (r : Labels) (m : ℕ) (begun : Bool) → EarlyParts begun (parts_of k r (Some m) c) → Begun begun (parts_of k r (Some m) c)
-labelled (Empty p) k r m begun h = behind_first begun (part k r (Some m) p Rests) [] refl refl h
-labelled (Together p ss) k r m begun h = behind_first begun (part k r (Some m) p Rests) (parts_in k (with_labels ss r) ss) refl refl h
-labelled (Plainly n p a) k r m begun h = behind_first begun (part k r (Some m) p Rests) (part k r n p (Says a) ∷ []) refl refl h
-labelled (Marked n p c) k r m begun h = behind_first begun (part k r (Some m) p Rests) (parts_of k r (Some n) c) refl refl h
-labelled (When p e c) k r m begun h = started (When p e c) k r (Some m) begun refl h
-labelled (Either p e c d) k r m begun h = started (Either p e c d) k r (Some m) begun refl h
-labelled (Whilst p e c) k r m begun h = started (Whilst p e c) k r (Some m) begun refl h
-labelled (Through p a e b c) k r m begun h = started (Through p a e b c) k r (Some m) begun refl h
-labelled (Repeats p c) k r m begun h = started (Repeats p c) k r (Some m) begun refl h
-labelled (Until p c e q) k r m begun h = started (Until p c e q) k r (Some m) begun refl h
-labelled (Counts p x a b d c) k r m begun h = started (Counts p x a b d c) k r (Some m) begun refl h
-labelled (Switches p e cs) k r m begun h = started (Switches p e cs) k r (Some m) begun refl h
-labelled (Leaves p n) k r m begun h = started (Leaves p n) k r (Some m) begun refl h
-labelled (Turns p n) k r m begun h = started (Turns p n) k r (Some m) begun refl h
-labelled (GivesBack p e) k r m begun h = started (GivesBack p e) k r (Some m) begun refl h
+labelled (Empty p) k r m begun h = behind_first begun (part k r (Some m) p Bare) [] refl refl h
+labelled (Block p ss) k r m begun h = behind_first begun (part k r (Some m) p Bare) (parts_in k (with_labels ss r) ss) refl refl h
+labelled (Plain n p a) k r m begun h = behind_first begun (part k r (Some m) p Bare) (part k r n p (Statement a) ∷ []) refl refl h
+labelled (Labelled n p c) k r m begun h = behind_first begun (part k r (Some m) p Bare) (parts_of k r (Some n) c) refl refl h
+labelled (If p e c) k r m begun h = started (If p e c) k r (Some m) begun refl h
+labelled (IfElse p e c d) k r m begun h = started (IfElse p e c d) k r (Some m) begun refl h
+labelled (While p e c) k r m begun h = started (While p e c) k r (Some m) begun refl h
+labelled (For p a e b c) k r m begun h = started (For p a e b c) k r (Some m) begun refl h
+labelled (Repeat p c) k r m begun h = started (Repeat p c) k r (Some m) begun refl h
+labelled (RepeatUntil p c e q) k r m begun h = started (RepeatUntil p c e q) k r (Some m) begun refl h
+labelled (Do p x a b d c) k r m begun h = started (Do p x a b d c) k r (Some m) begun refl h
+labelled (Switch p e cs) k r m begun h = started (Switch p e cs) k r (Some m) begun refl h
+labelled (Break p n) k r m begun h = started (Break p n) k r (Some m) begun refl h
+labelled (Next p n) k r m begun h = started (Next p n) k r (Some m) begun refl h
+labelled (Return p e) k r m begun h = started (Return p e) k r (Some m) begun refl h
 
 -- ---- statements ----
 
@@ -263,7 +263,7 @@ labelled (GivesBack p e) k r m begun h = started (GivesBack p e) k r (Some m) be
 abbrev Within : Bool → Bool → Type 0
 Within inner outer = inner ≡ true → outer ≡ true
 
-module _ (u : Whole) (made : ℕ → ℕ) (spare : Text) where
+module _ (u : UnitRules) (made : ℕ → ℕ) (spare : Text) where
   abbrev P : Part → Type 0
   P = Fine u
 
@@ -278,11 +278,11 @@ module _ (u : Whole) (made : ℕ → ℕ) (spare : Text) where
   mutual
     early_code : (c : Command) (k : ℕ) (r : Labels) (l : Option ℕ) (begun inner : Bool) (n : ℕ) (ls : Rings) (next : List Line) → Within inner begun →
         AllFine u (parts_of k r l c) → EarlyParts begun (parts_of k r l c) → ((d : Bool) → Within d (after begun (parts_of k r l c)) → Early d next) → Early inner (code_of made spare c n ls next)
-    early_code (Empty p) k r l begun inner n ls next may fine h rest = rest inner (λ e. right_is (begins l Rests) begun (may e))
-    early_code (Together p ss) k r l begun inner n ls next may fine h rest =
-        early_all ss k (with_labels ss r) (begins l Rests || begun) inner n ls next (λ e. right_is (begins l Rests) begun (may e)) fine.1 h.1 rest
-    early_code (Plainly m p a) k r (Some l) begun inner n ls next may fine h rest = quiet_code (Plainly m p a) k r (Some l) begun inner n ls next fine (labelled (Plainly m p a) k r l begun h) rest
-    early_code (Plainly m p a) k r None begun inner n ls next may fine h rest =
+    early_code (Empty p) k r l begun inner n ls next may fine h rest = rest inner (λ e. right_is (begins l Bare) begun (may e))
+    early_code (Block p ss) k r l begun inner n ls next may fine h rest =
+        early_all ss k (with_labels ss r) (begins l Bare || begun) inner n ls next (λ e. right_is (begins l Bare) begun (may e)) fine.1 h.1 rest
+    early_code (Plain m p a) k r (Some l) begun inner n ls next may fine h rest = quiet_code (Plain m p a) k r (Some l) begun inner n ls next fine (labelled (Plain m p a) k r l begun h) rest
+    early_code (Plain m p a) k r None begun inner n ls next may fine h rest =
         (by (is_specification a) inner may h.0, rest (begins_line a || inner) (still m a may))
       where
         by : (v b : Bool) → (b ≡ true → begun ≡ true) → (v && begun) ≡ false → (v && b) ≡ false
@@ -290,25 +290,25 @@ module _ (u : Whole) (made : ℕ → ℕ) (spare : Text) where
         by true false w e = refl
         by false b w e = refl
 
-        still : (m : Option ℕ) (a : Act) → (inner ≡ true → begun ≡ true) → (begins_line a || inner) ≡ true → (begins m (Says a) || begun) ≡ true
-        still m a w e = or_case (begins_line a) inner e (λ t. left_is (begins m (Says a)) begun (says_begins m a t)) (λ t. right_is (begins m (Says a)) begun (w t))
-    early_code (Marked m p c) k r l begun inner n ls next may fine h rest = marked l fine h rest
+        still : (m : Option ℕ) (a : Act) → (inner ≡ true → begun ≡ true) → (begins_line a || inner) ≡ true → (begins m (Statement a) || begun) ≡ true
+        still m a w e = or_case (begins_line a) inner e (λ t. left_is (begins m (Statement a)) begun (says_begins m a t)) (λ t. right_is (begins m (Statement a)) begun (w t))
+    early_code (Labelled m p c) k r l begun inner n ls next may fine h rest = marked l fine h rest
       where
         marked : (o : Option ℕ) → AllFine u (with_mark k r o p (parts_of k r (Some m) c)) → EarlyParts begun (with_mark k r o p (parts_of k r (Some m) c)) →
             ((d : Bool) → Within d (after begun (with_mark k r o p (parts_of k r (Some m) c))) → Early d next) → Early inner (here m p ∷ code_of made spare c n ls next)
         marked None f g go = (refl, quiet_code c k r (Some m) begun true n ls next f (labelled c k r m begun g) go)
         marked (Some o) f g go = (refl, quiet_code c k r (Some m) true true n ls next f.1 (labelled c k r m true g.1) go)
-    early_code (When p e c) k r l begun inner n ls next may fine h rest = quiet_code (When p e c) k r l begun inner n ls next fine (started (When p e c) k r l begun refl h) rest
-    early_code (Either p e c d) k r l begun inner n ls next may fine h rest = quiet_code (Either p e c d) k r l begun inner n ls next fine (started (Either p e c d) k r l begun refl h) rest
-    early_code (Whilst p e c) k r l begun inner n ls next may fine h rest = quiet_code (Whilst p e c) k r l begun inner n ls next fine (started (Whilst p e c) k r l begun refl h) rest
-    early_code (Through p a e b c) k r l begun inner n ls next may fine h rest = quiet_code (Through p a e b c) k r l begun inner n ls next fine (started (Through p a e b c) k r l begun refl h) rest
-    early_code (Repeats p c) k r l begun inner n ls next may fine h rest = quiet_code (Repeats p c) k r l begun inner n ls next fine (started (Repeats p c) k r l begun refl h) rest
-    early_code (Until p c e q) k r l begun inner n ls next may fine h rest = quiet_code (Until p c e q) k r l begun inner n ls next fine (started (Until p c e q) k r l begun refl h) rest
-    early_code (Counts p x a b d c) k r l begun inner n ls next may fine h rest = quiet_code (Counts p x a b d c) k r l begun inner n ls next fine (started (Counts p x a b d c) k r l begun refl h) rest
-    early_code (Switches p e cs) k r l begun inner n ls next may fine h rest = quiet_code (Switches p e cs) k r l begun inner n ls next fine (started (Switches p e cs) k r l begun refl h) rest
-    early_code (Leaves p m) k r l begun inner n ls next may fine h rest = quiet_code (Leaves p m) k r l begun inner n ls next fine (started (Leaves p m) k r l begun refl h) rest
-    early_code (Turns p m) k r l begun inner n ls next may fine h rest = quiet_code (Turns p m) k r l begun inner n ls next fine (started (Turns p m) k r l begun refl h) rest
-    early_code (GivesBack p e) k r l begun inner n ls next may fine h rest = quiet_code (GivesBack p e) k r l begun inner n ls next fine (started (GivesBack p e) k r l begun refl h) rest
+    early_code (If p e c) k r l begun inner n ls next may fine h rest = quiet_code (If p e c) k r l begun inner n ls next fine (started (If p e c) k r l begun refl h) rest
+    early_code (IfElse p e c d) k r l begun inner n ls next may fine h rest = quiet_code (IfElse p e c d) k r l begun inner n ls next fine (started (IfElse p e c d) k r l begun refl h) rest
+    early_code (While p e c) k r l begun inner n ls next may fine h rest = quiet_code (While p e c) k r l begun inner n ls next fine (started (While p e c) k r l begun refl h) rest
+    early_code (For p a e b c) k r l begun inner n ls next may fine h rest = quiet_code (For p a e b c) k r l begun inner n ls next fine (started (For p a e b c) k r l begun refl h) rest
+    early_code (Repeat p c) k r l begun inner n ls next may fine h rest = quiet_code (Repeat p c) k r l begun inner n ls next fine (started (Repeat p c) k r l begun refl h) rest
+    early_code (RepeatUntil p c e q) k r l begun inner n ls next may fine h rest = quiet_code (RepeatUntil p c e q) k r l begun inner n ls next fine (started (RepeatUntil p c e q) k r l begun refl h) rest
+    early_code (Do p x a b d c) k r l begun inner n ls next may fine h rest = quiet_code (Do p x a b d c) k r l begun inner n ls next fine (started (Do p x a b d c) k r l begun refl h) rest
+    early_code (Switch p e cs) k r l begun inner n ls next may fine h rest = quiet_code (Switch p e cs) k r l begun inner n ls next fine (started (Switch p e cs) k r l begun refl h) rest
+    early_code (Break p m) k r l begun inner n ls next may fine h rest = quiet_code (Break p m) k r l begun inner n ls next fine (started (Break p m) k r l begun refl h) rest
+    early_code (Next p m) k r l begun inner n ls next may fine h rest = quiet_code (Next p m) k r l begun inner n ls next fine (started (Next p m) k r l begun refl h) rest
+    early_code (Return p e) k r l begun inner n ls next may fine h rest = quiet_code (Return p e) k r l begun inner n ls next fine (started (Return p e) k r l begun refl h) rest
 
     early_all : (ss : Commands) (k : ℕ) (r : Labels) (begun inner : Bool) (n : ℕ) (ls : Rings) (next : List Line) → Within inner begun →
         AllFine u (parts_in k r ss) → EarlyParts begun (parts_in k r ss) → ((d : Bool) → Within d (after begun (parts_in k r ss)) → Early d next) → Early inner (all_code made spare ss n ls next)

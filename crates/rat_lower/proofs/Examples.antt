@@ -7,12 +7,12 @@ use Rattle.std.proofs.lemmas.Bool.{ne_eqb}
 use Rattle.std.proofs.lemmas.Slice.Eq.{bytes_eq-Decides}
 use Rattle.ground.specs.declared.fault.FaultKind.TheVariants.{NameTooLong, OutOfProfileType, BadLabel, BadBreak, Unbuilt}
 use Rattle.f66_tree.specs.declared.expression.Operator.TheVariants.{Add, Lt, Eq}
-use Rattle.f66_tree.specs.Forms.{Text, Joined, Nought, Also, Constant, Act, Goes, Stops, Line}
+use Rattle.f66_tree.specs.Syntax.{Text, Pair, NoFormula, AndFormula, Constant, Act, Goto, Stop, Line}
 use Rattle.f66_tree.specs.World.{Record, Shown, Ended, Done, GoesOn}
 use Rattle.f66_tree.specs.Agreement.{Agrees}
 use Rattle.f66_tree.specs.OneUnit.{executed}
 use Rattle.f66_tree.proofs.ExampleParts.{here, i, k, num, var, set, write, i3}
-use Rattle.rat_tree.specs.Commands.{Command, Together, When, Repeats, Until, Counts, Switches, Leaves, Turns, GivesBack, Plainly, Commands, NoCommand, AndCommand, NoClause, AndClause}
+use Rattle.rat_tree.specs.Syntax.{Command, Block, If, Repeat, RepeatUntil, Do, Switch, Break, Next, Return, Plain, Commands, NoCommand, AndCommand, NoClause, AndClause}
 use Rattle.rat_check.specs.Parts.{unit_parts}
 use Rattle.rat_check.specs.FirstFault.{fault_at, fault_of_parts}
 use Rattle.rat_lower.specs.Code.{unit_code}
@@ -26,14 +26,14 @@ all [] = NoCommand
 all (c ∷ cs) = AndCommand c (all cs)
 
 abbrev plain : ℕ → Act → Command
-plain p a = Plainly None (here p) a
+plain p a = Plain None (here p) a
 
 abbrev block : ℕ → List Command → Command
-block p cs = Together (here p) (all cs)
+block p cs = Block (here p) (all cs)
 
 -- 9 format(i3)
 abbrev format : Command
-format = Plainly i3.label i3.place i3.act
+format = Plain i3.label i3.place i3.act
 
 abbrev z : Text
 z = codes "Z00001"
@@ -53,10 +53,10 @@ runs cs most = executed (unit cs) [] most
 abbrev switch : List Command
 switch =
     plain 1 (set i (num (pos 2)))
-    ∷ Switches (here 2) (var i)
-    (AndClause (Also (num (pos 1)) Nought) false (all (plain 3 (set k (num (pos 1))) ∷ [])) (here 3)
-    (AndClause (Also (num (pos 3)) (Also (num (pos 2)) Nought)) false (all (plain 4 (set k (num (pos 7))) ∷ [])) (here 4)
-    (AndClause Nought true (all (plain 5 (set k (num (pos 9))) ∷ [])) (here 5) NoClause)))
+    ∷ Switch (here 2) (var i)
+    (AndClause (AndFormula (num (pos 1)) NoFormula) false (all (plain 3 (set k (num (pos 1))) ∷ [])) (here 3)
+    (AndClause (AndFormula (num (pos 3)) (AndFormula (num (pos 2)) NoFormula)) false (all (plain 4 (set k (num (pos 7))) ∷ [])) (here 4)
+    (AndClause NoFormula true (all (plain 5 (set k (num (pos 9))) ∷ [])) (here 5) NoClause)))
     ∷ plain 6 (write (k ∷ [])) ∷ format ∷ []
 
 switch_means : (shows switch 1).records ≡ codes "  7" ∷ []
@@ -113,8 +113,8 @@ switch_agrees input = unit_agrees (λ j. 23000 + j) z (here 1) (here 99) (all sw
 -- do i = 1, 3 { if (i == 2) next; write(6,9) i }; k = 0; 20 k = k + 1; if (k < 3) goto 20; write(6,9) k; stop
 abbrev loops : List Command
 loops =
-    Counts (here 1) i (Constant (pos 1)) (Constant (pos 3)) (Constant (pos 1)) (block 1 (When (here 2) (Joined Eq (var i) (num (pos 2))) (Turns (here 2) 1) ∷ plain 3 (write (i ∷ [])) ∷ []))
-    ∷ plain 4 (set k (num (pos 0))) ∷ Plainly (Some 20) (here 5) (set k (Joined Add (var k) (num (pos 1)))) ∷ When (here 6) (Joined Lt (var k) (num (pos 3))) (plain 6 (Goes 20)) ∷ plain 7 (write (k ∷ [])) ∷ plain 8 (Stops None) ∷ format ∷ []
+    Do (here 1) i (Constant (pos 1)) (Constant (pos 3)) (Constant (pos 1)) (block 1 (If (here 2) (Pair Eq (var i) (num (pos 2))) (Next (here 2) 1) ∷ plain 3 (write (i ∷ [])) ∷ []))
+    ∷ plain 4 (set k (num (pos 0))) ∷ Plain (Some 20) (here 5) (set k (Pair Add (var k) (num (pos 1)))) ∷ If (here 6) (Pair Lt (var k) (num (pos 3))) (plain 6 (Goto 20)) ∷ plain 7 (write (k ∷ [])) ∷ plain 8 (Stop None) ∷ format ∷ []
 
 loops_accepted : fault_of_parts (unit_parts (all loops)) ≡ None
 loops_accepted = refl
@@ -135,17 +135,17 @@ loops_go_on = refl
 
 -- break 2 in one loop
 abbrev too_far : Command
-too_far = Repeats (here 2) (block 2 (Leaves (here 3) 2 ∷ []))
+too_far = Repeat (here 2) (block 2 (Break (here 3) 2 ∷ []))
 
 loop_refused : fault_of_parts (unit_parts (all (plain 1 (set i (num (pos 1))) ∷ too_far ∷ []))) ≡ Some (fault_at (here 3) BadBreak)
 loop_refused = refl
 
 -- goto 10 to a label within braces
-label_refused : fault_of_parts (unit_parts (all (plain 1 (Goes 10) ∷ block 2 (Plainly (Some 10) (here 2) (set i (num (pos 1))) ∷ []) ∷ []))) ≡ Some (fault_at (here 1) BadLabel)
+label_refused : fault_of_parts (unit_parts (all (plain 1 (Goto 10) ∷ block 2 (Plain (Some 10) (here 2) (set i (num (pos 1))) ∷ []) ∷ []))) ≡ Some (fault_at (here 1) BadLabel)
 label_refused = refl
 
 -- a label that stands twice
-second_refused : fault_of_parts (unit_parts (all (Plainly (Some 10) (here 1) (set i (num (pos 1))) ∷ Plainly (Some 10) (here 2) (set i (num (pos 1))) ∷ []))) ≡ Some (fault_at (here 2) BadLabel)
+second_refused : fault_of_parts (unit_parts (all (Plain (Some 10) (here 1) (set i (num (pos 1))) ∷ Plain (Some 10) (here 2) (set i (num (pos 1))) ∷ []))) ≡ Some (fault_at (here 2) BadLabel)
 second_refused = refl
 
 -- a name of seven letters that would be real, and one of one letter
@@ -159,11 +159,11 @@ real_refused = refl
 format_refused : fault_of_parts (unit_parts (all (plain 1 (write (i ∷ [])) ∷ []))) ≡ Some (fault_at (here 1) BadLabel)
 format_refused = refl
 
-body_first : fault_of_parts (unit_parts (all (Until (here 1) (block 1 (Leaves (here 2) 0 ∷ [])) (Joined Lt (var (codes "A")) (num (pos 3))) (here 3) ∷ []))) ≡ Some (fault_at (here 2) BadBreak)
+body_first : fault_of_parts (unit_parts (all (RepeatUntil (here 1) (block 1 (Break (here 2) 0 ∷ [])) (Pair Lt (var (codes "A")) (num (pos 3))) (here 3) ∷ []))) ≡ Some (fault_at (here 2) BadBreak)
 body_first = refl
 
 -- a return behind a fault: what is not built goes first
-unbuilt_refused : fault_of_parts (unit_parts (all (plain 1 (Goes 10) ∷ GivesBack (here 2) None ∷ []))) ≡ Some (fault_at (here 2) Unbuilt)
+unbuilt_refused : fault_of_parts (unit_parts (all (plain 1 (Goto 10) ∷ Return (here 2) None ∷ []))) ≡ Some (fault_at (here 2) Unbuilt)
 unbuilt_refused = refl
 
 switch_accepted : fault_of_parts (unit_parts (all switch)) ≡ None

@@ -5,16 +5,16 @@ use Rattle.ground.specs.declared.place.Place.{Place}
 use Rattle.ground.specs.Content.{Content, Nothing, Whole, Truth}
 use Rattle.f66_tree.specs.declared.editing.Way.{Way}
 use Rattle.f66_tree.specs.declared.editing.Way.TheVariants.{Reading, Writing}
-use Rattle.f66_tree.specs.Forms.{Text, Formula, Par, Entries, Act, Assigns, Goes, Selects, Signs, Chooses, Loops, Invokes, Passes, Stops, Returns, Reads, Writes, Formats, Types, Dimensions, Commons, Equivalences, Presets}
+use Rattle.f66_tree.specs.Syntax.{Text, Formula, Par, Entries, Act, Assign, Goto, Computed, Sign, When, Loop, Invoke, Continue, Stop, Return, Read, Write, Format, Typed, Dimension, Common, Equivalence, Preset}
 use Rattle.f66_tree.specs.World.{World, counted, Ended, GoesOn, Lost, Out, Gives, Halts, bind, Try, Yields, Traps, Fails, IfYields, Move, Moves, Breaks, Misses, settle, moving, choose, taping, holding}
 use Rattle.f66_tree.specs.Units.{is_main, Spot, Linkage, Setting, Frame, format_of, around}
 use Rattle.f66_tree.specs.Evaluation.{stored, store_at, par_in, spots_of, ticked, value_of, locate, asks, variable_in, asked, held}
-use Rattle.f66_tree.specs.Statements.{Exit, Next, To, Back, Loop, loop_start, loop_turn, taped, items, item_turns, on_unit, opened_by, record_by, nth, label_at, by_sign_of, returned, invoked, does}
+use Rattle.f66_tree.specs.Statements.{Exit, Normal, To, Back, LoopParameters, loop_start, loop_turn, taped, items, item_turns, on_unit, opened_by, record_by, nth, label_at, by_sign_of, returned, invoked, does}
 use Rattle.f66_tree.specs.Records.{closed}
 use Rattle.f66_tree.proofs.Posts.{IfGives, post_any, post_bind, post_settle}
 use Rattle.f66_tree.proofs.Related.{Sides, Frames, two, Good, Holds, same_names, does_holds, asks_hold, value_holds, start_holds, turn_holds}
 use Rattle.f66_tree.proofs.AnyNames.{Any, AnySpot, any_scope, any_names, any_act, any_par, any_fair}
-use Rattle.rat_tree.specs.Commands.{Commands}
+use Rattle.rat_tree.specs.Syntax.{Commands}
 use Rattle.rat_lower.specs.Checked.{stands_in, AllStandIn, ActLands}
 
 -- a part that is not lost, of whose results P holds
@@ -107,7 +107,7 @@ module _ (l : Linkage) (alone : (x : Text) → l.find x ≡ None) (call : ℕ �
   free : (f : Frames) → Good twice f
   free f = record { places = tt; actuals = any_fair f.actuals }
 
-  many_fine : (n : ℕ) (f : Frames) (x : Text) (k : Loop) (m2 : World → Out ⊤) → ((w : World) → Fine Whatever (m2 w)) → (w : World) → Fine Whatever (item_turns n S (two f) x k m2 w)
+  many_fine : (n : ℕ) (f : Frames) (x : Text) (k : LoopParameters) (m2 : World → Out ⊤) → ((w : World) → Fine Whatever (m2 w)) → (w : World) → Fine Whatever (item_turns n S (two f) x k m2 w)
   many_fine zero f x k m2 h w = tt
   many_fine (suc n) f x k m2 h w =
       fine_bind Whatever Whatever (m2 (counted w)) _ (h (counted w)) (λ _ _ w2.
@@ -126,7 +126,7 @@ module _ (l : Linkage) (alone : (x : Text) → l.find x ≡ None) (call : ℕ �
   pub start_fine : (f : Frame) (x : Text) (a b c : Par) (w : World) → Fine Whatever (loop_start S f x a b c w)
   start_fine f x a b c w = start_holds ⊤ twice N holds_fine (both f) (free (both f)) x a b c tt (any_par a) (any_par b) (any_par c) w
 
-  pub turn_fine : (f : Frame) (x : Text) (k : Loop) (w : World) → Fine Whatever (loop_turn S f x k w)
+  pub turn_fine : (f : Frame) (x : Text) (k : LoopParameters) (w : World) → Fine Whatever (loop_turn S f x k w)
   turn_fine f x k w = turn_holds ⊤ twice N holds_fine (both f) (free (both f)) x tt k w
 
   does_not_lose : (f : Frame) (a : Act) (w : World) → Fine Whatever (does S f a w)
@@ -136,7 +136,7 @@ module _ (l : Linkage) (alone : (x : Text) → l.find x ≡ None) (call : ℕ �
 
   module _ (lists : List Commands) where
     abbrev pub ExitLands : Exit → Type 0
-    ExitLands Next = ⊤
+    ExitLands Normal = ⊤
     ExitLands (To l) = stands_in l lists ≡ true
     ExitLands Back = ⊤
 
@@ -183,25 +183,25 @@ module _ (l : Linkage) (alone : (x : Text) → l.find x ≡ None) (call : ℕ �
         through (taped f.place closed w4) _ (λ _ w5. tt)))))
 
     lands : (f : Frame) (a : Act) (w : World) → ActLands lists a → IfGives ExitLands (does S f a w)
-    lands f (Assigns x e) w h = through (locate S f x w) _ (λ p w1. through (value_of S f e w1) _ (λ v w2. through (store_at S f p v w2) _ (λ _ w3. tt)))
-    lands f (Goes m) w h = h
-    lands f (Selects ls x) w h = through (variable_in S f x w) _ (λ v w1. to_label f.place (label_at ls v) w1 (label_lands ls v h))
-    lands f (Signs e n m k) w h = through (value_of S f e w) _ (λ v w1. to_label f.place (by_sign_of n m k v) w1 (sign_lands n m k v h))
-    lands f (Chooses e a) w h = tt
-    lands f (Loops m x a b c) w h = tt
-    lands f (Invokes x es) w h = call_lands (l.find x) (spots_of S f es) w
-    lands f Passes w h = tt
-    lands f (Stops None) w h = tt
-    lands f (Stops (Some n)) w h = tt
-    lands f Returns w h = return_lands (is_main (around S f).header) w
-    lands f (Reads u m es) w h = record_lands f Reading u m es w
-    lands f (Writes u m es) w h = record_lands f Writing u m es w
-    lands f (Formats fs) w h = tt
-    lands f (Types t ds) w h = tt
-    lands f (Dimensions ds) w h = tt
-    lands f (Commons areas) w h = tt
-    lands f (Equivalences es) w h = tt
-    lands f (Presets ps) w h = tt
+    lands f (Assign x e) w h = through (locate S f x w) _ (λ p w1. through (value_of S f e w1) _ (λ v w2. through (store_at S f p v w2) _ (λ _ w3. tt)))
+    lands f (Goto m) w h = h
+    lands f (Computed ls x) w h = through (variable_in S f x w) _ (λ v w1. to_label f.place (label_at ls v) w1 (label_lands ls v h))
+    lands f (Sign e n m k) w h = through (value_of S f e w) _ (λ v w1. to_label f.place (by_sign_of n m k v) w1 (sign_lands n m k v h))
+    lands f (When e a) w h = tt
+    lands f (Loop m x a b c) w h = tt
+    lands f (Invoke x es) w h = call_lands (l.find x) (spots_of S f es) w
+    lands f Continue w h = tt
+    lands f (Stop None) w h = tt
+    lands f (Stop (Some n)) w h = tt
+    lands f Return w h = return_lands (is_main (around S f).header) w
+    lands f (Read u m es) w h = record_lands f Reading u m es w
+    lands f (Write u m es) w h = record_lands f Writing u m es w
+    lands f (Format fs) w h = tt
+    lands f (Typed t ds) w h = tt
+    lands f (Dimension ds) w h = tt
+    lands f (Common areas) w h = tt
+    lands f (Equivalence es) w h = tt
+    lands f (Preset ps) w h = tt
 
     pub does_fine : (f : Frame) (a : Act) (w : World) → ActLands lists a → Fine ExitLands (does S f a w)
     does_fine f a w h = fine_both ExitLands (does S f a w) (does_not_lose f a w) (lands f a w h)

@@ -7,12 +7,12 @@ use Rattle.std.proofs.lemmas.Bool.{or_from, or_parts, and_left, and_right, le-lt
 use Rattle.ground.specs.declared.fault.FaultKind.{FaultKind}
 use Rattle.ground.specs.declared.fault.FaultKind.TheVariants.{Syntax, BadLabel, DoNesting}
 use Rattle.rule_table.specs.Words.{first_place, last_place, is_some_and, is_below, is_number}
-use Rattle.f66_tree.specs.Forms.{Act, Loops, Line}
+use Rattle.f66_tree.specs.Syntax.{Act, Loop, Line}
 use Rattle.f66_tree.specs.Units.{is_note}
 use Rattle.f66_tree.specs.Execution.{has_label, from_label}
 use Rattle.f66_flow.specs.Acts.{is_executable, is_transfer, ends_no_range, branches, formats_named}
 use Rattle.f66_flow.specs.Ranges as range_words
-use Rattle.f66_flow.specs.Ranges.{place_of, named, range_end, range_ends, end_at, holds, some_below}
+use Rattle.f66_flow.specs.Ranges.{label_place, named, range_end, range_ends, end_at, holds, some_below}
 use Rattle.f66_flow.specs.FlowRules.{is_late, lacks_transfer, has_bad_label, leads_nowhere, names_no_format, leads_wrong, has_no_end, ends_wrong, overlaps, enters_at, enters, breaks_flow, breaks_flow_at, header_breaks_flow}
 use Rattle.f66_flow.specs.declared.scope.Scope.TheVariants.{Whole}
 use Rattle.f66_flow.proofs.NestLemmas.{none_below, held_parts, held_by}
@@ -60,7 +60,7 @@ module _ (test : Line → Bool) (count : List Line → ℕ) (step : (s : Line) (
 
 record Placed (code : List Line) (l : ℕ) (t : Line) (behind : List Line) : Type 0 where
   pub place : ℕ
-  pub is : place_of code l ≡ Some place
+  pub is : label_place code l ≡ Some place
   pub there : slice_get code place ≡ Some t
   pub on : from place code ≡ t ∷ behind
   pub named_so : named code l ≡ Some t
@@ -75,7 +75,7 @@ placed (s ∷ rest) l t behind e = by (has_label l s.label) refl (λ f. placed r
         let same : s ≡ t = cc in
         record {
           place = 0;
-          is = ap (λ v. cond v (Some 0) (option_map (λ n. n + 1) (place_of rest l))) h;
+          is = ap (λ v. cond v (Some 0) (option_map (λ n. n + 1) (label_place rest l))) h;
           there = ap (λ x. Some x) same;
           on = found;
           named_so = ap (λ v. cond v (Some s) (named rest l)) h ∙ ap (λ x. Some x) same;
@@ -85,7 +85,7 @@ placed (s ∷ rest) l t behind e = by (has_label l s.label) refl (λ f. placed r
         let more : r.place + 1 ≡ suc r.place = omega arith in
         record {
           place = suc r.place;
-          is = ap (λ v. cond v (Some 0) (option_map (λ n. n + 1) (place_of rest l))) h ∙ ap (option_map (λ n. n + 1)) r.is ∙ ap (λ n. Some n) more;
+          is = ap (λ v. cond v (Some 0) (option_map (λ n. n + 1) (label_place rest l))) h ∙ ap (option_map (λ n. n + 1)) r.is ∙ ap (λ n. Some n) more;
           there = r.there;
           on = r.on;
           named_so = ap (λ v. cond v (Some s) (named rest l)) h ∙ r.named_so;
@@ -97,17 +97,17 @@ record Has (code : List Line) (l p : ℕ) : Type 0 where
   pub there : slice_get code p ≡ Some line
   pub has : has_label l line.label ≡ true
 
-has_it : (code : List Line) (l p : ℕ) → place_of code l ≡ Some p → Has code l p
+has_it : (code : List Line) (l p : ℕ) → label_place code l ≡ Some p → Has code l p
 has_it [] l p e = absurd (cc)
-has_it (s ∷ rest) l p e = by (has_label l s.label) refl (place_of rest l) refl (λ n f. has_it rest l n f)
+has_it (s ∷ rest) l p e = by (has_label l s.label) refl (label_place rest l) refl (λ n f. has_it rest l n f)
   where
-    by : (v : Bool) → has_label l s.label ≡ v → (o : Option ℕ) → place_of rest l ≡ o → ((n : ℕ) → place_of rest l ≡ Some n → Has rest l n) → Has (s ∷ rest) l p
+    by : (v : Bool) → has_label l s.label ≡ v → (o : Option ℕ) → label_place rest l ≡ o → ((n : ℕ) → label_place rest l ≡ Some n → Has rest l n) → Has (s ∷ rest) l p
     by true h o f later =
-        let zero_is : 0 ≡ p = let q : Some 0 ≡ Some p = sym (ap (λ v. cond v (Some 0) (option_map (λ n. n + 1) (place_of rest l))) h) ∙ e in cc in
+        let zero_is : 0 ≡ p = let q : Some 0 ≡ Some p = sym (ap (λ v. cond v (Some 0) (option_map (λ n. n + 1) (label_place rest l))) h) ∙ e in cc in
         subst (λ n. Has (s ∷ rest) l n) zero_is (record { line = s; there = refl; has = h })
-    by false h None f later = let q : None ≡ Some p = sym (ap (λ v. cond v (Some 0) (option_map (λ n. n + 1) (place_of rest l))) h ∙ ap (option_map (λ n. n + 1)) f) ∙ e in absurd (cc)
+    by false h None f later = let q : None ≡ Some p = sym (ap (λ v. cond v (Some 0) (option_map (λ n. n + 1) (label_place rest l))) h ∙ ap (option_map (λ n. n + 1)) f) ∙ e in absurd (cc)
     by false h (Some n) f later =
-        let q : Some (n + 1) ≡ Some p = sym (ap (λ v. cond v (Some 0) (option_map (λ n. n + 1) (place_of rest l))) h ∙ ap (option_map (λ n. n + 1)) f) ∙ e in
+        let q : Some (n + 1) ≡ Some p = sym (ap (λ v. cond v (Some 0) (option_map (λ n. n + 1) (label_place rest l))) h ∙ ap (option_map (λ n. n + 1)) f) ∙ e in
         let m : n + 1 ≡ p = cc in
         let more : suc n ≡ p = omega (arith, m) in
         let r : Has rest l n = later n f in
@@ -116,7 +116,7 @@ has_it (s ∷ rest) l p e = by (has_label l s.label) refl (place_of rest l) refl
 -- ---- the last statement that is executed ----
 
 same_transfer : (a : Act) → code_words.is_transfer a ≡ is_transfer a
-same_transfer (Loops l x a b c) = refl
+same_transfer (Loop l x a b c) = refl
 same_transfer _ = refl
 
 abbrev Runs : Line → Bool
@@ -209,7 +209,7 @@ module _ (code : List Line) (unique : AreUnique code) (IsEnd : ℕ → Type 0) (
     pub inside : (p : ℕ) → holds all_ends d p ≡ true → (ends label (from p code) ≡ 0) × (1 ≤ occurs label (from p code))
     pub back : (p : ℕ) → ends label (from p code) ≡ 0 → 1 ≤ occurs label (from p code) → holds all_ends d p ≡ true
 
-  do_range : (d : ℕ) (s : Line) (l : ℕ) → slice_get code d ≡ Some s → names l s.act ≡ true → Ending code unique IsEnd (s ∷ from (suc d) code) l (from (suc d) code) → ((t : ℕ) → place_of code l ≡ Some t → end_at all_ends d ≡ t) → Ranged d
+  do_range : (d : ℕ) (s : Line) (l : ℕ) → slice_get code d ≡ Some s → names l s.act ≡ true → Ending code unique IsEnd (s ∷ from (suc d) code) l (from (suc d) code) → ((t : ℕ) → label_place code l ≡ Some t → end_at all_ends d ≡ t) → Ranged d
   do_range d s l is name ending ends_at =
       let P = placed code l (code_words.here l ending.place) ending.behind ending.found in
       let count : (p : ℕ) → p ≤ d → 1 ≤ ends l (from p code) = λ p le. counted_at (λ s1. names l s1.act) (ends l) (λ s1 rest. refl) code d p s is name le in
@@ -235,12 +235,12 @@ module _ (code : List Line) (unique : AreUnique code) (IsEnd : ℕ → Type 0) (
       parts = held_parts all_ends d p h
 
       by_act : (s : Line) → slice_get code d ≡ Some s → (a : Act) → s.act ≡ a → Ranged d
-      by_act s is (Loops l x a b c) act =
+      by_act s is (Loop l x a b c) act =
           do_range d s l is (ap (names l) act ∙ same_number l)
           (subst (λ y. EndsRight code unique IsEnd (s ∷ from (suc d) code) y (from (suc d) code)) act (lead_at code leads d s is).ending)
           (λ t e. end_of code d (Some s) is ∙ ap (range_end code) act ∙ place_is t e)
         where
-          place_is : (t : ℕ) → place_of code l ≡ Some t → range_end code (Loops l x a b c) ≡ t
+          place_is : (t : ℕ) → label_place code l ≡ Some t → range_end code (Loop l x a b c) ≡ t
           place_is t e = ap range_words.place_or_zero e
       by_act s is a act = absurd (let none : end_at all_ends d ≡ 0 = end_of code d (Some s) is ∙ ap (range_end code) act in omega (arith, parts.0, parts.1))
 
@@ -302,12 +302,12 @@ module _ (code : List Line) (unique : AreUnique code) (IsEnd : ℕ → Type 0) (
           let past : ¬ (P.place < suc i) = λ lt. absurd (omega (arith, labelled_past l P.place (suc i) (code_words.here l ending.place) P.there (same_number l) lt, ending.later)) in
           omega arith
 
-      end_right : (not (is_some_and (λ t. nat_lt i t) (place_of code l)) || is_some_and (λ t. ends_no_range t.act) (named code l)) ≡ false
+      end_right : (not (is_some_and (λ t. nat_lt i t) (label_place code l)) || is_some_and (λ t. ends_no_range t.act) (named code l)) ≡ false
       end_right =
           or_from _ _ (ap (λ o. not (is_some_and (λ t. nat_lt i t) o)) P.is ∙ ap not (lt-ltb i P.place behind_it))
           (ap (is_some_and (λ t. ends_no_range t.act)) P.named_so)
 
-      no_overlap : some_below i (λ d. holds all_ends d i && nat_lt (end_at all_ends d) (range_words.place_or_zero (place_of code l))) ≡ false
+      no_overlap : some_below i (λ d. holds all_ends d i && nat_lt (end_at all_ends d) (range_words.place_or_zero (label_place code l))) ≡ false
       no_overlap = none_below i _ (λ d lt. by d (holds all_ends d i) refl)
         where
           later : (d : ℕ) → holds all_ends d i ≡ true → P.place ≤ end_at all_ends d
@@ -323,20 +323,20 @@ module _ (code : List Line) (unique : AreUnique code) (IsEnd : ℕ → Type 0) (
               let some : 1 ≤ occurs q (from P.place code) = omega (arith, ending.leaves q r.is, k.0, k.1, e1, e2, e3, e4) in
               (held_parts all_ends d P.place (r.back P.place none some)).1
 
-          by : (d : ℕ) (v : Bool) → holds all_ends d i ≡ v → (holds all_ends d i && nat_lt (end_at all_ends d) (range_words.place_or_zero (place_of code l))) ≡ false
+          by : (d : ℕ) (v : Bool) → holds all_ends d i ≡ v → (holds all_ends d i && nat_lt (end_at all_ends d) (range_words.place_or_zero (label_place code l))) ≡ false
           by d true h = and_right (holds all_ends d i) _ (ap (λ o. nat_lt (end_at all_ends d) (range_words.place_or_zero o)) P.is ∙ le-ltb (end_at all_ends d) P.place (later d h))
           by d false h = and_left (holds all_ends d i) _ h
 
     -- each rule of ranges, by the statement
     ranges_right : (a : Act) → EndsRight code unique IsEnd here_on a (from (suc i) code) → (has_no_end code a ≡ false) × ((ends_wrong code i a || overlaps code i a) ≡ false)
-    ranges_right (Loops l x a b c) ending = (ends_there l ending, or_from _ _ (end_right l ending) (no_overlap l ending))
+    ranges_right (Loop l x a b c) ending = (ends_there l ending, or_from _ _ (end_right l ending) (no_overlap l ending))
     ranges_right _ ending = (refl, none_below i _ (λ d lt. and_right (holds all_ends d i) (nat_lt (end_at all_ends d) 0) (le-ltb (end_at all_ends d) 0 (omega arith))))
 
     label_right : (o : Option ℕ) → s.label ≡ o → has_bad_label code i s ≡ false
     label_right None e = ap (is_some_and _) e
     label_right (Some l) e =
-        ap (is_some_and (λ l. l == 0 || (nat_lt 99999 l || is_below i (place_of code l)))) e
-        ∙ or_from (l == 0) _ (not_zero l range.0) (or_from (nat_lt 99999 l) _ (le-ltb 99999 l range.1) (not_before (place_of code l) refl))
+        ap (is_some_and (λ l. l == 0 || (nat_lt 99999 l || is_below i (label_place code l)))) e
+        ∙ or_from (l == 0) _ (not_zero l range.0) (or_from (nat_lt 99999 l) _ (le-ltb 99999 l range.1) (not_before (label_place code l) refl))
       where
         mine : has_label l s.label ≡ true
         mine = ap (has_label l) e ∙ same_number l
@@ -347,7 +347,7 @@ module _ (code : List Line) (unique : AreUnique code) (IsEnd : ℕ → Type 0) (
         not_zero : (n : ℕ) → 1 ≤ n → (n == 0) ≡ false
         not_zero n le = grind (arith, le)
 
-        not_before : (o : Option ℕ) → place_of code l ≡ o → is_below i o ≡ false
+        not_before : (o : Option ℕ) → label_place code l ≡ o → is_below i o ≡ false
         not_before None f = refl
         not_before (Some p) f =
             let t = has_it code l p f in

@@ -5,12 +5,12 @@ use Rattle.std.specs.List.{list_all}
 use Rattle.ground.specs.declared.place.Place.{Place}
 use Rattle.ground.specs.declared.fault.FaultKind.{FaultKind}
 use Rattle.f66_tree.specs.Fields.{Fields}
-use Rattle.f66_tree.specs.Forms.{Text, Act, Line}
+use Rattle.f66_tree.specs.Syntax.{Text, Act, Line}
 use Rattle.f66_tree.specs.Units.{is_note, Note, notes_of, format_of}
 use Rattle.f66_flow.specs.Acts.{formats_named}
 use Rattle.f66_flow.specs.FlowRules.{breaks_flow_at, header_breaks_flow}
 use Rattle.f66_flow.specs.declared.scope.Scope.TheVariants.{Whole}
-use Rattle.rat_tree.specs.Commands.{Commands}
+use Rattle.rat_tree.specs.Syntax.{Commands}
 use Rattle.rat_lower.specs.Code.{have_switch, all_labels, all_code, is_transfer, ends_so, stop_unless, declared_if, unit_code}
 use Rattle.rat_lower.specs.OneUnit.{notes_of_unit}
 use Rattle.rat_lower.specs.Checked.{all_given, IsChecked}

@@ -7,11 +7,11 @@ use Rattle.std.proofs.Common.{◌≡◌, ℕ, zero, suc, ◌+◌, ◌*◌, ◌�
 use Rattle.std.specs.Prelude.{⊤}
 use Rattle.ground.specs.declared.place.Place.{Place}
 use Rattle.ground.specs.Content.{Content}
-use Rattle.f66_tree.specs.Forms.{Line}
+use Rattle.f66_tree.specs.Syntax.{Line}
 use Rattle.f66_tree.specs.World.{State, World, Ended, GoesOn, Lost, Out, Gives, Halts, bind}
 use Rattle.f66_tree.specs.Units.{Setting, moved_to}
 use Rattle.f66_tree.specs.Execution.{stand, Progress, from_label, closers, close, target, exec}
-use Rattle.rat_tree.specs.Meaning.{Went, Jumps, Backs, Leave, Again, Flow, Then, then_do, turned}
+use Rattle.rat_tree.specs.Meaning.{Went, Jumps, Backs, Leave, Again, Flow, Continuation, then_do, turned}
 use Rattle.rat_lower.specs.Code.{Rings, label_behind, label_again, jump, here}
 use Rattle.rat_lower.proofs.Spared.{Lowering, at, still, spared, near, F}
 use Rattle.rat_lower.proofs.Tracks.{Tracks, same_fuel}
@@ -151,7 +151,7 @@ module _ (g : Lowering) where
   bind_follows {pr = pr} z t0 (Halts GoesOn w) K go tr k = record { by = (tr.by.0, omega (arith, tr.by.1), tr.by.2, pr.spare, λ n c lt. ap (λ q. bind q (λ a1 w1. K a1 n w1)) (tr.by.3 n c lt)) }
   bind_follows z t0 (Halts Lost w) K go tr k = record { by = tt }
 
-  pub then_follows : {j b m top x0 : ℕ} {ls : Rings} {pr : Extra} {t : Part} {mid next : List Line} {s : State} (z : ℕ) (o : Flow) (go : Then) → m ≤ b → Follows j b top ls pr t s (z + x0) mid o → ((pr1 : Extra) (w : World) (x : ℕ) → Keeps top pr pr1 → z + x ≤ 32 * w.count → Follows j m top ls pr1 (Run mid pr1) w.state x next (go w)) → Follows j m top ls pr t s x0 next (then_do o go)
+  pub then_follows : {j b m top x0 : ℕ} {ls : Rings} {pr : Extra} {t : Part} {mid next : List Line} {s : State} (z : ℕ) (o : Flow) (go : Continuation) → m ≤ b → Follows j b top ls pr t s (z + x0) mid o → ((pr1 : Extra) (w : World) (x : ℕ) → Keeps top pr pr1 → z + x ≤ 32 * w.count → Follows j m top ls pr1 (Run mid pr1) w.state x next (go w)) → Follows j m top ls pr t s x0 next (then_do o go)
   then_follows {x0 = x0} z (Gives Went w) go le h k = let a = h.by in first (go w) a.3 a.4 (omega arith) (omega arith) (omega arith) (k a.2 w (a.0 + x0) a.3 (omega (arith, a.1)))
   then_follows z (Gives (Jumps i) w) go le h _ = record { by = let a = h.by in (a.0, omega (arith, a.1), a.2, a.3, a.4, a.5) }
   then_follows z (Gives (Leave i) w) go le h _ = record { by = let a = h.by in (a.0, omega (arith, a.1), a.2, a.3, a.4) }
@@ -168,7 +168,7 @@ module _ (g : Lowering) where
   past_here p m rest pr s e = one _ _ s (λ n k c. ap (λ q. close (Under n) (moved_to p (F g)) q rest (exec g.target (λ u. g.code) n (F g)) pr.loops (near g.spot pr.spare s k (c + 1))) e)
 
   -- a turn that has ended, where the g.code has its two labels; key is the top within the turn
-  pub turned_follows : {j b m top key x0 : ℕ} {ls : Rings} {pr : Extra} {t : Part} {mid next : List Line} {s : State} (z n1 n2 : ℕ) (p : Place) (o : Flow) (go : Then) → m ≤ b → 1 ≤ z → key ≤ top → from_label n1 g.code ≡ here n1 p ∷ next → closers n1 g.code ≡ [] → from_label n2 g.code ≡ mid → Follows j b key ((n1, n2) ∷ ls) pr t s (z + x0) mid o →
+  pub turned_follows : {j b m top key x0 : ℕ} {ls : Rings} {pr : Extra} {t : Part} {mid next : List Line} {s : State} (z n1 n2 : ℕ) (p : Place) (o : Flow) (go : Continuation) → m ≤ b → 1 ≤ z → key ≤ top → from_label n1 g.code ≡ here n1 p ∷ next → closers n1 g.code ≡ [] → from_label n2 g.code ≡ mid → Follows j b key ((n1, n2) ∷ ls) pr t s (z + x0) mid o →
       ((pr1 : Extra) (w : World) (x : ℕ) → Keeps key pr pr1 → z + x ≤ 32 * w.count → Follows j m top ls pr1 (Run mid pr1) w.state x next (go w)) → Follows j m top ls pr t s x0 next (turned o go)
   turned_follows {top = top} {key} {x0} {pr = pr} z n1 n2 p (Gives Went w) go le one' kt at_out no_do at_mid h k =
       let a = h.by in first (go w) (keeps_less top key pr a.2 kt a.3) a.4 (omega arith) (omega arith) (omega arith) (k a.2 w (a.0 + x0) a.3 (omega (arith, a.1)))

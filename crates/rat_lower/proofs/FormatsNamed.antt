@@ -5,15 +5,15 @@ use Rattle.std.specs.List.{slice_get, list_any, list_all}
 use Rattle.std.proofs.lemmas.Bool.{or_from}
 use Rattle.rule_table.specs.Words.{is_some_and}
 use Rattle.f66_tree.specs.Fields.{Fields}
-use Rattle.f66_tree.specs.Forms.{Text, Act, Chooses, Reads, Writes, Formats, Line}
+use Rattle.f66_tree.specs.Syntax.{Text, Act, When, Read, Write, Format, Line}
 use Rattle.f66_tree.specs.Units.{is_note, Note, notes_of, format_by, format_of}
 use Rattle.f66_tree.specs.Execution.{has_label}
 use Rattle.f66_flow.specs.Acts.{is_format, formats_named}
 use Rattle.f66_flow.specs.Ranges.{named}
 use Rattle.f66_flow.specs.FlowRules.{names_no_format}
-use Rattle.rat_check.specs.Parts.{Form, Rests, Repeating, Says, Asks, Takes, Compares, Prepares, Counting, Leaving, Returning, Part}
+use Rattle.rat_check.specs.Parts.{Form, Bare, RepeatHead, Statement, Condition, Selector, CaseList, ForHead, DoHead, LoopExit, ReturnHead, Part}
 use Rattle.rat_check.specs.Said.{said_by}
-use Rattle.rat_check.specs.Rules.{is_plain, is_ratfor, Whole, finds_labels}
+use Rattle.rat_check.specs.Rules.{is_plain, is_ratfor, UnitRules, finds_labels}
 use Rattle.rat_check.proofs.CleanLemmas.{and_true}
 use Rattle.rat_lower.specs.Checked.{bit}
 use Rattle.rat_lower.proofs.Counts.{occurs}
@@ -28,12 +28,12 @@ noted s notes = if is_note s.act then (record { label = s.label; act = s.act } �
 -- a statement without the label gives no format to it
 other_format : (l : ℕ) (o : Option ℕ) (a : Act) (other : Option Fields) → has_label l o ≡ false → format_by l o a other ≡ other
 other_format l None a other e = refl
-other_format l (Some m) (Formats f) other e = ap (λ b. if b then Some f else other) e
+other_format l (Some m) (Format f) other e = ap (λ b. if b then Some f else other) e
 other_format l (Some m) _ other e = refl
 
 -- and neither does another statement than a FORMAT
 no_format : (l : ℕ) (o : Option ℕ) (a : Act) (other : Option Fields) → is_format a ≡ false → format_by l o a other ≡ other
-no_format l o (Formats f) other e = absurd (true≢false e)
+no_format l o (Format f) other e = absurd (true≢false e)
 no_format l None _ other e = refl
 no_format l (Some m) _ other e = refl
 
@@ -93,25 +93,25 @@ module _ (code : List Line) (unique : AreUnique code) where
 
 -- ---- the source ----
 
-module _ (u : Whole) (notes : List Note) (has : (m : ℕ) → u.formats m ≡ true → is_some (format_of m notes) ≡ true) where
+module _ (u : UnitRules) (notes : List Note) (has : (m : ℕ) → u.formats m ≡ true → is_some (format_of m notes) ≡ true) where
   -- a plain statement of Ratfor
-  act_formatted : (a : Act) (reached : Bool) → is_plain a ≡ true → finds_labels u.formats reached (Says a) ≡ true → IsFormatted notes a
-  act_formatted (Reads p l es) reached plain found = ap (λ b. b && true) (has l found)
-  act_formatted (Writes p l es) reached plain found = ap (λ b. b && true) (has l found)
-  act_formatted (Chooses e a) reached plain found = absurd (true≢false (sym plain))
+  act_formatted : (a : Act) (reached : Bool) → is_plain a ≡ true → finds_labels u.formats reached (Statement a) ≡ true → IsFormatted notes a
+  act_formatted (Read p l es) reached plain found = ap (λ b. b && true) (has l found)
+  act_formatted (Write p l es) reached plain found = ap (λ b. b && true) (has l found)
+  act_formatted (When e a) reached plain found = absurd (true≢false (sym plain))
   act_formatted _ reached plain found = refl
 
   form_formatted : (form : Form) (reached : Bool) → is_ratfor form ≡ true → finds_labels u.formats reached form ≡ true → AllOf (IsFormatted notes) (said_by form)
-  form_formatted (Says a) reached is found = (act_formatted a reached is found, tt)
-  form_formatted Rests reached is found = tt
-  form_formatted Repeating reached is found = tt
-  form_formatted (Asks e) reached is found = (refl, tt)
-  form_formatted (Takes e) reached is found = (refl, tt)
-  form_formatted (Compares es second) reached is found = values_so (IsFormatted notes) (λ e. refl) es
-  form_formatted (Prepares a e b) reached is found = prepared_so (IsFormatted notes) (λ x f. refl) (λ f. refl) a e b is
-  form_formatted (Counting x a b d) reached is found = (refl, tt)
-  form_formatted (Leaving n) reached is found = tt
-  form_formatted Returning reached is found = tt
+  form_formatted (Statement a) reached is found = (act_formatted a reached is found, tt)
+  form_formatted Bare reached is found = tt
+  form_formatted RepeatHead reached is found = tt
+  form_formatted (Condition e) reached is found = (refl, tt)
+  form_formatted (Selector e) reached is found = (refl, tt)
+  form_formatted (CaseList es second) reached is found = values_so (IsFormatted notes) (λ e. refl) es
+  form_formatted (ForHead a e b) reached is found = prepared_so (IsFormatted notes) (λ x f. refl) (λ f. refl) a e b is
+  form_formatted (DoHead x a b d) reached is found = (refl, tt)
+  form_formatted (LoopExit n) reached is found = tt
+  form_formatted ReturnHead reached is found = tt
 
   pub parts_formatted : (vs : List Part) → AllFine u vs → AllParts (SaysSo (IsFormatted notes)) vs
   parts_formatted [] h = tt

@@ -3,8 +3,8 @@ use Rattle.std.proofs.Common.{◌≡◌, ℕ, ◌+◌, Bool, true, false, List, 
 use Rattle.std.specs.Prelude.{⊤}
 use Rattle.std.proofs.lemmas.Bool.{or_left, or_right}
 use Rattle.ground.specs.declared.place.Place.{Place}
-use Rattle.f66_tree.specs.Forms.{Text, Formula, Variable, Grouped, Negated, Formulas, Nought, Also, Par, Act, Assigns, Goes, Signs, Chooses, Loops, Passes, Stops, Line}
-use Rattle.rat_tree.specs.Commands.{Command, Empty, Together, When, Either, Whilst, Through, Repeats, Until, Counts, Switches, Leaves, Turns, GivesBack, Plainly, Marked, Commands, NoCommand, AndCommand, Clauses, NoClause, AndClause}
+use Rattle.f66_tree.specs.Syntax.{Text, Formula, Ref, Group, Not, Formulas, NoFormula, AndFormula, Par, Act, Assign, Goto, Sign, When, Loop, Continue, Stop, Line}
+use Rattle.rat_tree.specs.Syntax.{Command, Empty, Block, If, IfElse, While, For, Repeat, RepeatUntil, Do, Switch, Break, Next, Return, Plain, Labelled, Commands, NoCommand, AndCommand, Clauses, NoClause, AndClause}
 use Rattle.rat_lower.specs.Code.{case_test, each_test, tests, default_label, bodies, Rings, jump, unless, here, with_test, with_act, labels, all_labels, code_of, all_code, has_switch, have_switch, stop_unless}
 
 -- each of these statements says such a thing
@@ -16,10 +16,10 @@ AllSay Good (s ∷ rest) = Good s.act × AllSay Good rest
 -- does
 module _ (Good : Act → Type 0) where
   abbrev pub GoodCondition : Formula → Type 0
-  GoodCondition e = Good (Chooses e Passes)
+  GoodCondition e = Good (When e Continue)
 
   abbrev pub GoodValue : Formula → Type 0
-  GoodValue e = Good (Signs e 0 0 0)
+  GoodValue e = Good (Sign e 0 0 0)
 
   abbrev pub GoodConditionIfAny : Option Formula → Type 0
   GoodConditionIfAny None = ⊤
@@ -30,27 +30,27 @@ module _ (Good : Act → Type 0) where
   GoodActIfAny (Some a) = Good a
 
   abbrev pub GoodValues : Formulas → Type 0
-  GoodValues Nought = ⊤
-  GoodValues (Also e es) = GoodValue e × GoodValues es
+  GoodValues NoFormula = ⊤
+  GoodValues (AndFormula e es) = GoodValue e × GoodValues es
 
   -- all that a command says is so
   abbrev mutual
     pub SaysGood : Command → Type 0
     SaysGood (Empty p) = ⊤
-    SaysGood (Together p ss) = AllSayGood ss
-    SaysGood (When p e s) = GoodCondition e × SaysGood s
-    SaysGood (Either p e s t) = GoodCondition e × SaysGood s × SaysGood t
-    SaysGood (Whilst p e s) = GoodCondition e × SaysGood s
-    SaysGood (Through p first e step s) = GoodActIfAny first × GoodConditionIfAny e × GoodActIfAny step × SaysGood s
-    SaysGood (Repeats p s) = SaysGood s
-    SaysGood (Until p s e q) = SaysGood s × GoodCondition e
-    SaysGood (Counts p x a b c s) = Good (Loops 0 x a b c) × SaysGood s
-    SaysGood (Switches p e cs) = GoodValue e × ClausesSayGood cs
-    SaysGood (Leaves p n) = ⊤
-    SaysGood (Turns p n) = ⊤
-    SaysGood (GivesBack p e) = ⊥
-    SaysGood (Plainly l p a) = Good a
-    SaysGood (Marked l p s) = SaysGood s
+    SaysGood (Block p ss) = AllSayGood ss
+    SaysGood (If p e s) = GoodCondition e × SaysGood s
+    SaysGood (IfElse p e s t) = GoodCondition e × SaysGood s × SaysGood t
+    SaysGood (While p e s) = GoodCondition e × SaysGood s
+    SaysGood (For p first e step s) = GoodActIfAny first × GoodConditionIfAny e × GoodActIfAny step × SaysGood s
+    SaysGood (Repeat p s) = SaysGood s
+    SaysGood (RepeatUntil p s e q) = SaysGood s × GoodCondition e
+    SaysGood (Do p x a b c s) = Good (Loop 0 x a b c) × SaysGood s
+    SaysGood (Switch p e cs) = GoodValue e × ClausesSayGood cs
+    SaysGood (Break p n) = ⊤
+    SaysGood (Next p n) = ⊤
+    SaysGood (Return p e) = ⊥
+    SaysGood (Plain l p a) = Good a
+    SaysGood (Labelled l p s) = SaysGood s
 
     pub AllSayGood : Commands → Type 0
     AllSayGood NoCommand = ⊤
@@ -62,16 +62,16 @@ module _ (Good : Act → Type 0) where
 
 -- what the lowering makes of these is so again
 pub record Keeps (Good : Act → Type 0) : Type 0 where
-  pub passes : Good Passes
-  pub goes : (l : ℕ) → Good (Goes l)
-  pub stops : Good (Stops None)
-  pub denied : (e : Formula) (l : ℕ) → Good (Chooses e Passes) → Good (Chooses (Negated (Grouped e)) (Goes l))
-  pub counts : (l : ℕ) (x : Text) (a b c : Par) → Good (Loops 0 x a b c) → Good (Loops l x a b c)
+  pub passes : Good Continue
+  pub goes : (l : ℕ) → Good (Goto l)
+  pub stops : Good (Stop None)
+  pub denied : (e : Formula) (l : ℕ) → Good (When e Continue) → Good (When (Not (Group e)) (Goto l))
+  pub counts : (l : ℕ) (x : Text) (a b c : Par) → Good (Loop 0 x a b c) → Good (Loop l x a b c)
 
 -- and what it makes of the values of switches
 pub record KeepsValues (Good : Act → Type 0) (spare : Text) : Type 0 where
-  pub compared : (e : Formula) (l : ℕ) → Good (Signs e 0 0 0) → Good (Chooses (case_test spare e) (Goes l))
-  pub stored : (e : Formula) → Good (Signs e 0 0 0) → Good (Assigns (Variable spare) e)
+  pub compared : (e : Formula) (l : ℕ) → Good (Sign e 0 0 0) → Good (When (case_test spare e) (Goto l))
+  pub stored : (e : Formula) → Good (Sign e 0 0 0) → Good (Assign (Ref spare) e)
 
 module _ (Good : Act → Type 0) (made : ℕ → ℕ) (spare : Text) (keeps : Keeps Good) where
   abbrev All : List Line → Type 0
@@ -86,8 +86,8 @@ module _ (Good : Act → Type 0) (made : ℕ → ℕ) (spare : Text) (keeps : Ke
   good_act p (Some a) next h k = (h, k)
 
   good_each : KeepsValues Good spare → (p : Place) (es : Formulas) (l : ℕ) (next : List Line) → GoodValues Good es → All next → All (each_test spare p es l next)
-  good_each v p Nought l next h k = k
-  good_each v p (Also e es) l next h k = (v.compared e l h.0, good_each v p es l next h.1 k)
+  good_each v p NoFormula l next h k = k
+  good_each v p (AndFormula e es) l next h k = (v.compared e l h.0, good_each v p es l next h.1 k)
 
   good_tests : KeepsValues Good spare → (cs : Clauses) (m : ℕ) (next : List Line) → ClausesSayGood Good cs → All next → All (tests made spare cs m next)
   good_tests v NoClause m next h k = k
@@ -97,42 +97,42 @@ module _ (Good : Act → Type 0) (made : ℕ → ℕ) (spare : Text) (keeps : Ke
   mutual
     pub good_code : (s : Command) (n : ℕ) (ls : Rings) (next : List Line) → (has_switch s ≡ true → KeepsValues Good spare) → SaysGood Good s → All next → All (code_of made spare s n ls next)
     good_code (Empty p) n ls next may h k = k
-    good_code (Together p ss) n ls next may h k = good_all ss n ls next may h k
-    good_code (When p e s) n ls next may h k = (keeps.denied e (made n) h.0, good_code s (n + 1) ls (here (made n) p ∷ next) may h.1 (keeps.passes, k))
-    good_code (Either p e s t) n ls next may h k =
+    good_code (Block p ss) n ls next may h k = good_all ss n ls next may h k
+    good_code (If p e s) n ls next may h k = (keeps.denied e (made n) h.0, good_code s (n + 1) ls (here (made n) p ∷ next) may h.1 (keeps.passes, k))
+    good_code (IfElse p e s t) n ls next may h k =
         let last : List Line = here (made (n + 1)) p ∷ next in
         let second : List Line = code_of made spare t (n + 2 + labels s) ls last in
         let k_second : All second = good_code t (n + 2 + labels s) ls last (λ e1. may (or_right (has_switch s) (has_switch t) e1)) h.2 (keeps.passes, k) in
         (keeps.denied e (made n) h.0, good_code s (n + 2) ls (jump p (made (n + 1)) ∷ here (made n) p ∷ second) (λ e1. may (or_left (has_switch s) (has_switch t) e1)) h.1 (keeps.goes (made (n + 1)), (keeps.passes, k_second)))
-    good_code (Whilst p e s) n ls next may h k =
+    good_code (While p e s) n ls next may h k =
         let mid : List Line = here (made (n + 1)) p ∷ jump p (made n) ∷ here (made (n + 2)) p ∷ next in
         (keeps.passes, (keeps.denied e (made (n + 2)) h.0, good_code s (n + 3) ((made (n + 2), made (n + 1)) ∷ ls) mid may h.1 (keeps.passes, (keeps.goes (made n), (keeps.passes, k)))))
-    good_code (Through p first e step s) n ls next may h k =
+    good_code (For p first e step s) n ls next may h k =
         let out : List Line = jump p (made n) ∷ here (made (n + 2)) p ∷ next in
         let mid : List Line = here (made (n + 1)) p ∷ with_act p step out in
         let inner : List Line = code_of made spare s (n + 3) ((made (n + 2), made (n + 1)) ∷ ls) mid in
         let k_mid : All mid = (keeps.passes, good_act p step out h.2 (keeps.goes (made n), (keeps.passes, k))) in
         good_act p first (here (made n) p ∷ with_test p e (made (n + 2)) inner) h.0
         (keeps.passes, good_test p e (made (n + 2)) inner h.1 (good_code s (n + 3) ((made (n + 2), made (n + 1)) ∷ ls) mid may h.3 k_mid))
-    good_code (Repeats p s) n ls next may h k =
+    good_code (Repeat p s) n ls next may h k =
         let mid : List Line = here (made (n + 1)) p ∷ jump p (made n) ∷ here (made (n + 2)) p ∷ next in
         (keeps.passes, good_code s (n + 3) ((made (n + 2), made (n + 1)) ∷ ls) mid may h (keeps.passes, (keeps.goes (made n), (keeps.passes, k))))
-    good_code (Until p s e q) n ls next may h k =
+    good_code (RepeatUntil p s e q) n ls next may h k =
         let mid : List Line = here (made (n + 1)) p ∷ unless q e (made n) ∷ here (made (n + 2)) p ∷ next in
         (keeps.passes, good_code s (n + 3) ((made (n + 2), made (n + 1)) ∷ ls) mid may h.0 (keeps.passes, (keeps.denied e (made n) h.1, (keeps.passes, k))))
-    good_code (Counts p x a b c s) n ls next may h k =
+    good_code (Do p x a b c s) n ls next may h k =
         let mid : List Line = here (made n) p ∷ here (made (n + 1)) p ∷ next in
         (keeps.counts (made n) x a b c h.0, good_code s (n + 2) ((made (n + 1), made n) ∷ ls) mid may h.1 (keeps.passes, (keeps.passes, k)))
-    good_code (Switches p e cs) n ls next may h k =
+    good_code (Switch p e cs) n ls next may h k =
         let last : List Line = here (made n) p ∷ next in
         let all : List Line = bodies made spare cs (n + 1) (made n) ls last in
         let k_all : All all = good_bodies cs (n + 1) (made n) ls last (may refl) h.1 (keeps.passes, k) in
         ((may refl).stored e h.0, good_tests (may refl) cs (n + 1) (jump p (default_label made spare cs (n + 1) (made n)) ∷ all) h.1 (keeps.goes _, k_all))
-    good_code (Leaves p m) n ls next may h k = (keeps.goes _, k)
-    good_code (Turns p m) n ls next may h k = (keeps.goes _, k)
-    good_code (GivesBack p e) n ls next may h k = absurd h
-    good_code (Plainly l p a) n ls next may h k = (h, k)
-    good_code (Marked l p s) n ls next may h k = (keeps.passes, good_code s n ls next may h k)
+    good_code (Break p m) n ls next may h k = (keeps.goes _, k)
+    good_code (Next p m) n ls next may h k = (keeps.goes _, k)
+    good_code (Return p e) n ls next may h k = absurd h
+    good_code (Plain l p a) n ls next may h k = (h, k)
+    good_code (Labelled l p s) n ls next may h k = (keeps.passes, good_code s n ls next may h k)
 
     pub good_all : (ss : Commands) (n : ℕ) (ls : Rings) (next : List Line) → (have_switch ss ≡ true → KeepsValues Good spare) → AllSayGood Good ss → All next → All (all_code made spare ss n ls next)
     good_all NoCommand n ls next may h k = k

@@ -3,20 +3,20 @@
 use Rattle.std.proofs.Common.{◌≡◌, ℕ, suc, ◌+◌, Bool, true, false, true≢false, List, [], ◌∷◌, ◌++◌, Option, Some, None, sym}
 use Rattle.std.specs.Prelude.{◌||◌, ⊤}
 use Rattle.ground.specs.declared.place.Place.{Place}
-use Rattle.f66_tree.specs.Forms.{Text, Formula, Variable, Grouped, Negated, Formulas, Nought, Also, Par, Act, Assigns, Goes, Signs, Chooses, Loops, Passes, Line}
-use Rattle.rat_tree.specs.Commands.{Command, Empty, Together, When, Either, Whilst, Through, Repeats, Until, Counts, Switches, Leaves, Turns, GivesBack, Plainly, Marked, Commands, NoCommand, AndCommand, Clauses, NoClause, AndClause}
-use Rattle.rat_check.specs.Parts.{Says, Asks, Labels, no_label, Part, part, with_mark, with_labels, parts_of, parts_in, clause_parts, unit_parts}
-use Rattle.rat_check.specs.Said.{said_by, said_in, values, act_if_any, condition_if_any}
+use Rattle.f66_tree.specs.Syntax.{Text, Formula, Ref, Group, Not, Formulas, NoFormula, AndFormula, Par, Act, Assign, Goto, Sign, When, Loop, Continue, Line}
+use Rattle.rat_tree.specs.Syntax.{Command, Empty, Block, If, IfElse, While, For, Repeat, RepeatUntil, Do, Switch, Break, Next, Return, Plain, Labelled, Commands, NoCommand, AndCommand, Clauses, NoClause, AndClause}
+use Rattle.rat_check.specs.Parts.{Statement, Condition, Labels, no_label, Part, part, with_mark, with_labels, parts_of, parts_in, clause_parts, unit_parts}
+use Rattle.rat_check.specs.Said.{said_by, said_in, value_acts, said_if_any, condition_if_any}
 use Rattle.rat_lower.specs.Code.{case_test, each_test, tests, default_label, bodies, Rings, jump, unless, here, with_test, with_act, with_return, labels, all_labels, code_of, all_code, has_switch, have_switch, stop_unless}
 use Rattle.rat_lower.proofs.NoFault.{AllParts, AllOf, SaysSo}
 use Rattle.rat_lower.proofs.Kept.{AllSay}
 
 -- what the lowering made such was so before
 pub record KeepsBack (Good : Act → Type 0) (spare : Text) : Type 0 where
-  pub denied : (e : Formula) (l : ℕ) → Good (Chooses (Negated (Grouped e)) (Goes l)) → Good (Chooses e Passes)
-  pub counts : (l : ℕ) (x : Text) (a b c : Par) → Good (Loops l x a b c) → Good (Loops 0 x a b c)
-  pub compared : (e : Formula) (l : ℕ) → Good (Chooses (case_test spare e) (Goes l)) → Good (Signs e 0 0 0)
-  pub stored : (e : Formula) → Good (Assigns (Variable spare) e) → Good (Signs e 0 0 0)
+  pub denied : (e : Formula) (l : ℕ) → Good (When (Not (Group e)) (Goto l)) → Good (When e Continue)
+  pub counts : (l : ℕ) (x : Text) (a b c : Par) → Good (Loop l x a b c) → Good (Loop 0 x a b c)
+  pub compared : (e : Formula) (l : ℕ) → Good (When (case_test spare e) (Goto l)) → Good (Sign e 0 0 0)
+  pub stored : (e : Formula) → Good (Assign (Ref spare) e) → Good (Sign e 0 0 0)
 
 join : (P : Part → Type 0) (xs ys : List Part) → AllParts P xs → AllParts P ys → AllParts P (xs ++ ys)
 join P [] ys h k = k
@@ -41,7 +41,7 @@ module _ (Good : Act → Type 0) (made : ℕ → ℕ) (spare : Text) (keeps : Ke
   marked k r None p vs h = h
   marked k r (Some l) p vs h = (tt, h)
 
-  act_back : (p : Place) (o : Option Act) (next : List Line) → All (with_act p o next) → AllOf Good (act_if_any o) × All next
+  act_back : (p : Place) (o : Option Act) (next : List Line) → All (with_act p o next) → AllOf Good (said_if_any o) × All next
   act_back p None next h = (tt, h)
   act_back p (Some a) next h = ((h.0, tt), h.1)
 
@@ -53,14 +53,14 @@ module _ (Good : Act → Type 0) (made : ℕ → ℕ) (spare : Text) (keeps : Ke
   return_back p None next h = h.1
   return_back p (Some e) next h = h.1.1
 
-  each_back : (p : Place) (es : Formulas) (l : ℕ) (next : List Line) → All (each_test spare p es l next) → AllOf Good (values es) × All next
-  each_back p Nought l next h = (tt, h)
-  each_back p (Also e es) l next h = let k = each_back p es l next h.1 in ((keeps.compared e l h.0, k.0), k.1)
+  each_back : (p : Place) (es : Formulas) (l : ℕ) (next : List Line) → All (each_test spare p es l next) → AllOf Good (value_acts es) × All next
+  each_back p NoFormula l next h = (tt, h)
+  each_back p (AndFormula e es) l next h = let k = each_back p es l next h.1 in ((keeps.compared e l h.0, k.0), k.1)
 
   -- the case expressions of all clauses
   abbrev Tested : Clauses → Type 0
   Tested NoClause = ⊤
-  Tested (AndClause es fallback ss p cs) = AllOf Good (values es) × Tested cs
+  Tested (AndClause es fallback ss p cs) = AllOf Good (value_acts es) × Tested cs
 
   tests_back : (cs : Clauses) (m : ℕ) (next : List Line) → All (tests made spare cs m next) → Tested cs × All next
   tests_back NoClause m next h = (tt, h)
@@ -72,19 +72,19 @@ module _ (Good : Act → Type 0) (made : ℕ → ℕ) (spare : Text) (keeps : Ke
   mutual
     back : (c : Command) (k : ℕ) (r : Labels) (o : Option ℕ) (n : ℕ) (ls : Rings) (next : List Line) → All (code_of made spare c n ls next) → AllParts P (parts_of k r o c) × All next
     back (Empty p) k r o n ls next h = ((tt, tt), h)
-    back (Together p ss) k r o n ls next h = let a = back_all ss k (with_labels ss r) n ls next h in ((tt, a.0), a.1)
-    back (When p e c) k r o n ls next h =
+    back (Block p ss) k r o n ls next h = let a = back_all ss k (with_labels ss r) n ls next h in ((tt, a.0), a.1)
+    back (If p e c) k r o n ls next h =
         let a = back c k r None (n + 1) ls (here (made n) p ∷ next) h.1 in
         (((keeps.denied e (made n) h.0, tt), a.0), a.1.1)
-    back (Either p e c d) k r o n ls next h =
+    back (IfElse p e c d) k r o n ls next h =
         let second : List Line = code_of made spare d (n + 2 + labels c) ls (here (made (n + 1)) p ∷ next) in
         let a = back c k r None (n + 2) ls (jump p (made (n + 1)) ∷ here (made n) p ∷ second) h.1 in
         let b = back d k r None (n + 2 + labels c) ls (here (made (n + 1)) p ∷ next) a.1.1.1 in
         (((keeps.denied e (made n) h.0, tt), join P (parts_of k r None c) (parts_of k r None d) a.0 b.0), b.1.1)
-    back (Whilst p e c) k r o n ls next h =
+    back (While p e c) k r o n ls next h =
         let a = back c (suc k) r None (n + 3) ((made (n + 2), made (n + 1)) ∷ ls) (here (made (n + 1)) p ∷ jump p (made n) ∷ here (made (n + 2)) p ∷ next) h.1.1 in
         (((keeps.denied e (made (n + 2)) h.1.0, tt), a.0), a.1.1.1.1)
-    back (Through p first e step c) k r o n ls next h =
+    back (For p first e step c) k r o n ls next h =
         let out : List Line = jump p (made n) ∷ here (made (n + 2)) p ∷ next in
         let mid : List Line = here (made (n + 1)) p ∷ with_act p step out in
         let inner : List Line = code_of made spare c (n + 3) ((made (n + 2), made (n + 1)) ∷ ls) mid in
@@ -92,27 +92,27 @@ module _ (Good : Act → Type 0) (made : ℕ → ℕ) (spare : Text) (keeps : Ke
         let g = test_back p e (made (n + 2)) inner f.1.1 in
         let a = back c (suc k) r None (n + 3) ((made (n + 2), made (n + 1)) ∷ ls) mid g.1 in
         let s = act_back p step out a.1.1 in
-        ((of_join Good (act_if_any first) (condition_if_any e ++ act_if_any step) f.0 (of_join Good (condition_if_any e) (act_if_any step) g.0 s.0), a.0), s.1.1.1)
-    back (Repeats p c) k r o n ls next h =
+        ((of_join Good (said_if_any first) (condition_if_any e ++ said_if_any step) f.0 (of_join Good (condition_if_any e) (said_if_any step) g.0 s.0), a.0), s.1.1.1)
+    back (Repeat p c) k r o n ls next h =
         let a = back c (suc k) r None (n + 3) ((made (n + 2), made (n + 1)) ∷ ls) (here (made (n + 1)) p ∷ jump p (made n) ∷ here (made (n + 2)) p ∷ next) h.1 in
         ((tt, a.0), a.1.1.1.1)
-    back (Until p c e q) k r o n ls next h =
+    back (RepeatUntil p c e q) k r o n ls next h =
         let a = back c (suc k) r None (n + 3) ((made (n + 2), made (n + 1)) ∷ ls) (here (made (n + 1)) p ∷ unless q e (made n) ∷ here (made (n + 2)) p ∷ next) h.1 in
-        ((tt, join P (parts_of (suc k) r None c) (part k r None q (Asks e) ∷ []) a.0 ((keeps.denied e (made n) a.1.1.0, tt), tt)), a.1.1.1.1)
-    back (Counts p x i j m c) k r o n ls next h =
+        ((tt, join P (parts_of (suc k) r None c) (part k r None q (Condition e) ∷ []) a.0 ((keeps.denied e (made n) a.1.1.0, tt), tt)), a.1.1.1.1)
+    back (Do p x i j m c) k r o n ls next h =
         let a = back c (suc k) r None (n + 2) ((made (n + 1), made n) ∷ ls) (here (made n) p ∷ here (made (n + 1)) p ∷ next) h.1 in
         (((keeps.counts (made n) x i j m h.0, tt), a.0), a.1.1.1)
-    back (Switches p e cs) k r o n ls next h =
+    back (Switch p e cs) k r o n ls next h =
         let last : List Line = here (made n) p ∷ next in
         let all : List Line = bodies made spare cs (n + 1) (made n) ls last in
         let t = tests_back cs (n + 1) (jump p (default_label made spare cs (n + 1) (made n)) ∷ all) h.1 in
         let b = bodies_back cs k r false (n + 1) (made n) ls last t.0 t.1.1 in
         (((keeps.stored e h.0, tt), b.0), b.1.1)
-    back (Leaves p m) k r o n ls next h = ((tt, tt), h.1)
-    back (Turns p m) k r o n ls next h = ((tt, tt), h.1)
-    back (GivesBack p e) k r o n ls next h = ((tt, tt), return_back p e next h)
-    back (Plainly l p a) k r o n ls next h = (marked k r o p (part k r l p (Says a) ∷ []) ((h.0, tt), tt), h.1)
-    back (Marked l p c) k r o n ls next h =
+    back (Break p m) k r o n ls next h = ((tt, tt), h.1)
+    back (Next p m) k r o n ls next h = ((tt, tt), h.1)
+    back (Return p e) k r o n ls next h = ((tt, tt), return_back p e next h)
+    back (Plain l p a) k r o n ls next h = (marked k r o p (part k r l p (Statement a) ∷ []) ((h.0, tt), tt), h.1)
+    back (Labelled l p c) k r o n ls next h =
         let a = back c k r (Some l) n ls next h.1 in
         (marked k r o p (parts_of k r (Some l) c) a.0, a.1)
 
@@ -137,7 +137,7 @@ module _ (Good : Act → Type 0) (made : ℕ → ℕ) (spare : Text) (keeps : Ke
   -- ---- a switch stores a value under the spare name ----
 
   abbrev Store : Type 0
-  Store = (e : Formula) × Good (Assigns (Variable spare) e)
+  Store = (e : Formula) × Good (Assign (Ref spare) e)
 
   either : (a b : Bool) → (a || b) ≡ true → (a ≡ true → Store) → (b ≡ true → Store) → Store
   either true b e left right = left e
@@ -149,27 +149,27 @@ module _ (Good : Act → Type 0) (made : ℕ → ℕ) (spare : Text) (keeps : Ke
 
   mutual
     store_of : (c : Command) (n : ℕ) (ls : Rings) (next : List Line) → has_switch c ≡ true → All (code_of made spare c n ls next) → Store
-    store_of (Together p ss) n ls next e h = store_in ss n ls next e h
-    store_of (When p f c) n ls next e h = store_of c (n + 1) ls (here (made n) p ∷ next) e h.1
-    store_of (Either p f c d) n ls next e h =
+    store_of (Block p ss) n ls next e h = store_in ss n ls next e h
+    store_of (If p f c) n ls next e h = store_of c (n + 1) ls (here (made n) p ∷ next) e h.1
+    store_of (IfElse p f c d) n ls next e h =
         let second : List Line = code_of made spare d (n + 2 + labels c) ls (here (made (n + 1)) p ∷ next) in
         let rest : List Line = jump p (made (n + 1)) ∷ here (made n) p ∷ second in
         either (has_switch c) (has_switch d) e (λ t. store_of c (n + 2) ls rest t h.1) (λ t. store_of d (n + 2 + labels c) ls (here (made (n + 1)) p ∷ next) t (past c (n + 2) ls rest h.1).1.1)
-    store_of (Whilst p f c) n ls next e h = store_of c (n + 3) ((made (n + 2), made (n + 1)) ∷ ls) (here (made (n + 1)) p ∷ jump p (made n) ∷ here (made (n + 2)) p ∷ next) e h.1.1
-    store_of (Through p first f step c) n ls next e h =
+    store_of (While p f c) n ls next e h = store_of c (n + 3) ((made (n + 2), made (n + 1)) ∷ ls) (here (made (n + 1)) p ∷ jump p (made n) ∷ here (made (n + 2)) p ∷ next) e h.1.1
+    store_of (For p first f step c) n ls next e h =
         let mid : List Line = here (made (n + 1)) p ∷ with_act p step (jump p (made n) ∷ here (made (n + 2)) p ∷ next) in
         let inner : List Line = code_of made spare c (n + 3) ((made (n + 2), made (n + 1)) ∷ ls) mid in
         store_of c (n + 3) ((made (n + 2), made (n + 1)) ∷ ls) mid e (test_back p f (made (n + 2)) inner (act_back p first (here (made n) p ∷ with_test p f (made (n + 2)) inner) h).1.1).1
-    store_of (Repeats p c) n ls next e h = store_of c (n + 3) ((made (n + 2), made (n + 1)) ∷ ls) (here (made (n + 1)) p ∷ jump p (made n) ∷ here (made (n + 2)) p ∷ next) e h.1
-    store_of (Until p c f q) n ls next e h = store_of c (n + 3) ((made (n + 2), made (n + 1)) ∷ ls) (here (made (n + 1)) p ∷ unless q f (made n) ∷ here (made (n + 2)) p ∷ next) e h.1
-    store_of (Counts p x i j m c) n ls next e h = store_of c (n + 2) ((made (n + 1), made n) ∷ ls) (here (made n) p ∷ here (made (n + 1)) p ∷ next) e h.1
-    store_of (Switches p f cs) n ls next e h = (f, h.0)
-    store_of (Marked l p c) n ls next e h = store_of c n ls next e h.1
+    store_of (Repeat p c) n ls next e h = store_of c (n + 3) ((made (n + 2), made (n + 1)) ∷ ls) (here (made (n + 1)) p ∷ jump p (made n) ∷ here (made (n + 2)) p ∷ next) e h.1
+    store_of (RepeatUntil p c f q) n ls next e h = store_of c (n + 3) ((made (n + 2), made (n + 1)) ∷ ls) (here (made (n + 1)) p ∷ unless q f (made n) ∷ here (made (n + 2)) p ∷ next) e h.1
+    store_of (Do p x i j m c) n ls next e h = store_of c (n + 2) ((made (n + 1), made n) ∷ ls) (here (made n) p ∷ here (made (n + 1)) p ∷ next) e h.1
+    store_of (Switch p f cs) n ls next e h = (f, h.0)
+    store_of (Labelled l p c) n ls next e h = store_of c n ls next e h.1
     store_of (Empty p) n ls next e h = absurd (true≢false (sym e))
-    store_of (Leaves p m) n ls next e h = absurd (true≢false (sym e))
-    store_of (Turns p m) n ls next e h = absurd (true≢false (sym e))
-    store_of (GivesBack p f) n ls next e h = absurd (true≢false (sym e))
-    store_of (Plainly l p a) n ls next e h = absurd (true≢false (sym e))
+    store_of (Break p m) n ls next e h = absurd (true≢false (sym e))
+    store_of (Next p m) n ls next e h = absurd (true≢false (sym e))
+    store_of (Return p f) n ls next e h = absurd (true≢false (sym e))
+    store_of (Plain l p a) n ls next e h = absurd (true≢false (sym e))
 
     pub store_in : (ss : Commands) (n : ℕ) (ls : Rings) (next : List Line) → have_switch ss ≡ true → All (all_code made spare ss n ls next) → Store
     store_in NoCommand n ls next e h = absurd (true≢false (sym e))

@@ -2,40 +2,41 @@
 use Rattle.std.proofs.Common.{◌≡◌, ℕ, ◌+◌, ◌≤◌, List, [], ◌∷◌, ◌++◌, length, Option, Some, None, Bool, true, false, refl, sym, ap, ◌∙◌, arith, append_assoc, length-append, if◌then◌else◌}
 use Rattle.std.specs.Prelude.{nat_eq}
 use Rattle.ground.specs.declared.place.Place.{Place}
-use Rattle.f66_tree.specs.Forms.{Text, Formula, Formulas, Nought, Also, Par, Act, Assigns, Goes, Selects, Signs, Chooses, Loops, Invokes, Passes, Stops, Returns, Reads, Writes, Formats, Types, Dimensions, Commons, Equivalences, Presets, Line, bare}
+use Rattle.f66_tree.specs.Syntax.{Text, Formula, Formulas, NoFormula, AndFormula, Par, Act, Assign, Goto, Computed, Sign, When, Loop, Invoke, Continue, Stop, Return, Read, Write, Format, Typed, Dimension, Common, Equivalence, Preset, Line, unlabelled_line}
 use Rattle.f66_tree.specs.Units.{is_note}
 use Rattle.f66_tree.specs.Execution.{has_label, from_label, runnable, Closer, closers, closer_of}
-use Rattle.rat_tree.specs.Commands.{Command, Empty, Together, When, Either, Whilst, Through, Repeats, Until, Counts, Switches, Leaves, Turns, GivesBack, Plainly, Marked, Commands, NoCommand, AndCommand, Clauses, NoClause, AndClause}
+use Rattle.rat_tree.specs.Syntax.{Command, Empty, Block, If, IfElse, While, For, Repeat, RepeatUntil, Do, Switch, Break, Next, Plain, Labelled, Commands, NoCommand, AndCommand, Clauses, NoClause, AndClause}
 use Rattle.rat_lower.specs.Checked.{bit}
 use Rattle.rat_lower.specs.Code.{each_test, tests, default_label, bodies, Rings, jump, unless, here, with_test, with_act, labels, all_labels, code_of, all_code}
 use Rattle.rat_lower.proofs.Counts.{same_number, occurs, names, ends}
+use Rattle.rat_tree.specs.Syntax as ratfor_tree
 
 abbrev pub AreUnique : List Line → Type 0
 AreUnique code = (l : ℕ) → occurs l code ≤ 1
 
 closer_none : (l : ℕ) (a : Act) (rest : List Line) (found : List Closer) → bit (names l a) ≡ 0 → closer_of l a rest found ≡ found
-closer_none l (Loops m y i1 i2 i3) rest found e = go (nat_eq m l) e
+closer_none l (Loop m y i1 i2 i3) rest found e = go (nat_eq m l) e
   where
     go : (v : Bool) → bit v ≡ 0 → (if v then (found ++ record { variable = y; inner = rest } ∷ []) else found) ≡ found
     go true h = absurd (omega (arith, h))
     go false h = refl
-closer_none l (Assigns y e1) rest found e = refl
-closer_none l (Goes m) rest found e = refl
-closer_none l (Selects ms y) rest found e = refl
-closer_none l (Signs e1 i1 i2 i3) rest found e = refl
-closer_none l (Chooses e1 a) rest found e = refl
-closer_none l (Invokes y es) rest found e = refl
-closer_none l Passes rest found e = refl
-closer_none l (Stops i) rest found e = refl
-closer_none l Returns rest found e = refl
-closer_none l (Reads i m es) rest found e = refl
-closer_none l (Writes i m es) rest found e = refl
-closer_none l (Formats fs) rest found e = refl
-closer_none l (Types t es) rest found e = refl
-closer_none l (Dimensions es) rest found e = refl
-closer_none l (Commons es) rest found e = refl
-closer_none l (Equivalences es) rest found e = refl
-closer_none l (Presets es) rest found e = refl
+closer_none l (Assign y e1) rest found e = refl
+closer_none l (Goto m) rest found e = refl
+closer_none l (Computed ms y) rest found e = refl
+closer_none l (Sign e1 i1 i2 i3) rest found e = refl
+closer_none l (When e1 a) rest found e = refl
+closer_none l (Invoke y es) rest found e = refl
+closer_none l Continue rest found e = refl
+closer_none l (Stop i) rest found e = refl
+closer_none l Return rest found e = refl
+closer_none l (Read i m es) rest found e = refl
+closer_none l (Write i m es) rest found e = refl
+closer_none l (Format fs) rest found e = refl
+closer_none l (Typed t es) rest found e = refl
+closer_none l (Dimension es) rest found e = refl
+closer_none l (Common es) rest found e = refl
+closer_none l (Equivalence es) rest found e = refl
+closer_none l (Preset es) rest found e = refl
 
 pub no_closers : (l : ℕ) (code : List Line) → ends l code ≡ 0 → closers l code ≡ []
 no_closers l [] e = refl
@@ -49,12 +50,12 @@ occurs-append : (l : ℕ) (a b : List Line) → occurs l (a ++ b) ≡ occurs l a
 occurs-append l [] b = omega arith
 occurs-append l (s ∷ a) b = omega (arith, occurs-append l a b)
 
-one_after : (l : ℕ) (p : Place) (x : Text) (a b c : Par) (inner pre : List Line) → ends l (pre ++ bare p (Loops l x a b c) ∷ inner) ≤ 1 → closers l (pre ++ bare p (Loops l x a b c) ∷ inner) ≡ record { variable = x; inner = inner } ∷ []
+one_after : (l : ℕ) (p : Place) (x : Text) (a b c : Par) (inner pre : List Line) → ends l (pre ++ unlabelled_line p (Loop l x a b c) ∷ inner) ≤ 1 → closers l (pre ++ unlabelled_line p (Loop l x a b c) ∷ inner) ≡ record { variable = x; inner = inner } ∷ []
 one_after l p x a b c inner [] le =
     ap (λ v. if v then (closers l inner ++ record { variable = x; inner = inner } ∷ []) else closers l inner) (same_number l)
     ∙ ap (λ q. q ++ record { variable = x; inner = inner } ∷ []) (no_closers l inner (omega (arith, ap bit (same_number l), le)))
 one_after l p x a b c inner (s ∷ pre) le =
-    closer_none l s.act (pre ++ bare p (Loops l x a b c) ∷ inner) _ (omega (arith, le, ap bit (same_number l), ends-append l pre (bare p (Loops l x a b c) ∷ inner)))
+    closer_none l s.act (pre ++ unlabelled_line p (Loop l x a b c) ∷ inner) _ (omega (arith, le, ap bit (same_number l), ends-append l pre (unlabelled_line p (Loop l x a b c) ∷ inner)))
     ∙ one_after l p x a b c inner pre (omega (arith, le))
 
 -- the statements from one place on, within all
@@ -83,7 +84,7 @@ within_act p None next = within_self next
 within_act p (Some e) next = within_cons _ (within_self next)
 
 -- the one DO that ends at a label
-pub one_closer : {inner code : List Line} (l : ℕ) (p : Place) (x : Text) (a b c : Par) → ends l code ≤ 1 → Within (bare p (Loops l x a b c) ∷ inner) code → closers l code ≡ record { variable = x; inner = inner } ∷ []
+pub one_closer : {inner code : List Line} (l : ℕ) (p : Place) (x : Text) (a b c : Par) → ends l code ≤ 1 → Within (unlabelled_line p (Loop l x a b c) ∷ inner) code → closers l code ≡ record { variable = x; inner = inner } ∷ []
 one_closer {inner} {code} l p x a b c le h =
     ap (closers l) (sym h.is) ∙ one_after l p x a b c inner h.before (omega (arith, ap (ends l) h.is, le))
 
@@ -105,8 +106,8 @@ pub found : {code rest : List Line} (l : ℕ) (p : Place) → AreUnique code →
 found l p unique h = found_line l (here l p) (same_number l) unique h
 
 pub within_each : (x : Text) (p : Place) (es : Formulas) (q : ℕ) (next : List Line) → Within next (each_test x p es q next)
-within_each x p Nought q next = within_self next
-within_each x p (Also e es) q next = within_cons _ (within_each x p es q next)
+within_each x p NoFormula q next = within_self next
+within_each x p (AndFormula e es) q next = within_cons _ (within_each x p es q next)
 
 -- a statement to begin comes first
 abbrev pub Starts : List Line → Type 0
@@ -135,33 +136,33 @@ module _ (made : ℕ → ℕ) (spare : Text) where
   mutual
     pub within_code : (s : Command) (n : ℕ) (ls : Rings) (next : List Line) → Within next (code_of made spare s n ls next)
     within_code (Empty p) n ls next = within_self next
-    within_code (Together p ss) n ls next = within_all ss n ls next
-    within_code (When p e s) n ls next = within_cons _ (within_in (within_cons _ (within_self next)) (within_code s (n + 1) ls (here (made n) p ∷ next)))
-    within_code (Either p e s t) n ls next =
+    within_code (Block p ss) n ls next = within_all ss n ls next
+    within_code (If p e s) n ls next = within_cons _ (within_in (within_cons _ (within_self next)) (within_code s (n + 1) ls (here (made n) p ∷ next)))
+    within_code (IfElse p e s t) n ls next =
         within_cons _ (within_in (within_cons _ (within_cons _ (within_in (within_cons _ (within_self next)) (within_code t (n + 2 + labels s) ls (here (made (n + 1)) p ∷ next))))) (within_code s (n + 2) ls (jump p (made (n + 1)) ∷ here (made n) p ∷ code_of made spare t (n + 2 + labels s) ls (here (made (n + 1)) p ∷ next))))
-    within_code (Whilst p e s) n ls next =
+    within_code (While p e s) n ls next =
         within_cons _ (within_cons _ (within_in (within_cons _ (within_cons _ (within_cons _ (within_self next)))) (within_code s (n + 3) ((made (n + 2), made (n + 1)) ∷ ls) (here (made (n + 1)) p ∷ jump p (made n) ∷ here (made (n + 2)) p ∷ next))))
-    within_code (Through p first e step s) n ls next =
+    within_code (For p first e step s) n ls next =
         let out = jump p (made n) ∷ here (made (n + 2)) p ∷ next in
         let mid = here (made (n + 1)) p ∷ with_act p step out in
         let inner = code_of made spare s (n + 3) ((made (n + 2), made (n + 1)) ∷ ls) mid in
         let a : Within next mid = within_cons _ (within_in (within_cons _ (within_cons _ (within_self next))) (within_act p step out)) in
         let b = within_in a (within_code s (n + 3) ((made (n + 2), made (n + 1)) ∷ ls) mid) in
         within_in (within_cons (here (made n) p) (within_in b (within_test p e (made (n + 2)) inner))) (within_act p first (here (made n) p ∷ with_test p e (made (n + 2)) inner))
-    within_code (Repeats p s) n ls next =
+    within_code (Repeat p s) n ls next =
         within_cons _ (within_in (within_cons _ (within_cons _ (within_cons _ (within_self next)))) (within_code s (n + 3) ((made (n + 2), made (n + 1)) ∷ ls) (here (made (n + 1)) p ∷ jump p (made n) ∷ here (made (n + 2)) p ∷ next)))
-    within_code (Until p s e q) n ls next =
+    within_code (RepeatUntil p s e q) n ls next =
         within_cons _ (within_in (within_cons _ (within_cons _ (within_cons _ (within_self next)))) (within_code s (n + 3) ((made (n + 2), made (n + 1)) ∷ ls) (here (made (n + 1)) p ∷ unless q e (made n) ∷ here (made (n + 2)) p ∷ next)))
-    within_code (Counts p x a b c s) n ls next =
+    within_code (Do p x a b c s) n ls next =
         within_cons _ (within_in (within_cons _ (within_cons _ (within_self next))) (within_code s (n + 2) ((made (n + 1), made n) ∷ ls) (here (made n) p ∷ here (made (n + 1)) p ∷ next)))
-    within_code (Switches p e cs) n ls next =
+    within_code (Switch p e cs) n ls next =
         within_cons _ (within_in (within_cons _ (within_in (within_cons _ (within_self next)) (within_bodies cs (n + 1) (made n) ls (here (made n) p ∷ next)))) (within_tests cs (n + 1) (jump p (default_label made spare cs (n + 1) (made n)) ∷ bodies made spare cs (n + 1) (made n) ls (here (made n) p ∷ next))))
-    within_code (Leaves p k) n ls next = within_cons _ (within_self next)
-    within_code (Turns p k) n ls next = within_cons _ (within_self next)
-    within_code (GivesBack p None) n ls next = within_cons _ (within_self next)
-    within_code (GivesBack p (Some e)) n ls next = within_cons _ (within_cons _ (within_self next))
-    within_code (Plainly m p a) n ls next = within_cons _ (within_self next)
-    within_code (Marked m p s) n ls next = within_cons _ (within_code s n ls next)
+    within_code (Break p k) n ls next = within_cons _ (within_self next)
+    within_code (Next p k) n ls next = within_cons _ (within_self next)
+    within_code (ratfor_tree.Return p None) n ls next = within_cons _ (within_self next)
+    within_code (ratfor_tree.Return p (Some e)) n ls next = within_cons _ (within_cons _ (within_self next))
+    within_code (Plain m p a) n ls next = within_cons _ (within_self next)
+    within_code (Labelled m p s) n ls next = within_cons _ (within_code s n ls next)
 
     pub within_all : (ss : Commands) (n : ℕ) (ls : Rings) (next : List Line) → Within next (all_code made spare ss n ls next)
     within_all NoCommand n ls next = within_self next
@@ -175,21 +176,21 @@ module _ (made : ℕ → ℕ) (spare : Text) where
   mutual
     pub starts_code : (s : Command) (n : ℕ) (ls : Rings) (next : List Line) → Starts next → Starts (code_of made spare s n ls next)
     starts_code (Empty p) n ls next h = h
-    starts_code (Together p ss) n ls next h = starts_all ss n ls next h
-    starts_code (When p e s) n ls next h = (_, _, refl)
-    starts_code (Either p e s t) n ls next h = (_, _, refl)
-    starts_code (Whilst p e s) n ls next h = (_, _, refl)
-    starts_code (Through p first e step s) n ls next h = starts_act p first _ (_, _, refl)
-    starts_code (Repeats p s) n ls next h = (_, _, refl)
-    starts_code (Until p s e q) n ls next h = (_, _, refl)
-    starts_code (Counts p x a b c s) n ls next h = (_, _, refl)
-    starts_code (Switches p e cs) n ls next h = (_, _, refl)
-    starts_code (Leaves p k) n ls next h = (_, _, refl)
-    starts_code (Turns p k) n ls next h = (_, _, refl)
-    starts_code (GivesBack p None) n ls next h = (_, _, refl)
-    starts_code (GivesBack p (Some e)) n ls next h = (_, _, refl)
-    starts_code (Plainly m p a) n ls next h = starts_line _ next h
-    starts_code (Marked m p s) n ls next h = (_, _, refl)
+    starts_code (Block p ss) n ls next h = starts_all ss n ls next h
+    starts_code (If p e s) n ls next h = (_, _, refl)
+    starts_code (IfElse p e s t) n ls next h = (_, _, refl)
+    starts_code (While p e s) n ls next h = (_, _, refl)
+    starts_code (For p first e step s) n ls next h = starts_act p first _ (_, _, refl)
+    starts_code (Repeat p s) n ls next h = (_, _, refl)
+    starts_code (RepeatUntil p s e q) n ls next h = (_, _, refl)
+    starts_code (Do p x a b c s) n ls next h = (_, _, refl)
+    starts_code (Switch p e cs) n ls next h = (_, _, refl)
+    starts_code (Break p k) n ls next h = (_, _, refl)
+    starts_code (Next p k) n ls next h = (_, _, refl)
+    starts_code (ratfor_tree.Return p None) n ls next h = (_, _, refl)
+    starts_code (ratfor_tree.Return p (Some e)) n ls next h = (_, _, refl)
+    starts_code (Plain m p a) n ls next h = starts_line _ next h
+    starts_code (Labelled m p s) n ls next h = (_, _, refl)
 
     pub starts_all : (ss : Commands) (n : ℕ) (ls : Rings) (next : List Line) → Starts next → Starts (all_code made spare ss n ls next)
     starts_all NoCommand n ls next h = h

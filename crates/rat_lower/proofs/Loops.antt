@@ -2,13 +2,13 @@
 use Rattle.std.proofs.Common.{◌≡◌, true, false, Bool, ℕ, zero, suc, ◌+◌, ◌*◌, ◌≤◌, ◌<◌, List, [], ◌∷◌, length, Option, sym, ap, ◌∙◌, subst, arith}
 use Rattle.std.specs.Prelude.{⊤}
 use Rattle.ground.specs.declared.place.Place.{Place}
-use Rattle.f66_tree.specs.Forms.{Text, Act, Formula, Line}
+use Rattle.f66_tree.specs.Syntax.{Text, Act, Formula, Line}
 use Rattle.f66_tree.specs.World.{State, World, counted, GoesOn, Out, Gives, Halts, bind, choose}
 use Rattle.f66_tree.specs.Units.{Spot, Setting, Frame, moved_to}
 use Rattle.f66_tree.specs.Uses.{Names}
-use Rattle.f66_tree.specs.Statements.{Loop, loop_turn}
+use Rattle.f66_tree.specs.Statements.{LoopParameters, loop_turn}
 use Rattle.f66_tree.specs.Execution.{from_label, closers, close, fetch, exec}
-use Rattle.rat_tree.specs.Meaning.{Went, Flow, Then, went, turned, tested, turns, always, stepped, until, counts}
+use Rattle.rat_tree.specs.Meaning.{Went, Flow, Continuation, went, turned, tested, turns, always, stepped, until, do_turns}
 use Rattle.rat_tree.specs.Uses.{NamesIfAny, ActIfAny}
 use Rattle.rat_lower.specs.Code.{Rings, jump, unless, here, with_test, with_act}
 use Rattle.rat_lower.specs.Checked.{IsPlainIfAny}
@@ -45,8 +45,8 @@ module _ (g : Lowering) (b : ℕ) (call : ℕ → List Spot → World → Out �
       ap (λ q. fetch (U n) f0 co q (exec g.target (λ u. g.code) n f0) pr.loops (near g.spot pr.spare s 0 c)) h.2 ∙ ap (λ q. Halts GoesOn (near g.spot pr.spare s 0 q)) e
 
   -- what the part after a turn has to do: it comes back to the head, or leaves the loop
-  pub record Closes (top : ℕ) (ls : Rings) (mid head next : List Line) (bottom : Then → Then → Then) : Type 0 where
-    pub by : (m : ℕ) → m ≤ b → (go : Then) (pr : Extra) (w : World) (x : ℕ) → 14 + x ≤ 32 * w.count → ((pr1 : Extra) (w1 : World) (x1 : ℕ) → Keeps top pr pr1 → 8 + x1 ≤ 32 * w1.count → Fo m top ls pr1 (R head pr1) w1.state x1 next (go w1)) → Fo m top ls pr (R mid pr) w.state x next (bottom go went w)
+  pub record Closes (top : ℕ) (ls : Rings) (mid head next : List Line) (bottom : Continuation → Continuation → Continuation) : Type 0 where
+    pub by : (m : ℕ) → m ≤ b → (go : Continuation) (pr : Extra) (w : World) (x : ℕ) → 14 + x ≤ 32 * w.count → ((pr1 : Extra) (w1 : World) (x1 : ℕ) → Keeps top pr pr1 → 8 + x1 ≤ 32 * w1.count → Fo m top ls pr1 (R head pr1) w1.state x1 next (go w1)) → Fo m top ls pr (R mid pr) w.state x next (bottom go went w)
 
   back_to : (p : Place) (n : ℕ) (head out : List Line) (pr : Extra) (s : State) → from_label n co ≡ head → Comes (R (jump p n ∷ out) pr) s (R head pr) s 1
   back_to p n head out pr s e = subst (λ q. Comes (R (jump p n ∷ out) pr) s (R q pr) s 1) e (past_jump g p n out pr s)
@@ -74,7 +74,7 @@ module _ (g : Lowering) (b : ℕ) (call : ℕ → List Spot → World → Out �
         (λ w1 y ok. subst (λ z. Fo m top ls pr (R z pr) w1.state (1 + y) next (go w1)) (sym at_head) (k pr w1 (1 + y) (keeps_self top pr) (omega arith))));
   }
 
-  module _ (top n n1 n2 : ℕ) (ls : Rings) (p : Place) (o : Option Formula) (inner mid next : List Line) (body : Then) (bottom : Then → Then → Then)
+  module _ (top n n1 n2 : ℕ) (ls : Rings) (p : Place) (o : Option Formula) (inner mid next : List Line) (body : Continuation) (bottom : Continuation → Continuation → Continuation)
       (at_mid : from_label n1 co ≡ mid) (at_out : from_label n2 co ≡ here n2 p ∷ next) (no_do : closers n co ≡ []) (no_do2 : closers n2 co ≡ [])
       (starts : Starts inner) (used : NamesIfAny (g.K g.unit) o)
       (runs : (pr : Extra) (w : World) (x : ℕ) → x ≤ 32 * w.count → Fo b top ((n2, n1) ∷ ls) pr (R inner pr) w.state x mid (body w))
@@ -90,7 +90,7 @@ module _ (g : Lowering) (b : ℕ) (call : ℕ → List Spot → World → Out �
         (λ w1 y ok. leave pr w1 (1 + y) (omega arith)))
     turns_follow (suc m) few pr w x le =
         let go = turns m (tested So f0 p o) body bottom in
-        let turn : Then = λ w1. turned (body (counted w1)) (bottom go went) in
+        let turn : Continuation = λ w1. turned (body (counted w1)) (bottom go went) in
         first g {b1 = m} {x1 = 1 + x} (tested So f0 p o turn went w) (keeps_self top pr) (past_here g p n (with_test p o n2 inner) pr w.state no_do) (omega arith) (omega arith) (omega arith)
         (tested_follows g b call 6 p o n2 w turn went used (omega arith) (omega arith)
         (λ w1 y ok. turned_follows g 14 n2 n1 p (body (counted w1)) (bottom go went) (omega arith) (omega arith) (omega arith) at_out no_do2 at_mid (runs pr (counted w1) (14 + y) (omega arith))
@@ -98,31 +98,31 @@ module _ (g : Lowering) (b : ℕ) (call : ℕ → List Spot → World → Out �
         (λ w1 y ok. leave pr w1 (1 + y) (omega arith)))
 
   -- a DO
-  module _ (top n1 n2 : ℕ) (ls : Rings) (p : Place) (x : Text) (inner next : List Line) (body : Then)
+  module _ (top n1 n2 : ℕ) (ls : Rings) (p : Place) (x : Text) (inner next : List Line) (body : Continuation)
       (at_mid : from_label n1 co ≡ here n1 p ∷ here n2 p ∷ next) (at_out : from_label n2 co ≡ here n2 p ∷ next) (no_do2 : closers n2 co ≡ []) (one_do : closers n1 co ≡ record { variable = x; inner = inner } ∷ [])
       (starts : Starts inner) (used : g.K g.unit x) (fits : length inner ≤ top)
       (runs : (pr : Extra) (w : World) (y : ℕ) → y ≤ 32 * w.count → Fo b (length inner) ((n2, n1) ∷ ls) pr (R inner pr) w.state y (here n1 p ∷ here n2 p ∷ next) (body w)) where
     abbrev out : List Line
     out = here n2 p ∷ next
 
-    closing : (k : Loop) (pr : Extra) (s : State) → pr.loops (length inner) ≡ k → (i j c : ℕ) → R (here n1 p ∷ out) pr (suc i) (at s (suc j) c) ≡ bind (loop_turn (U i) (moved_to p f0) x k (near g.spot pr.spare s j (c + 1))) (λ on w1. choose on (Raw g inner pr.loops i w1) (Raw g out pr.loops i w1))
+    closing : (k : LoopParameters) (pr : Extra) (s : State) → pr.loops (length inner) ≡ k → (i j c : ℕ) → R (here n1 p ∷ out) pr (suc i) (at s (suc j) c) ≡ bind (loop_turn (U i) (moved_to p f0) x k (near g.spot pr.spare s j (c + 1))) (λ on w1. choose on (Raw g inner pr.loops i w1) (Raw g out pr.loops i w1))
     closing k pr s e i j c =
         ap (λ q. close (U i) (moved_to p f0) q out (exec g.target (λ u. g.code) i f0) pr.loops (near g.spot pr.spare s j (c + 1))) one_do
         ∙ ap (λ q. bind (loop_turn (U i) (moved_to p f0) x q (near g.spot pr.spare s j (c + 1))) (λ on w1. choose on (Raw g inner pr.loops i w1) (Raw g out pr.loops i w1))) e
 
-    pub counts_follow : (k : Loop) (m : ℕ) → m ≤ b → (pr : Extra) (w : World) (y : ℕ) → pr.loops (length inner) ≡ k → 2 + y ≤ 32 * w.count → Fo m top ls pr (R inner pr) w.state y next (counts So f0 m p x k body w)
+    pub counts_follow : (k : LoopParameters) (m : ℕ) → m ≤ b → (pr : Extra) (w : World) (y : ℕ) → pr.loops (length inner) ≡ k → 2 + y ≤ 32 * w.count → Fo m top ls pr (R inner pr) w.state y next (do_turns So f0 m p x k body w)
     counts_follow k zero few pr w y is le = record { by = (0, omega arith, omega arith, pr.spare, λ i c lt. waits inner pr w.state starts i c lt) }
     counts_follow k (suc m) few pr w y is le =
-        let turn : Then = λ w1. bind (loop_turn So (moved_to p f0) x k w1) (λ on w2. choose on (counts So f0 m p x k body w2) (Gives Went w2)) in
+        let turn : Continuation = λ w1. bind (loop_turn So (moved_to p f0) x k w1) (λ on w2. choose on (do_turns So f0 m p x k body w2) (Gives Went w2)) in
         turned_follows g 8 n2 n1 p (body (counted w)) turn few (omega arith) fits at_out no_do2 at_mid (runs pr (counted w) (8 + y) (omega arith))
         (λ pr1 w1 y1 kp ok.
         let is1 : pr1.loops (length inner) ≡ k = kp.by (length inner) (omega arith) ∙ is in
         first g {b1 = m} {x1 = 1 + y1} (turn w1) (keeps_self top pr1)
         (one (R (here n1 p ∷ out) pr1) (λ i w2. bind (loop_turn (U i) (moved_to p f0) x k (spared g.spot pr1.spare w2)) (λ on w3. choose on (Raw g inner pr1.loops i w3) (Raw g out pr1.loops i w3))) w1.state (λ i j c. closing k pr1 w1.state is1 i j c)) (omega arith) (omega arith) (omega arith)
-        (bind_follows g 5 (λ i. loop_turn (U i) (moved_to p f0) x k) (loop_turn So (moved_to p f0) x k w1) (λ on i w3. choose on (Raw g inner pr1.loops i w3) (Raw g out pr1.loops i w3)) (λ on w2. choose on (counts So f0 m p x k body w2) (Gives Went w2))
+        (bind_follows g 5 (λ i. loop_turn (U i) (moved_to p f0) x k) (loop_turn So (moved_to p f0) x k w1) (λ on i w3. choose on (Raw g inner pr1.loops i w3) (Raw g out pr1.loops i w3)) (λ on w2. choose on (do_turns So f0 m p x k body w2) (Gives Went w2))
         (fewer ℕ same_fuel g.spot (loop_turn So (moved_to p f0) x k w1) (omega arith) (track_turn g b (λ n. n + 1) (λ n. omega arith) (λ i. (U i).call) call p x used k pr1.spare w1 (5 + (1 + y1)) (omega arith)))
         (λ on w2 y2 ok2. by_answer on pr1 w2 y2 is1 ok2 (counts_follow k m (omega arith) pr1 w2 y2 is1 (omega arith)))))
       where
-        by_answer : (on : Bool) (pr1 : Extra) (w2 : World) (y2 : ℕ) → pr1.loops (length inner) ≡ k → 5 + y2 ≤ 32 * w2.count → Fo m top ls pr1 (R inner pr1) w2.state y2 next (counts So f0 m p x k body w2) → Fo m top ls pr1 (λ i w3. choose on (R inner pr1 i w3) (R out pr1 i w3)) w2.state y2 next (choose on (counts So f0 m p x k body w2) (Gives Went w2))
+        by_answer : (on : Bool) (pr1 : Extra) (w2 : World) (y2 : ℕ) → pr1.loops (length inner) ≡ k → 5 + y2 ≤ 32 * w2.count → Fo m top ls pr1 (R inner pr1) w2.state y2 next (do_turns So f0 m p x k body w2) → Fo m top ls pr1 (λ i w3. choose on (R inner pr1 i w3) (R out pr1 i w3)) w2.state y2 next (choose on (do_turns So f0 m p x k body w2) (Gives Went w2))
         by_answer true pr1 w2 y2 is1 ok2 ih = ih
         by_answer false pr1 w2 y2 is1 ok2 ih = record { by = (1, omega arith, pr1, keeps_self top pr1, past_here g p n2 next pr1 w2.state no_do2) }

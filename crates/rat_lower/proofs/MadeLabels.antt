@@ -5,7 +5,7 @@ use Rattle.std.specs.Prelude.{nat_eq, ◌||◌}
 use Rattle.std.proofs.Math.Seq.{drop-cons}
 use Rattle.std.proofs.Math.ListN.{drop_of_length-le}
 use Rattle.ground.specs.declared.fault.Memory.{Memory}
-use Rattle.f66_tree.specs.Forms.{Text}
+use Rattle.f66_tree.specs.Syntax.{Text}
 use Rattle.name_alloc.specs.Numbers.{Numbering, is_in, free_from, free_number, behind, next_number, taking, making, start_of, made_number, made_first}
 use Rattle.name_alloc.specs.MadeNames.{Used, labelling}
 use Rattle.name_alloc.proofs.Free.{free_from-free, free_from-above, above-length, behind-first, made-rises, made-free}

@@ -5,14 +5,14 @@ use Rattle.std.proofs.lemmas.Option.{none-some}
 use Rattle.ground.specs.declared.place.Place.{Place}
 use Rattle.ground.specs.declared.fault.FaultKind.TheVariants.{Unbuilt}
 use Rattle.f66_tree.specs.declared.unit.Unit.{Unit as AUnit}
-use Rattle.f66_tree.specs.Forms.{MainUnit, Line, Routine}
+use Rattle.f66_tree.specs.Syntax.{MainUnit, Line, Routine}
 use Rattle.f66_tree.specs.Units.{is_main}
 use Rattle.f66_tree.specs.Views.{routine_of}
 use Rattle.f66_tree.specs.World.{Record}
 use Rattle.f66_tree.specs.Agreement.{Agrees}
 use Rattle.f66_tree.specs.OneUnit.{executed}
 use Rattle.f66_check.specs.Answers.{IsSound}
-use Rattle.rat_tree.specs.Commands.{RatRoutine}
+use Rattle.rat_tree.specs.Syntax.{RatRoutine}
 use Rattle.rat_check.specs.Parts.{no_label, unit_parts}
 use Rattle.rat_check.specs.FirstFault.{fault_at, with_own, fault_of_parts, unit_fault}
 use Rattle.rat_check.specs.Survey.{is_among, own_labels}

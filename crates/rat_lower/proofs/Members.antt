@@ -4,27 +4,28 @@ use Rattle.std.proofs.Common.{Vec, Global, Result, Ok, Err, OnOk}
 use Rattle.ground.specs.declared.place.Place.{Place}
 use Rattle.ground.specs.declared.fault.Memory.{Memory}
 use Rattle.f66_tree.specs.declared.expression.Expr.{Expr}
-use Rattle.f66_tree.specs.Forms.{Formulas, Line}
+use Rattle.f66_tree.specs.Syntax.{Formulas, Line}
 use Rattle.f66_tree.specs.Views.{formula_of, formulas_of}
 use Rattle.rat_tree.specs.declared.program.RatStmt.{RatStmt}
 use Rattle.std.proofs.Math.Seq.{drop-cons}
 use Rattle.std.proofs.Math.ListN.{drop_of_length-le}
 use Rattle.rat_tree.specs.declared.program.RatCase.{RatCase, out-RatCase, roll-out-RatCase}
 use Rattle.rat_tree.specs.declared.program.RatKind.TheVariants.{Block, Switch}
-use Rattle.rat_tree.specs.Commands.{Command, Together, Switches, Commands, Clauses, NoClause, AndClause}
+use Rattle.rat_tree.specs.Syntax.{Command, Commands, Clauses, NoClause, AndClause}
 use Rattle.rat_tree.specs.Views.{labelled, command_of, command, commands, clause_then, clauses}
 use Rattle.rat_tree.proofs.Rows.{block_commands, switch_clauses, case_clause}
-use Rattle.rat_lower.specs.Around.{with_label, with_mark}
+use Rattle.rat_lower.specs.Around.{behind_label, behind_mark}
 use Rattle.rat_lower.specs.Code.{Rings, here, jump, labels, all_labels, clause_labels, code_of, all_code, each_test, tests, bodies, default_label, has_switch, have_switch}
 use Rattle.rat_lower.specs.Emitted.{Making, labels_past, Adds, Emitted, AllEmitted, ClausesEmitted, first_default}
 use Rattle.rat_lower.proofs.Blocks.{label_or}
 use Rattle.rat_lower.proofs.Sizes.{size_of, size_of_all, size_of_clauses, labelled_size}
+use Rattle.rat_tree.specs.Syntax as ratfor_tree
 
 labelled_labels : (l : Option ℕ) (p : Place) (s : Command) → labels (labelled l p s) ≡ labels s
 labelled_labels None p s = refl
 labelled_labels (Some l) p s = refl
 
-marked : (l : Option ℕ) (p : Place) (s : Command) (ls : Rings) (before after : Making) (old mid new : List Line) → Adds old mid (with_label l p) → Emitted s ls before after mid new → Emitted (labelled l p s) ls before after old new
+marked : (l : Option ℕ) (p : Place) (s : Command) (ls : Rings) (before after : Making) (old mid new : List Line) → Adds old mid (behind_label l p) → Emitted s ls before after mid new → Emitted (labelled l p s) ls before after old new
 marked None p s ls before after old mid new a e = record {
   taken = e.taken;
   spare = e.spare;
@@ -40,22 +41,22 @@ marked (Some l) p s ls before after old mid new a e = record {
 
 -- ---- blocks ----
 
-block_command : (s : RatStmt) (v : Vec RatStmt Global) (list : List RatStmt) → s.kind ≡ Block v → list ≡ v.items → command s ≡ labelled s.label s.place (Together s.place (commands list))
+block_command : (s : RatStmt) (v : Vec RatStmt Global) (list : List RatStmt) → s.kind ≡ Block v → list ≡ v.items → command s ≡ labelled s.label s.place (ratfor_tree.Block s.place (commands list))
 block_command s v list is value =
-    ap (command_of s.label s.place) is ∙ block_commands s.label s.place v ∙ ap (λ l. labelled s.label s.place (Together s.place (commands l))) (sym value)
+    ap (command_of s.label s.place) is ∙ block_commands s.label s.place v ∙ ap (λ l. labelled s.label s.place (ratfor_tree.Block s.place (commands l))) (sym value)
 
 pub block_labels : (s : RatStmt) (v : Vec RatStmt Global) (list : List RatStmt) → s.kind ≡ Block v → list ≡ v.items → labels (command s) ≡ all_labels (commands list)
-block_labels s v list is value = ap labels (block_command s v list is value) ∙ labelled_labels s.label s.place (Together s.place (commands list))
+block_labels s v list is value = ap labels (block_command s v list is value) ∙ labelled_labels s.label s.place (ratfor_tree.Block s.place (commands list))
 
 pub block_size : (s : RatStmt) (v : Vec RatStmt Global) (list : List RatStmt) → s.kind ≡ Block v → list ≡ v.items → size_of (command s) ≡ size_of_all (commands list) + 1
-block_size s v list is value = ap size_of (block_command s v list is value) ∙ labelled_size s.label s.place (Together s.place (commands list))
+block_size s v list is value = ap size_of (block_command s v list is value) ∙ labelled_size s.label s.place (ratfor_tree.Block s.place (commands list))
 
-pub from_block : (s : RatStmt) (v : Vec RatStmt Global) (list : List RatStmt) (r : Result (Unit {0}) Memory) (ls : Rings) (before after : Making) (old mid new : List Line) → s.kind ≡ Block v → list ≡ v.items → Adds old mid (with_mark s.label s.place s.kind) → OnOk r (AllEmitted (commands list) ls before after mid new) → OnOk r (Emitted (command s) ls before after old new)
+pub from_block : (s : RatStmt) (v : Vec RatStmt Global) (list : List RatStmt) (r : Result (Unit {0}) Memory) (ls : Rings) (before after : Making) (old mid new : List Line) → s.kind ≡ Block v → list ≡ v.items → Adds old mid (behind_mark s.label s.place s.kind) → OnOk r (AllEmitted (commands list) ls before after mid new) → OnOk r (Emitted (command s) ls before after old new)
 from_block s v list (Ok _) ls before after old mid new is value mark h =
     subst
     (λ x. Emitted x ls before after old new)
     (sym (block_command s v list is value))
-    (marked s.label s.place (Together s.place (commands list)) ls before after old mid new (subst (λ k. Adds old mid (with_mark s.label s.place k)) is mark) (record { taken = h.taken; spare = h.spare; made = h.made; added = h.added }))
+    (marked s.label s.place (ratfor_tree.Block s.place (commands list)) ls before after old mid new (subst (λ k. Adds old mid (behind_mark s.label s.place k)) is mark) (record { taken = h.taken; spare = h.spare; made = h.made; added = h.added }))
 from_block s v list (Err e) ls before after old mid new is value mark h = tt
 
 labelled_has : (l : Option ℕ) (p : Place) (s : Command) → has_switch (labelled l p s) ≡ has_switch s
@@ -63,26 +64,26 @@ labelled_has None p s = refl
 labelled_has (Some l) p s = refl
 
 pub block_has : (s : RatStmt) (v : Vec RatStmt Global) (list : List RatStmt) → s.kind ≡ Block v → list ≡ v.items → has_switch (command s) ≡ have_switch (commands list)
-block_has s v list is value = ap has_switch (block_command s v list is value) ∙ labelled_has s.label s.place (Together s.place (commands list))
+block_has s v list is value = ap has_switch (block_command s v list is value) ∙ labelled_has s.label s.place (ratfor_tree.Block s.place (commands list))
 
 -- ---- switches ----
 
-switch_command : (s : RatStmt) (e : Expr) (v : Vec RatCase Global) (list : List RatCase) → s.kind ≡ Switch e v → list ≡ v.items → command s ≡ labelled s.label s.place (Switches s.place (formula_of e) (clauses list))
+switch_command : (s : RatStmt) (e : Expr) (v : Vec RatCase Global) (list : List RatCase) → s.kind ≡ Switch e v → list ≡ v.items → command s ≡ labelled s.label s.place (ratfor_tree.Switch s.place (formula_of e) (clauses list))
 switch_command s e v list is value =
-    ap (command_of s.label s.place) is ∙ switch_clauses s.label s.place e v ∙ ap (λ l. labelled s.label s.place (Switches s.place (formula_of e) (clauses l))) (sym value)
+    ap (command_of s.label s.place) is ∙ switch_clauses s.label s.place e v ∙ ap (λ l. labelled s.label s.place (ratfor_tree.Switch s.place (formula_of e) (clauses l))) (sym value)
 
 pub switch_labels : (s : RatStmt) (e : Expr) (v : Vec RatCase Global) (list : List RatCase) → s.kind ≡ Switch e v → list ≡ v.items → labels (command s) ≡ clause_labels (clauses list) + 1
-switch_labels s e v list is value = ap labels (switch_command s e v list is value) ∙ labelled_labels s.label s.place (Switches s.place (formula_of e) (clauses list))
+switch_labels s e v list is value = ap labels (switch_command s e v list is value) ∙ labelled_labels s.label s.place (ratfor_tree.Switch s.place (formula_of e) (clauses list))
 
 pub switch_size : (s : RatStmt) (e : Expr) (v : Vec RatCase Global) (list : List RatCase) → s.kind ≡ Switch e v → list ≡ v.items → size_of (command s) ≡ size_of_clauses (clauses list) + 2
-switch_size s e v list is value = ap size_of (switch_command s e v list is value) ∙ labelled_size s.label s.place (Switches s.place (formula_of e) (clauses list))
+switch_size s e v list is value = ap size_of (switch_command s e v list is value) ∙ labelled_size s.label s.place (ratfor_tree.Switch s.place (formula_of e) (clauses list))
 
-pub from_switch : (s : RatStmt) (e : Expr) (v : Vec RatCase Global) (list : List RatCase) (r : Result (Unit {0}) Memory) (ls : Rings) (before after : Making) (old mid new : List Line) → s.kind ≡ Switch e v → list ≡ v.items → Adds old mid (with_mark s.label s.place s.kind) → OnOk r (Emitted (Switches s.place (formula_of e) (clauses list)) ls before after mid new) → OnOk r (Emitted (command s) ls before after old new)
+pub from_switch : (s : RatStmt) (e : Expr) (v : Vec RatCase Global) (list : List RatCase) (r : Result (Unit {0}) Memory) (ls : Rings) (before after : Making) (old mid new : List Line) → s.kind ≡ Switch e v → list ≡ v.items → Adds old mid (behind_mark s.label s.place s.kind) → OnOk r (Emitted (ratfor_tree.Switch s.place (formula_of e) (clauses list)) ls before after mid new) → OnOk r (Emitted (command s) ls before after old new)
 from_switch s e v list (Ok _) ls before after old mid new is value mark h =
     subst
     (λ x. Emitted x ls before after old new)
     (sym (switch_command s e v list is value))
-    (marked s.label s.place (Switches s.place (formula_of e) (clauses list)) ls before after old mid new (subst (λ k. Adds old mid (with_mark s.label s.place k)) is mark) h)
+    (marked s.label s.place (ratfor_tree.Switch s.place (formula_of e) (clauses list)) ls before after old mid new (subst (λ k. Adds old mid (behind_mark s.label s.place k)) is mark) h)
 from_switch s e v list (Err x) ls before after old mid new is value mark h = tt
 
 -- ---- clauses ----

@@ -3,11 +3,11 @@ use Rattle.std.proofs.Common.{◌≡◌, ℕ, Bool, true, false, true≢false, L
 use Rattle.std.specs.Prelude.{◌&&◌, ◌||◌, ⊤}
 use Rattle.std.specs.List.{list_all}
 use Rattle.ground.specs.declared.place.Place.{Place}
-use Rattle.f66_tree.specs.Forms.{Formula, Formulas, Nought, Also, Act, Assigns, Signs, Chooses, Passes}
+use Rattle.f66_tree.specs.Syntax.{Formula, Formulas, NoFormula, AndFormula, Act, Assign, Sign, When, Continue}
 use Rattle.f66_names.specs.BuiltActs.{is_built}
 use Rattle.rat_check.specs.Parts.{Labels, Part, with_mark}
-use Rattle.rat_check.specs.Said.{said_by, said_in, values, act_if_any, condition_if_any}
-use Rattle.rat_check.specs.Rules.{is_simple, is_ratfor, Before, behind, Whole, finds_labels}
+use Rattle.rat_check.specs.Said.{said_by, said_in, value_acts, said_if_any, condition_if_any}
+use Rattle.rat_check.specs.Rules.{is_simple, is_ratfor, Before, behind, UnitRules, finds_labels}
 use Rattle.rat_check.proofs.CleanLemmas.{and_true, AllKeep}
 
 pub both_false : (a b : Bool) → (a || b) ≡ false → (a ≡ false) × (b ≡ false)
@@ -33,15 +33,15 @@ module _ (P : Part → Type 0) where
 -- ---- a unit without a fault ----
 
 -- the part is one of Ratfor, and finds its labels and its loop
-pub record Fine (u : Whole) (v : Part) : Type 0 where
+pub record Fine (u : UnitRules) (v : Part) : Type 0 where
   pub ratfor : is_ratfor v.form ≡ true
   pub found : finds_labels u.formats v.reached v.form ≡ true
   pub inside : v.inside ≡ true
 
-abbrev pub AllFine : Whole → List Part → Type 0
+abbrev pub AllFine : UnitRules → List Part → Type 0
 AllFine u vs = AllParts (Fine u) vs
 
-pub all_fine : (u : Whole) (b : Before) (vs : List Part) → AllKeep u b vs → AllFine u vs
+pub all_fine : (u : UnitRules) (b : Before) (vs : List Part) → AllKeep u b vs → AllFine u vs
 all_fine u b [] h = tt
 all_fine u b (v ∷ vs) h =
     (record { ratfor = (and_true (is_ratfor v.form) (list_all (is_built u.context) (said_by v.form)) h.0).0; found = h.1.found; inside = h.1.inside }, all_fine u (behind b v) vs h.2)
@@ -79,26 +79,26 @@ said_so Good (v ∷ vs) h = let k = of_split Good (said_by v.form) (said_in vs) 
 -- ---- what conditions, values and the parts of a `for` say ----
 
 module _ (Good : Act → Type 0) where
-  pub values_so : ((e : Formula) → Good (Signs e 0 0 0)) → (es : Formulas) → AllOf Good (values es)
-  values_so value Nought = tt
-  values_so value (Also e es) = (value e, values_so value es)
+  pub values_so : ((e : Formula) → Good (Sign e 0 0 0)) → (es : Formulas) → AllOf Good (value_acts es)
+  values_so value NoFormula = tt
+  values_so value (AndFormula e es) = (value e, values_so value es)
 
-  step_so : ((x e : Formula) → Good (Assigns x e)) → (o : Option Act) (more : List Act) → is_simple o ≡ true → AllOf Good more → AllOf Good (act_if_any o ++ more)
+  step_so : ((x e : Formula) → Good (Assign x e)) → (o : Option Act) (more : List Act) → is_simple o ≡ true → AllOf Good more → AllOf Good (said_if_any o ++ more)
   step_so assigns None more is h = h
-  step_so assigns (Some (Assigns x e)) more is h = (assigns x e, h)
+  step_so assigns (Some (Assign x e)) more is h = (assigns x e, h)
   step_so assigns (Some _) more is h = absurd (true≢false (sym is))
 
-  last_so : ((x e : Formula) → Good (Assigns x e)) → (o : Option Act) → is_simple o ≡ true → AllOf Good (act_if_any o)
+  last_so : ((x e : Formula) → Good (Assign x e)) → (o : Option Act) → is_simple o ≡ true → AllOf Good (said_if_any o)
   last_so assigns None is = tt
-  last_so assigns (Some (Assigns x e)) is = (assigns x e, tt)
+  last_so assigns (Some (Assign x e)) is = (assigns x e, tt)
   last_so assigns (Some _) is = absurd (true≢false (sym is))
 
-  test_so : ((e : Formula) → Good (Chooses e Passes)) → (o : Option Formula) (more : List Act) → AllOf Good more → AllOf Good (condition_if_any o ++ more)
+  test_so : ((e : Formula) → Good (When e Continue)) → (o : Option Formula) (more : List Act) → AllOf Good more → AllOf Good (condition_if_any o ++ more)
   test_so condition None more h = h
   test_so condition (Some e) more h = (condition e, h)
 
-  pub prepared_so : ((x e : Formula) → Good (Assigns x e)) → ((e : Formula) → Good (Chooses e Passes)) → (a : Option Act) (e : Option Formula) (b : Option Act) → (is_simple a && is_simple b) ≡ true →
-      AllOf Good (act_if_any a ++ (condition_if_any e ++ act_if_any b))
+  pub prepared_so : ((x e : Formula) → Good (Assign x e)) → ((e : Formula) → Good (When e Continue)) → (a : Option Act) (e : Option Formula) (b : Option Act) → (is_simple a && is_simple b) ≡ true →
+      AllOf Good (said_if_any a ++ (condition_if_any e ++ said_if_any b))
   prepared_so assigns condition a e b is =
       let k = and_true (is_simple a) (is_simple b) is in
-      step_so assigns a (condition_if_any e ++ act_if_any b) k.0 (test_so condition e (act_if_any b) (last_so assigns b k.1))
+      step_so assigns a (condition_if_any e ++ said_if_any b) k.0 (test_so condition e (said_if_any b) (last_so assigns b k.1))

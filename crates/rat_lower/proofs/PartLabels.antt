@@ -4,10 +4,10 @@ use Rattle.std.specs.Prelude.{not, nat_eq, nat_le, ◌&&◌, ◌||◌}
 use Rattle.std.proofs.lemmas.Bool.{eqb-true, leb-true}
 use Rattle.ground.specs.declared.place.Place.{Place}
 use Rattle.f66_tree.specs.Execution.{has_label}
-use Rattle.rat_tree.specs.Commands.{Command, Empty, Together, When, Either, Whilst, Through, Repeats, Until, Counts, Switches, Leaves, Turns, GivesBack, Plainly, Marked, Commands, NoCommand, AndCommand, Clauses, NoClause, AndClause}
+use Rattle.rat_tree.specs.Syntax.{Command, Empty, Block, If, IfElse, While, For, Repeat, RepeatUntil, Do, Switch, Break, Next, Return, Plain, Labelled, Commands, NoCommand, AndCommand, Clauses, NoClause, AndClause}
 use Rattle.name_alloc.specs.Numbers.{is_in}
-use Rattle.rat_check.specs.Parts.{Says, Asks, Labels, no_label, with_label, Part, part, with_mark, with_labels, parts_of, parts_in, clause_parts, unit_parts}
-use Rattle.rat_check.specs.Rules.{is_own_label, Before, nothing_before, behind, Whole}
+use Rattle.rat_check.specs.Parts.{Statement, Condition, Labels, no_label, with_label, Part, part, with_mark, with_labels, parts_of, parts_in, clause_parts, unit_parts}
+use Rattle.rat_check.specs.Rules.{is_own_label, Before, nothing_before, behind, UnitRules}
 use Rattle.rat_check.proofs.CleanLemmas.{and_true, first_keeps}
 use Rattle.rat_check.specs.FirstFault.{with_own, first_broken}
 use Rattle.rat_check.specs.Survey.{is_among}
@@ -31,20 +31,20 @@ uses_mark l k r (Some m) p vs = refl
 mutual
   uses_of : (l : ℕ) (c : Command) (k : ℕ) (r : Labels) (o : Option ℕ) → uses l (parts_of k r o c) ≡ bit (has_label l o) + given l c
   uses_of l (Empty p) k r o = refl
-  uses_of l (Together p ss) k r o = omega (arith, uses_in l ss k (with_labels ss r))
-  uses_of l (When p e c) k r o = omega (arith, uses_of l c k r None)
-  uses_of l (Either p e c d) k r o = omega (arith, uses_append l (parts_of k r None c) (parts_of k r None d), uses_of l c k r None, uses_of l d k r None)
-  uses_of l (Whilst p e c) k r o = omega (arith, uses_of l c (suc k) r None)
-  uses_of l (Through p first e step c) k r o = omega (arith, uses_of l c (suc k) r None)
-  uses_of l (Repeats p c) k r o = omega (arith, uses_of l c (suc k) r None)
-  uses_of l (Until p c e q) k r o = omega (arith, uses_append l (parts_of (suc k) r None c) (part k r None q (Asks e) ∷ []), uses_of l c (suc k) r None)
-  uses_of l (Counts p x i j m c) k r o = omega (arith, uses_of l c (suc k) r None)
-  uses_of l (Switches p e cs) k r o = omega (arith, uses_clauses l cs k r false)
-  uses_of l (Leaves p n) k r o = refl
-  uses_of l (Turns p n) k r o = refl
-  uses_of l (GivesBack p e) k r o = refl
-  uses_of l (Plainly m p a) k r o = omega (arith, uses_mark l k r o p (part k r m p (Says a) ∷ []))
-  uses_of l (Marked m p c) k r o = omega (arith, uses_mark l k r o p (parts_of k r (Some m) c), uses_of l c k r (Some m))
+  uses_of l (Block p ss) k r o = omega (arith, uses_in l ss k (with_labels ss r))
+  uses_of l (If p e c) k r o = omega (arith, uses_of l c k r None)
+  uses_of l (IfElse p e c d) k r o = omega (arith, uses_append l (parts_of k r None c) (parts_of k r None d), uses_of l c k r None, uses_of l d k r None)
+  uses_of l (While p e c) k r o = omega (arith, uses_of l c (suc k) r None)
+  uses_of l (For p first e step c) k r o = omega (arith, uses_of l c (suc k) r None)
+  uses_of l (Repeat p c) k r o = omega (arith, uses_of l c (suc k) r None)
+  uses_of l (RepeatUntil p c e q) k r o = omega (arith, uses_append l (parts_of (suc k) r None c) (part k r None q (Condition e) ∷ []), uses_of l c (suc k) r None)
+  uses_of l (Do p x i j m c) k r o = omega (arith, uses_of l c (suc k) r None)
+  uses_of l (Switch p e cs) k r o = omega (arith, uses_clauses l cs k r false)
+  uses_of l (Break p n) k r o = refl
+  uses_of l (Next p n) k r o = refl
+  uses_of l (Return p e) k r o = refl
+  uses_of l (Plain m p a) k r o = omega (arith, uses_mark l k r o p (part k r m p (Statement a) ∷ []))
+  uses_of l (Labelled m p c) k r o = omega (arith, uses_mark l k r o p (parts_of k r (Some m) c), uses_of l c k r (Some m))
 
   uses_in : (l : ℕ) (ss : Commands) (k : ℕ) (r : Labels) → uses l (parts_in k r ss) ≡ all_given l ss
   uses_in l NoCommand k r = refl
@@ -81,13 +81,13 @@ at_most : (b : Bool) → bit b ≤ 1
 at_most true = omega arith
 at_most false = omega arith
 
-at_most_once : (u : Whole) (b : Before) (vs : List Part) (l : ℕ) → first_broken u b vs ≡ None → bit (b.labels l) + uses l vs ≤ 1
+at_most_once : (u : UnitRules) (b : Before) (vs : List Part) (l : ℕ) → first_broken u b vs ≡ None → bit (b.labels l) + uses l vs ≤ 1
 at_most_once u b [] l e = omega (arith, at_most (b.labels l))
 at_most_once u b (v ∷ vs) l e =
     let h = first_keeps u b v vs e in
     one_more b.labels v.label l (uses l vs) h.0.own (at_most_once u (behind b v) vs l h.1)
 
-pub given_once : (u : Whole) (ss : Commands) → first_broken u nothing_before (unit_parts ss) ≡ None → (l : ℕ) → all_given l ss ≤ 1
+pub given_once : (u : UnitRules) (ss : Commands) → first_broken u nothing_before (unit_parts ss) ≡ None → (l : ℕ) → all_given l ss ≤ 1
 given_once u ss e l = omega (arith, at_most_once u nothing_before (unit_parts ss) l e, uses_in l ss 0 (with_labels ss no_label))
 
 -- ---- labels are from 1 to 99999 ----
@@ -100,7 +100,7 @@ own_range before (Some m) l e h =
     let same : m ≡ l = eqb-true m l h in
     (omega (arith, leb-true 1 m r.0, same), omega (arith, leb-true m 99999 r.1, same))
 
-in_range : (u : Whole) (b : Before) (vs : List Part) (l : ℕ) → first_broken u b vs ≡ None → 1 ≤ uses l vs → (1 ≤ l) × (l ≤ 99999)
+in_range : (u : UnitRules) (b : Before) (vs : List Part) (l : ℕ) → first_broken u b vs ≡ None → 1 ≤ uses l vs → (1 ≤ l) × (l ≤ 99999)
 in_range u b [] l e h = absurd (omega (arith, h))
 in_range u b (v ∷ vs) l e h =
     let k = first_keeps u b v vs e in
@@ -110,7 +110,7 @@ in_range u b (v ∷ vs) l e h =
     by true is own later = own is
     by false is own later = later (omega (arith, h, ap bit is))
 
-pub given_range : (u : Whole) (ss : Commands) → first_broken u nothing_before (unit_parts ss) ≡ None → (l : ℕ) → 1 ≤ all_given l ss → (1 ≤ l) × (l ≤ 99999)
+pub given_range : (u : UnitRules) (ss : Commands) → first_broken u nothing_before (unit_parts ss) ≡ None → (l : ℕ) → 1 ≤ all_given l ss → (1 ≤ l) × (l ≤ 99999)
 given_range u ss e l h = in_range u nothing_before (unit_parts ss) l e (omega (arith, h, uses_in l ss 0 (with_labels ss no_label)))
 
 -- ---- labels that are not there ----

@@ -5,15 +5,15 @@ use Rattle.ground.specs.declared.place.Place.{Place}
 use Rattle.ground.specs.declared.value.Kind.TheVariants.{Integer}
 use Rattle.ground.specs.Content.{Content, Nothing, Whole, Truth}
 use Rattle.f66_tree.specs.declared.expression.Operator.TheVariants.{Eq}
-use Rattle.f66_tree.specs.Forms.{Text, Act, Assigns, Goes, Selects, Signs, Chooses, Loops, Invokes, Passes, Stops, Returns, Reads, Writes, Formats, Types, Dimensions, Commons, Equivalences, Presets, Formula, Variable, Line, bare}
+use Rattle.f66_tree.specs.Syntax.{Text, Act, Assign, Goto, Computed, Sign, When, Loop, Invoke, Continue, Stop, Return, Read, Write, Format, Typed, Dimension, Common, Equivalence, Preset, Formula, Ref, Line, unlabelled_line}
 use Rattle.f66_tree.specs.World.{State, World, counted, put_in, holding, Out, Gives, Halts, bind, Try, Yields, Traps, Fails, settle, choose}
 use Rattle.f66_tree.specs.Units.{is_note, position, dummies_of, kind_of, Spot, Held, Setting, Frame, moved_to}
 use Rattle.f66_tree.specs.Uses.{Names, NamesOfAct}
 use Rattle.f66_tree.specs.Evaluation.{base_by, load, asked, operate, denied, truth_in, variable_in, store_at, value_of, asks}
-use Rattle.f66_tree.specs.Statements.{Exit, Next, To, Back, does}
+use Rattle.f66_tree.specs.Statements.{Exit, Normal, To, Back, does}
 use Rattle.f66_tree.specs.Execution.{runnable, from_label, closers_at, close, leads, fetch, exec}
 use Rattle.f66_tree.proofs.Stores.{read_same}
-use Rattle.rat_tree.specs.Meaning.{Went, course_of, Flow, Then, decides, plainly, labelled, tested, performed, is_case}
+use Rattle.rat_tree.specs.Meaning.{Went, course_of, Flow, Continuation, decides, plain_statement, passed_label, tested, performed, is_case}
 use Rattle.rat_tree.specs.Uses.{NamesIfAny, ActIfAny}
 use Rattle.rat_lower.specs.Code.{Rings, unless, with_test, with_act, case_test}
 use Rattle.rat_lower.specs.Checked.{IsPlain, IsPlainIfAny}
@@ -58,23 +58,23 @@ module _ (g : Lowering) (b : ℕ) (call : ℕ → List Spot → World → Out �
   up n = omega arith
 
   unless_step : (p : Place) (e : Formula) (q : ℕ) (rest : List Line) (pr : Extra) (s : State) (n k c : ℕ) →
-      R (unless p e q ∷ rest) pr (suc n) (at s (suc k) c) ≡ bind (asks (U n) (moved_to p f0) e (near g.spot pr.spare s k (c + 1))) (λ y w1. choose (not y) (Raw g (bare p (Goes q) ∷ rest) pr.loops n w1) (Raw g rest pr.loops n w1))
-  unless_step p e q rest pr s n k c = flip p (value_of (U n) (moved_to p f0) e (near g.spot pr.spare s k (c + 1))) (λ y w1. choose y (Raw g (bare p (Goes q) ∷ rest) pr.loops n w1) (Raw g rest pr.loops n w1))
+      R (unless p e q ∷ rest) pr (suc n) (at s (suc k) c) ≡ bind (asks (U n) (moved_to p f0) e (near g.spot pr.spare s k (c + 1))) (λ y w1. choose (not y) (Raw g (unlabelled_line p (Goto q) ∷ rest) pr.loops n w1) (Raw g rest pr.loops n w1))
+  unless_step p e q rest pr s n k c = flip p (value_of (U n) (moved_to p f0) e (near g.spot pr.spare s k (c + 1))) (λ y w1. choose y (Raw g (unlabelled_line p (Goto q) ∷ rest) pr.loops n w1) (Raw g rest pr.loops n w1))
 
-  pub unless_follows : {j m top x : ℕ} {ls : Rings} {pr : Extra} {rest next : List Line} (z : ℕ) (p : Place) (e : Formula) (q : ℕ) (w : World) (yea nay : Then) → Names (g.K g.unit) e → m ≤ b → z + (1 + x) ≤ 32 * w.count →
+  pub unless_follows : {j m top x : ℕ} {ls : Rings} {pr : Extra} {rest next : List Line} (z : ℕ) (p : Place) (e : Formula) (q : ℕ) (w : World) (yea nay : Continuation) → Names (g.K g.unit) e → m ≤ b → z + (1 + x) ≤ 32 * w.count →
       ((w1 : World) (y : ℕ) → z + y ≤ 32 * w1.count → Fo j m top ls pr (R rest pr) w1.state y next (yea w1)) → ((w1 : World) (y : ℕ) → z + y ≤ 32 * w1.count → Fo j m top ls pr (R (from_label q g.code) pr) w1.state (1 + y) next (nay w1)) →
       Fo j m top ls pr (R (unless p e q ∷ rest) pr) w.state x next (decides Src f0 p e yea nay w)
   unless_follows {j} {m} {top} {x} {ls} {pr} {rest} {next} z p e q w yea nay used few le hy hn =
       first g {j1 = j} {b1 = m} {x1 = 1 + x} (decides Src f0 p e yea nay w) (keeps_self top pr)
-      (one (R (unless p e q ∷ rest) pr) (λ n w1. bind (asks (U n) (moved_to p f0) e (spared g.spot pr.spare w1)) (λ y w2. choose (not y) (Raw g (bare p (Goes q) ∷ rest) pr.loops n w2) (Raw g rest pr.loops n w2))) w.state (λ n k c. unless_step p e q rest pr w.state n k c)) (omega arith) (omega arith) (omega arith)
-      (bind_follows g z (λ n. asks (U n) (moved_to p f0) e) (asks Src (moved_to p f0) e w) (λ y n w2. choose (not y) (Raw g (bare p (Goes q) ∷ rest) pr.loops n w2) (Raw g rest pr.loops n w2)) (λ holds w1. choose holds (yea w1) (nay w1))
+      (one (R (unless p e q ∷ rest) pr) (λ n w1. bind (asks (U n) (moved_to p f0) e (spared g.spot pr.spare w1)) (λ y w2. choose (not y) (Raw g (unlabelled_line p (Goto q) ∷ rest) pr.loops n w2) (Raw g rest pr.loops n w2))) w.state (λ n k c. unless_step p e q rest pr w.state n k c)) (omega arith) (omega arith) (omega arith)
+      (bind_follows g z (λ n. asks (U n) (moved_to p f0) e) (asks Src (moved_to p f0) e w) (λ y n w2. choose (not y) (Raw g (unlabelled_line p (Goto q) ∷ rest) pr.loops n w2) (Raw g rest pr.loops n w2)) (λ holds w1. choose holds (yea w1) (nay w1))
       (fewer ℕ same_fuel g.spot (asks Src (moved_to p f0) e w) few (track_asks g b (λ n. n + 1) up (λ n. (U n).call) call p e used pr.spare w (z + (1 + x)) le)) by_answer)
     where
-      by_answer : (y : Bool) (w1 : World) (y1 : ℕ) → z + y1 ≤ 32 * w1.count → Fo j m top ls pr (λ n w2. choose (not y) (R (bare p (Goes q) ∷ rest) pr n w2) (R rest pr n w2)) w1.state y1 next (choose y (yea w1) (nay w1))
+      by_answer : (y : Bool) (w1 : World) (y1 : ℕ) → z + y1 ≤ 32 * w1.count → Fo j m top ls pr (λ n w2. choose (not y) (R (unlabelled_line p (Goto q) ∷ rest) pr n w2) (R rest pr n w2)) w1.state y1 next (choose y (yea w1) (nay w1))
       by_answer true w1 y1 ok = hy w1 y1 ok
       by_answer false w1 y1 ok = first g {j1 = j} {b1 = m} {x1 = 1 + y1} (nay w1) (keeps_self top pr) (past_jump g p q rest pr w1.state) (omega arith) (omega arith) (omega arith) (hn w1 y1 ok)
 
-  pub tested_follows : {j m top x : ℕ} {ls : Rings} {pr : Extra} {rest next : List Line} (z : ℕ) (p : Place) (o : Option Formula) (q : ℕ) (w : World) (yea nay : Then) → NamesIfAny (g.K g.unit) o → m ≤ b → z + (1 + x) ≤ 32 * w.count →
+  pub tested_follows : {j m top x : ℕ} {ls : Rings} {pr : Extra} {rest next : List Line} (z : ℕ) (p : Place) (o : Option Formula) (q : ℕ) (w : World) (yea nay : Continuation) → NamesIfAny (g.K g.unit) o → m ≤ b → z + (1 + x) ≤ 32 * w.count →
       ((w1 : World) (y : ℕ) → z + y ≤ 32 * w1.count → Fo j m top ls pr (R rest pr) w1.state y next (yea w1)) → ((w1 : World) (y : ℕ) → z + y ≤ 32 * w1.count → Fo j m top ls pr (R (from_label q g.code) pr) w1.state (1 + y) next (nay w1)) →
       Fo j m top ls pr (R (with_test p o q rest) pr) w.state x next (tested Src f0 p o yea nay w)
   tested_follows z p None q w yea nay used few le hy hn = hy w _ (omega arith)
@@ -90,8 +90,8 @@ module _ (g : Lowering) (b : ℕ) (call : ℕ → List Spot → World → Out �
       (track_does g b (λ n. n + 1) up (λ n. (U n).call) call p a used pr.spare (counted w) (0 + (1 + x)) (omega arith)) exits)
     where
       exits : (y : Exit) (w1 : World) (y1 : ℕ) → 0 + y1 ≤ 32 * w1.count → Fo 0 b top ls pr (λ n w2. leads (U n) (moved_to p f0) g.code o next (exec g.target (λ u. g.code) n f0) pr.loops y (spared g.spot pr.spare w2)) w1.state y1 next (Gives (course_of y) w1)
-      exits Next w1 y1 ok = record {
-        by = (0, omega arith, pr, keeps_self top pr, none_begun (λ n w2. leads (U n) (moved_to p f0) g.code o next (exec g.target (λ u. g.code) n f0) pr.loops Next (spared g.spot pr.spare w2)) (R next pr) w1.state (λ n k c. ap (λ q. close (U n) (moved_to p f0) q next (exec g.target (λ u. g.code) n f0) pr.loops (near g.spot pr.spare w1.state k c)) ends));
+      exits Normal w1 y1 ok = record {
+        by = (0, omega arith, pr, keeps_self top pr, none_begun (λ n w2. leads (U n) (moved_to p f0) g.code o next (exec g.target (λ u. g.code) n f0) pr.loops Normal (spared g.spot pr.spare w2)) (R next pr) w1.state (λ n k c. ap (λ q. close (U n) (moved_to p f0) q next (exec g.target (λ u. g.code) n f0) pr.loops (near g.spot pr.spare w1.state k c)) ends));
       }
       exits (To m) w1 y1 ok = record { by = (0, omega arith, omega arith, pr, keeps_self top pr, comes_here (R (from_label m g.code) pr) w1.state) }
       exits Back w1 y1 ok = record { by = (0, omega arith, pr.spare, λ n k c lt. ap (λ w2. Gives tt w2) (still_near g.spot pr.spare w1.state k c)) }
@@ -104,40 +104,40 @@ module _ (g : Lowering) (b : ℕ) (call : ℕ → List Spot → World → Out �
       skipped (suc n) k c = ap (λ v. fetch (U n) f0 g.code (if v then runnable next else (record { label = o; place = p; act = a } ∷ next)) (exec g.target (λ u. g.code) n f0) pr.loops (near g.spot pr.spare w.state k c)) is
 
   pub plain_follows : {top x : ℕ} {ls : Rings} {pr : Extra} {next : List Line} (o : Option ℕ) (p : Place) (a : Act) (w : World) → IsPlain a → NamesOfAct (g.K g.unit) a → closers_at o g.code ≡ [] → x ≤ 32 * w.count →
-      Fo 1 b top ls pr (R (record { label = o; place = p; act = a } ∷ next) pr) w.state x next (plainly Src f0 p a w)
-  plain_follows o p (Assigns y e) w is used ends le = does_follows o p (Assigns y e) w used ends (omega arith) (λ n k c. refl)
-  plain_follows o p (Goes m) w is used ends le = does_follows o p (Goes m) w used ends (omega arith) (λ n k c. refl)
-  plain_follows o p (Selects ms y) w is used ends le = does_follows o p (Selects ms y) w used ends (omega arith) (λ n k c. refl)
-  plain_follows o p (Signs e i1 i2 i3) w is used ends le = does_follows o p (Signs e i1 i2 i3) w used ends (omega arith) (λ n k c. refl)
-  plain_follows o p (Chooses e a) w is used ends le = absurd is
-  plain_follows o p (Loops m y i1 i2 i3) w is used ends le = absurd is
-  plain_follows o p (Invokes y es) w is used ends le = does_follows o p (Invokes y es) w used ends (omega arith) (λ n k c. refl)
-  plain_follows o p Passes w is used ends le = does_follows o p Passes w used ends (omega arith) (λ n k c. refl)
-  plain_follows o p (Stops i) w is used ends le = does_follows o p (Stops i) w used ends (omega arith) (λ n k c. refl)
-  plain_follows o p Returns w is used ends le = does_follows o p Returns w used ends (omega arith) (λ n k c. refl)
-  plain_follows o p (Reads i m es) w is used ends le = does_follows o p (Reads i m es) w used ends (omega arith) (λ n k c. refl)
-  plain_follows o p (Writes i m es) w is used ends le = does_follows o p (Writes i m es) w used ends (omega arith) (λ n k c. refl)
-  plain_follows o p (Formats fs) w is used ends le = note_follows o p (Formats fs) w le refl
-  plain_follows o p (Types t es) w is used ends le = note_follows o p (Types t es) w le refl
-  plain_follows o p (Dimensions es) w is used ends le = note_follows o p (Dimensions es) w le refl
-  plain_follows o p (Commons es) w is used ends le = note_follows o p (Commons es) w le refl
-  plain_follows o p (Equivalences es) w is used ends le = note_follows o p (Equivalences es) w le refl
-  plain_follows o p (Presets es) w is used ends le = note_follows o p (Presets es) w le refl
+      Fo 1 b top ls pr (R (record { label = o; place = p; act = a } ∷ next) pr) w.state x next (plain_statement Src f0 p a w)
+  plain_follows o p (Assign y e) w is used ends le = does_follows o p (Assign y e) w used ends (omega arith) (λ n k c. refl)
+  plain_follows o p (Goto m) w is used ends le = does_follows o p (Goto m) w used ends (omega arith) (λ n k c. refl)
+  plain_follows o p (Computed ms y) w is used ends le = does_follows o p (Computed ms y) w used ends (omega arith) (λ n k c. refl)
+  plain_follows o p (Sign e i1 i2 i3) w is used ends le = does_follows o p (Sign e i1 i2 i3) w used ends (omega arith) (λ n k c. refl)
+  plain_follows o p (When e a) w is used ends le = absurd is
+  plain_follows o p (Loop m y i1 i2 i3) w is used ends le = absurd is
+  plain_follows o p (Invoke y es) w is used ends le = does_follows o p (Invoke y es) w used ends (omega arith) (λ n k c. refl)
+  plain_follows o p Continue w is used ends le = does_follows o p Continue w used ends (omega arith) (λ n k c. refl)
+  plain_follows o p (Stop i) w is used ends le = does_follows o p (Stop i) w used ends (omega arith) (λ n k c. refl)
+  plain_follows o p Return w is used ends le = does_follows o p Return w used ends (omega arith) (λ n k c. refl)
+  plain_follows o p (Read i m es) w is used ends le = does_follows o p (Read i m es) w used ends (omega arith) (λ n k c. refl)
+  plain_follows o p (Write i m es) w is used ends le = does_follows o p (Write i m es) w used ends (omega arith) (λ n k c. refl)
+  plain_follows o p (Format fs) w is used ends le = note_follows o p (Format fs) w le refl
+  plain_follows o p (Typed t es) w is used ends le = note_follows o p (Typed t es) w le refl
+  plain_follows o p (Dimension es) w is used ends le = note_follows o p (Dimension es) w le refl
+  plain_follows o p (Common es) w is used ends le = note_follows o p (Common es) w le refl
+  plain_follows o p (Equivalence es) w is used ends le = note_follows o p (Equivalence es) w le refl
+  plain_follows o p (Preset es) w is used ends le = note_follows o p (Preset es) w le refl
 
   -- the label of a plain statement is passed with it
   pub labelled_follows : {top x : ℕ} {ls : Rings} {pr : Extra} {next : List Line} (o : Option ℕ) (p : Place) (a : Act) (w : World) → IsPlain a → NamesOfAct (g.K g.unit) a → closers_at o g.code ≡ [] → x ≤ 32 * w.count →
-      Fo 1 b top ls pr (R (record { label = o; place = p; act = a } ∷ next) pr) w.state x next (labelled Src f0 o p a w)
+      Fo 1 b top ls pr (R (record { label = o; place = p; act = a } ∷ next) pr) w.state x next (passed_label Src f0 o p a w)
   labelled_follows None p a w is used ends le = plain_follows None p a w is used ends le
   labelled_follows {top} {x} {ls} {pr} {next} (Some m) p a w is used ends le = by_note (is_note a) refl
     where
-      by_note : (v : Bool) → is_note a ≡ v → Fo 1 b top ls pr (R (record { label = Some m; place = p; act = a } ∷ next) pr) w.state x next (if v then Gives Went w else plainly Src f0 p a (counted w))
+      by_note : (v : Bool) → is_note a ≡ v → Fo 1 b top ls pr (R (record { label = Some m; place = p; act = a } ∷ next) pr) w.state x next (if v then Gives Went w else plain_statement Src f0 p a (counted w))
       by_note true e = note_follows (Some m) p a w le e
       by_note false e = plain_follows (Some m) p a (counted w) is used ends (omega arith)
 
-  pub performed_follows : {m top x : ℕ} {ls : Rings} {pr : Extra} {rest next : List Line} (z : ℕ) (p : Place) (o : Option Act) (w : World) (go : Then) → IsPlainIfAny o → ActIfAny (g.K g.unit) o → m ≤ b → z + x ≤ 32 * w.count →
+  pub performed_follows : {m top x : ℕ} {ls : Rings} {pr : Extra} {rest next : List Line} (z : ℕ) (p : Place) (o : Option Act) (w : World) (go : Continuation) → IsPlainIfAny o → ActIfAny (g.K g.unit) o → m ≤ b → z + x ≤ 32 * w.count →
       ((pr1 : Extra) (w1 : World) (y : ℕ) → Keeps top pr pr1 → z + y ≤ 32 * w1.count → Fo 1 m top ls pr1 (R rest pr1) w1.state y next (go w1)) → Fo 1 m top ls pr (R (with_act p o rest) pr) w.state x next (performed Src f0 p o go w)
   performed_follows {top = top} {x = x} {pr = pr} z p None w go is used few le k = k pr w x (keeps_self top pr) le
-  performed_follows {m} {x = x} z p (Some a) w go is used few le k = then_follows g z (plainly Src f0 p a w) go few (plain_follows None p a w is used refl (omega arith)) k
+  performed_follows {m} {x = x} z p (Some a) w go is used few le k = then_follows g z (plain_statement Src f0 p a w) go few (plain_follows None p a w is used refl (omega arith)) k
 
   -- ---- switch ----
 
@@ -165,37 +165,37 @@ module _ (g : Lowering) (b : ℕ) (call : ℕ → List Spot → World → Out �
         within (Traps t) = refl
         within Fails = refl
 
-    pub case_follows : {j m top x : ℕ} {ls : Rings} {pr : Extra} {rest next : List Line} (z : ℕ) (p : Place) (e : Formula) (q : ℕ) (w : World) (yea nay : Then) → Names (g.K g.unit) e → m ≤ b → z + (1 + x) ≤ 32 * w.count →
+    pub case_follows : {j m top x : ℕ} {ls : Rings} {pr : Extra} {rest next : List Line} (z : ℕ) (p : Place) (e : Formula) (q : ℕ) (w : World) (yea nay : Continuation) → Names (g.K g.unit) e → m ≤ b → z + (1 + x) ≤ 32 * w.count →
         ((w1 : World) (y : ℕ) → z + y ≤ 32 * w1.count → Fo j m top ls pr (R (from_label q g.code) pr) w1.state (1 + y) next (yea w1)) → ((w1 : World) (y : ℕ) → z + y ≤ 32 * w1.count → Fo j m top ls pr (R rest pr) w1.state y next (nay w1)) →
-        Fo j m top ls pr (R (bare p (Chooses (case_test spare e) (Goes q)) ∷ rest) pr) w.state x next (bind (is_case Src f0 p pr.spare e w) (λ fits w1. choose fits (yea w1) (nay w1)))
+        Fo j m top ls pr (R (unlabelled_line p (When (case_test spare e) (Goto q)) ∷ rest) pr) w.state x next (bind (is_case Src f0 p pr.spare e w) (λ fits w1. choose fits (yea w1) (nay w1)))
     case_follows {j} {m} {top} {x} {ls} {pr} {rest} {next} z p e q w yea nay used few le hy hn =
-        let K : Bool → Part = λ y n w2. choose y (Raw g (bare p (Goes q) ∷ rest) pr.loops n w2) (Raw g rest pr.loops n w2) in
+        let K : Bool → Part = λ y n w2. choose y (Raw g (unlabelled_line p (Goto q) ∷ rest) pr.loops n w2) (Raw g rest pr.loops n w2) in
         first g {j1 = j} {b1 = m} {x1 = 1 + x} (bind (is_case Src f0 p pr.spare e w) (λ fits w1. choose fits (yea w1) (nay w1))) (keeps_self top pr)
-        (one (R (bare p (Chooses (case_test spare e) (Goes q)) ∷ rest) pr) (λ n w1. bind (Case p pr.spare e n (spared g.spot pr.spare w1)) (λ y w2. K y n w2)) w.state (λ n k c. ap (λ o. bind o (λ y w2. K y n w2)) (case_asks n p pr.spare e (at w.state k (c + 1))))) (omega arith) (omega arith) (omega arith)
+        (one (R (unlabelled_line p (When (case_test spare e) (Goto q)) ∷ rest) pr) (λ n w1. bind (Case p pr.spare e n (spared g.spot pr.spare w1)) (λ y w2. K y n w2)) w.state (λ n k c. ap (λ o. bind o (λ y w2. K y n w2)) (case_asks n p pr.spare e (at w.state k (c + 1))))) (omega arith) (omega arith) (omega arith)
         (bind_follows g z (λ n. Case p pr.spare e n) (is_case Src f0 p pr.spare e w) K (λ fits w1. choose fits (yea w1) (nay w1))
         (fewer ℕ same_fuel g.spot (is_case Src f0 p pr.spare e w) few (track_case g b (λ n. n + 1) up (λ n. (U n).call) call p pr.spare e used pr.spare w (z + (1 + x)) le)) by_answer)
       where
-        by_answer : (y : Bool) (w1 : World) (y1 : ℕ) → z + y1 ≤ 32 * w1.count → Fo j m top ls pr (λ n w2. choose y (R (bare p (Goes q) ∷ rest) pr n w2) (R rest pr n w2)) w1.state y1 next (choose y (yea w1) (nay w1))
+        by_answer : (y : Bool) (w1 : World) (y1 : ℕ) → z + y1 ≤ 32 * w1.count → Fo j m top ls pr (λ n w2. choose y (R (unlabelled_line p (Goto q) ∷ rest) pr n w2) (R rest pr n w2)) w1.state y1 next (choose y (yea w1) (nay w1))
         by_answer false w1 y1 ok = hn w1 y1 ok
         by_answer true w1 y1 ok = first g {j1 = j} {b1 = m} {x1 = 1 + y1} (yea w1) (keeps_self top pr) (past_jump g p q rest pr w1.state) (omega arith) (omega arith) (omega arith) (hy w1 y1 ok)
 
     -- the value of a switch is kept in the spare unit
-    pub kept_follows : {top x : ℕ} {ls : Rings} {pr : Extra} {rest next : List Line} (z : ℕ) (p : Place) (e : Formula) (w : World) (go : Content → Then) → Names (g.K g.unit) e → z + (1 + x) ≤ 32 * (w.count + 1) →
+    pub kept_follows : {top x : ℕ} {ls : Rings} {pr : Extra} {rest next : List Line} (z : ℕ) (p : Place) (e : Formula) (w : World) (go : Content → Continuation) → Names (g.K g.unit) e → z + (1 + x) ≤ 32 * (w.count + 1) →
         ((v : Content) (w1 : World) (y : ℕ) → z + y ≤ 32 * w1.count → Fo 1 b top ls (record { loops = pr.loops; spare = v }) (R rest (record { loops = pr.loops; spare = v })) w1.state y next (go v w1)) →
-        Fo 1 b top ls pr (R (bare p (Assigns (Variable spare) e) ∷ rest) pr) w.state x next (bind (value_of Src (moved_to p f0) e (counted w)) go)
+        Fo 1 b top ls pr (R (unlabelled_line p (Assign (Ref spare) e) ∷ rest) pr) w.state x next (bind (value_of Src (moved_to p f0) e (counted w)) go)
     kept_follows {top} {x} {ls} {pr} {rest} {next} z p e w go used le h =
         let unit = g.target.number g.unit spare 0 in
         let K : Content → Part = λ v n w2. Raw g rest pr.loops n (holding (put_in unit v w2.state.store) w2) in
         first g {j1 = 1} {b1 = b} {x1 = 1 + x} (bind (value_of Src (moved_to p f0) e (counted w)) go) (keeps_self top pr)
-        (one (R (bare p (Assigns (Variable spare) e) ∷ rest) pr) (λ n w1. bind (value_of (U n) (moved_to p f0) e (spared g.spot pr.spare w1)) (λ v w2. K v n w2)) w.state (λ n k c. stored n (near g.spot pr.spare w.state k (c + 1)))) (omega arith) (omega arith) (omega arith)
+        (one (R (unlabelled_line p (Assign (Ref spare) e) ∷ rest) pr) (λ n w1. bind (value_of (U n) (moved_to p f0) e (spared g.spot pr.spare w1)) (λ v w2. K v n w2)) w.state (λ n k c. stored n (near g.spot pr.spare w.state k (c + 1)))) (omega arith) (omega arith) (omega arith)
         (bind_follows g z (λ n. value_of (U n) (moved_to p f0) e) (value_of Src (moved_to p f0) e (counted w)) K go
         (track_value g b (λ n. n + 1) up (λ n. (U n).call) call p e used pr.spare (counted w) (z + (1 + x)) le)
         (λ v w1 y ok. first g {j1 = 1} {b1 = b} {x1 = y} (go v w1) (record { by = λ q lq. refl }) (none_begun (λ n w2. K v n (spared g.spot pr.spare w2)) (R rest (record { loops = pr.loops; spare = v })) w1.state (λ n k c. filled v w1.state n k c)) (omega arith) (omega arith) (omega arith) (h v w1 y ok)))
       where
-        stored : (n : ℕ) (w2 : World) → bind (does (U n) (moved_to p f0) (Assigns (Variable spare) e) w2) (λ y w1. leads (U n) (moved_to p f0) g.code None rest (exec g.target (λ u. g.code) n f0) pr.loops y w1) ≡ bind (value_of (U n) (moved_to p f0) e w2) (λ v w3. Raw g rest pr.loops n (holding (put_in (g.target.number g.unit spare 0) v w3.state.store) w3))
+        stored : (n : ℕ) (w2 : World) → bind (does (U n) (moved_to p f0) (Assign (Ref spare) e) w2) (λ y w1. leads (U n) (moved_to p f0) g.code None rest (exec g.target (λ u. g.code) n f0) pr.loops y w1) ≡ bind (value_of (U n) (moved_to p f0) e w2) (λ v w3. Raw g rest pr.loops n (holding (put_in (g.target.number g.unit spare 0) v w3.state.store) w3))
         stored n w2 =
-            ap (λ o. bind (bind (settle p (base_by o g.unit [] spare) w2) (λ q w1. bind (value_of (U n) (moved_to p f0) e w1) (λ v w3. bind (store_at (U n) (moved_to p f0) q v w3) (λ _ w4. Gives Next w4)))) (λ y w1. leads (U n) (moved_to p f0) g.code None rest (exec g.target (λ u. g.code) n f0) pr.loops y w1)) holds.own
-            ∙ bind_assoc (value_of (U n) (moved_to p f0) e w2) (λ v w3. bind (store_at (U n) (moved_to p f0) (Held g.unit spare 0) v w3) (λ _ w4. Gives Next w4)) (λ y w1. leads (U n) (moved_to p f0) g.code None rest (exec g.target (λ u. g.code) n f0) pr.loops y w1)
+            ap (λ o. bind (bind (settle p (base_by o g.unit [] spare) w2) (λ q w1. bind (value_of (U n) (moved_to p f0) e w1) (λ v w3. bind (store_at (U n) (moved_to p f0) q v w3) (λ _ w4. Gives Normal w4)))) (λ y w1. leads (U n) (moved_to p f0) g.code None rest (exec g.target (λ u. g.code) n f0) pr.loops y w1)) holds.own
+            ∙ bind_assoc (value_of (U n) (moved_to p f0) e w2) (λ v w3. bind (store_at (U n) (moved_to p f0) (Held g.unit spare 0) v w3) (λ _ w4. Gives Normal w4)) (λ y w1. leads (U n) (moved_to p f0) g.code None rest (exec g.target (λ u. g.code) n f0) pr.loops y w1)
 
         filled : (v : Content) (s : State) (n k c : ℕ) → Raw g rest pr.loops n (holding (put_in (g.target.number g.unit spare 0) v (put_in g.spot pr.spare s.store)) (at s k c)) ≡ Raw g rest pr.loops n (near g.spot v s k c)
         filled v s n k c = ap (λ st. Raw g rest pr.loops n (holding st (at s k c))) (ap (λ m. put_in m v (put_in g.spot pr.spare s.store)) holds.number ∙ put_twice g.spot v pr.spare s.store)

@@ -3,12 +3,12 @@ use Rattle.std.proofs.Common.{◌≡◌, ℕ, Bool, true, false, true≢false, L
 use Rattle.std.specs.Prelude.{nat_eq, ◌||◌, if◌then◌else◌}
 use Rattle.std.specs.List.{list_all}
 use Rattle.std.proofs.lemmas.Bool.{ne_eqb, eqb-true, eq-eqb}
-use Rattle.f66_tree.specs.Forms.{Act, Goes, Selects, Signs}
+use Rattle.f66_tree.specs.Syntax.{Act, Goto, Computed, Sign}
 use Rattle.f66_tree.specs.Units.{is_note}
 use Rattle.f66_tree.specs.Execution.{has_label}
-use Rattle.rat_tree.specs.Commands.{Command, Empty, Together, When, Either, Whilst, Through, Repeats, Until, Counts, Switches, Leaves, Turns, GivesBack, Plainly, Marked, Commands, NoCommand, AndCommand}
-use Rattle.rat_tree.specs.Meaning.{marks, stands}
-use Rattle.rat_check.specs.Parts.{Says, Labels, with_label, reaches, target_of, with_labels}
+use Rattle.rat_tree.specs.Syntax.{Command, Empty, Block, If, IfElse, While, For, Repeat, RepeatUntil, Do, Switch, Break, Next, Return, Plain, Labelled, Commands, NoCommand, AndCommand}
+use Rattle.rat_tree.specs.Meaning.{has_own_label, stands}
+use Rattle.rat_check.specs.Parts.{Statement, Labels, with_label, reaches, target_of, with_labels}
 use Rattle.rat_check.specs.Rules.{is_plain, is_simple, finds_labels}
 use Rattle.rat_check.proofs.CleanLemmas.{and_true}
 use Rattle.rat_lower.specs.Checked.{stands_in, AllStandIn, ActLands, ActLandsIfAny}
@@ -48,33 +48,33 @@ module _ (m : ℕ) (r : Labels) where
   plainly true l e = inr e
   plainly false l e = labelled l e
 
-  targeted : (c : Command) → with_label (target_of c) r m ≡ true → (marks m c ≡ true) ⊎ (r m ≡ true)
-  targeted (Plainly l p a) e = plainly (is_note a) l e
-  targeted (Marked l p c) e = labelled (Some l) e
+  targeted : (c : Command) → with_label (target_of c) r m ≡ true → (has_own_label m c ≡ true) ⊎ (r m ≡ true)
+  targeted (Plain l p a) e = plainly (is_note a) l e
+  targeted (Labelled l p c) e = labelled (Some l) e
   targeted (Empty p) e = inr e
-  targeted (Together p ss) e = inr e
-  targeted (When p f c) e = inr e
-  targeted (Either p f c d) e = inr e
-  targeted (Whilst p f c) e = inr e
-  targeted (Through p a f b c) e = inr e
-  targeted (Repeats p c) e = inr e
-  targeted (Until p c f q) e = inr e
-  targeted (Counts p x i j k c) e = inr e
-  targeted (Switches p f cs) e = inr e
-  targeted (Leaves p n) e = inr e
-  targeted (Turns p n) e = inr e
-  targeted (GivesBack p f) e = inr e
+  targeted (Block p ss) e = inr e
+  targeted (If p f c) e = inr e
+  targeted (IfElse p f c d) e = inr e
+  targeted (While p f c) e = inr e
+  targeted (For p a f b c) e = inr e
+  targeted (Repeat p c) e = inr e
+  targeted (RepeatUntil p c f q) e = inr e
+  targeted (Do p x i j k c) e = inr e
+  targeted (Switch p f cs) e = inr e
+  targeted (Break p n) e = inr e
+  targeted (Next p n) e = inr e
+  targeted (Return p f) e = inr e
 
 in_list : (m : ℕ) (ss : Commands) (r : Labels) → with_labels ss r m ≡ true → (stands m ss ≡ true) ⊎ (r m ≡ true)
 in_list m NoCommand r e = inr e
 in_list m (AndCommand c ss) r e = by (in_list m ss (with_label (target_of c) r) e)
   where
-    first : (marks m c ≡ true) ⊎ (r m ≡ true) → ((marks m c || stands m ss) ≡ true) ⊎ (r m ≡ true)
-    first (inl h) = inl (left_true (marks m c) (stands m ss) h)
+    first : (has_own_label m c ≡ true) ⊎ (r m ≡ true) → ((has_own_label m c || stands m ss) ≡ true) ⊎ (r m ≡ true)
+    first (inl h) = inl (left_true (has_own_label m c) (stands m ss) h)
     first (inr h) = inr h
 
-    by : (stands m ss ≡ true) ⊎ (with_label (target_of c) r m ≡ true) → ((marks m c || stands m ss) ≡ true) ⊎ (r m ≡ true)
-    by (inl h) = inl (right_true (marks m c) (stands m ss) h)
+    by : (stands m ss ≡ true) ⊎ (with_label (target_of c) r m ≡ true) → ((has_own_label m c || stands m ss) ≡ true) ⊎ (r m ≡ true)
+    by (inl h) = inl (right_true (has_own_label m c) (stands m ss) h)
     by (inr h) = first (targeted m r c h)
 
 abbrev pub Sees : Labels → List Commands → Type 0
@@ -93,16 +93,16 @@ module _ (formats r : Labels) (around : List Commands) (sees : Sees r around) wh
   all_there [] e = tt
   all_there (l ∷ ls) e = let h = and_true (r l) (list_all r ls) e in (sees l h.0, all_there ls h.1)
 
-  pub act_lands : (a : Act) → is_plain a ≡ true → finds_labels formats (reaches r (Says a)) (Says a) ≡ true → ActLands around a
-  act_lands (Goes l) h found = sees l found
-  act_lands (Selects ls x) h found = all_there ls found
-  act_lands (Signs e l m n) h found = absurd (true≢false (sym h))
+  pub act_lands : (a : Act) → is_plain a ≡ true → finds_labels formats (reaches r (Statement a)) (Statement a) ≡ true → ActLands around a
+  act_lands (Goto l) h found = sees l found
+  act_lands (Computed ls x) h found = all_there ls found
+  act_lands (Sign e l m n) h found = absurd (true≢false (sym h))
   act_lands _ h found = tt
 
 -- the first and the last part of a `for` jump nowhere
 pub step_lands : (around : List Commands) (o : Option Act) → is_simple o ≡ true → ActLandsIfAny around o
 step_lands around None h = tt
-step_lands around (Some (Goes l)) h = absurd (true≢false (sym h))
-step_lands around (Some (Selects ls x)) h = absurd (true≢false (sym h))
-step_lands around (Some (Signs e l m n)) h = absurd (true≢false (sym h))
+step_lands around (Some (Goto l)) h = absurd (true≢false (sym h))
+step_lands around (Some (Computed ls x)) h = absurd (true≢false (sym h))
+step_lands around (Some (Sign e l m n)) h = absurd (true≢false (sym h))
 step_lands around (Some _) h = tt

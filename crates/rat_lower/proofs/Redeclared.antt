@@ -10,7 +10,7 @@ use Rattle.std.proofs.lemmas.Slice.Eq.{bytes_eq-Decides}
 use Rattle.ground.specs.declared.fault.FaultKind.TheVariants.{DuplicateName}
 use Rattle.rule_table.specs.Words.{first_place, is_below, repeats}
 use Rattle.f66_tree.specs.declared.declaration.TypeWord.TheVariants.{Integer}
-use Rattle.f66_tree.specs.Forms.{Text, Declared, Act, Types, Dimensions}
+use Rattle.f66_tree.specs.Syntax.{Text, Declared, Act, Typed, Dimension}
 use Rattle.f66_tree.specs.Units.{is_note, Note, Context}
 use Rattle.f66_names.specs.Declaring.{noted, typed_in, declared_in, sized_in, types, sizes}
 use Rattle.f66_names.specs.NameRules.{redeclares}
@@ -73,17 +73,17 @@ abbrev pub declarations : List Act → List Act
 declarations acts = map (λ (n : Note). n.act) (noted acts)
 
 not_types : (q : Text) (a : Act) → is_note a ≡ false → types q a ≡ false
-not_types q (Types t ds) e = absurd (true≢false e)
+not_types q (Typed t ds) e = absurd (true≢false e)
 not_types q _ e = refl
 
 not_sizes : (q : Text) (a : Act) → is_note a ≡ false → sizes q a ≡ false
-not_sizes q (Types t ds) e = absurd (true≢false e)
-not_sizes q (Dimensions ds) e = absurd (true≢false e)
+not_sizes q (Typed t ds) e = absurd (true≢false e)
+not_sizes q (Dimension ds) e = absurd (true≢false e)
 not_sizes q _ e = refl
 
 not_redeclared : (front : List Act) (a : Act) → is_note a ≡ false → redeclared front a ≡ false
-not_redeclared front (Types t ds) e = absurd (true≢false e)
-not_redeclared front (Dimensions ds) e = absurd (true≢false e)
+not_redeclared front (Typed t ds) e = absurd (true≢false e)
+not_redeclared front (Dimension ds) e = absurd (true≢false e)
 not_redeclared front _ e = refl
 
 any_declarations : (test : Act → Bool) → ((a : Act) → is_note a ≡ false → test a ≡ false) → (acts : List Act) → list_any test acts ≡ list_any test (declarations acts)
@@ -161,13 +161,13 @@ never_itself x y other = by (bytes_eq x y) refl
 module _ (spare : Text) where
   -- INTEGER spare
   abbrev pub declaration : Act
-  declaration = Types Integer (record { name = spare; sizes = [] } ∷ [])
+  declaration = Typed Integer (record { name = spare; sizes = [] } ∷ [])
 
   abbrev K : Text → Type 0
   K x = x ≢ spare
 
   typed_declared : (a : Act) → AllDeclared K (declared_in a) → AllDeclared K (typed_in a)
-  typed_declared (Types t ds) h = h
+  typed_declared (Typed t ds) h = h
   typed_declared _ h = tt
 
   any_typed : (front : List Act) (ds : List Declared) → AllDeclared K ds → list_any (λ d. list_any (types d.name) (declaration ∷ front)) ds ≡ list_any (λ d. list_any (types d.name) front) ds

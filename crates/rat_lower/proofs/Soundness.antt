@@ -8,13 +8,13 @@ use Rattle.ground.specs.declared.place.Place.{Place}
 use Rattle.ground.specs.declared.fault.FaultKind.{FaultKind}
 use Rattle.ground.specs.declared.fault.FaultKind.TheVariants.{Syntax, NameTooLong, OutOfProfileType, TypeClash, WrongCount, DuplicateName, BadConstant, BadFormat, NotAssignable, Limit}
 use Rattle.rule_table.specs.Words.{first_place, is_some_and, is_below}
-use Rattle.f66_tree.specs.Forms.{Text, MainUnit, Act, Line, Routine}
+use Rattle.f66_tree.specs.Syntax.{Text, MainUnit, Act, Line, Routine}
 use Rattle.f66_tree.specs.Units.{Context}
 use Rattle.f66_names.specs.declared.name_form.NameForm.{NameForm}
 use Rattle.f66_names.specs.declared.name_form.NameForm.TheVariants as forms
 use Rattle.f66_names.specs.declared.name_form.Manner.TheVariants.{Alone}
 use Rattle.f66_names.specs.Declaring.{context_by, types}
-use Rattle.f66_names.specs.Sorts.{form_of}
+use Rattle.f66_names.specs.Sorts.{name_form}
 use Rattle.f66_names.specs.Uses.{uses_of}
 use Rattle.f66_names.specs.NameRules.{redeclares}
 use Rattle.f66_names.specs.Rules.{breaks_name}
@@ -22,10 +22,10 @@ use Rattle.f66_names.specs.BuiltActs.{is_function_by, is_function, is_built}
 use Rattle.f66_names.proofs.JumpLemmas.{IsScalar, passes_clean, goes_clean, stops_clean, loops_alike, denied_breaks, compared_breaks, stored_breaks}
 use Rattle.f66_flow.specs.FlowRules.{breaks_flow}
 use Rattle.f66_flow.specs.declared.scope.Scope.TheVariants.{Whole}
-use Rattle.f66_sound.specs.SoundUnits.{acts_of}
+use Rattle.f66_soundness.specs.SoundUnits.{acts_in_unit}
 use Rattle.f66_check.specs.CheckRules.{breaks_at, breaks_line, unbuilt_line}
 use Rattle.f66_check.specs.Answers.{IsSound}
-use Rattle.rat_tree.specs.Commands.{Commands}
+use Rattle.rat_tree.specs.Syntax.{Commands}
 use Rattle.rat_lower.specs.Code.{have_switch, all_code, ends_so, stop_unless, declared_if, unit_code}
 use Rattle.rat_lower.specs.Lowered.{KeepsFlow}
 use Rattle.rat_lower.proofs.Kept.{AllSay, AllSayGood, Keeps, KeepsValues, good_unit}
@@ -99,8 +99,8 @@ module _ (c : Context) where
 
   built_values : (spare : Text) → KeepsValues (IsBuiltAct c) spare
   built_values spare = record {
-    compared = λ e l h. ap (λ b. not (b || list_any (is_function c) (uses_of e ++ []))) (no_function (form_of c spare)) ∙ ap (λ us. not (list_any (is_function c) us)) (append-nil (uses_of e)) ∙ h;
-    stored = λ e h. ap (λ b. not (b || list_any (is_function c) (uses_of e))) (no_function (form_of c spare)) ∙ h;
+    compared = λ e l h. ap (λ b. not (b || list_any (is_function c) (uses_of e ++ []))) (no_function (name_form c spare)) ∙ ap (λ us. not (list_any (is_function c) us)) (append-nil (uses_of e)) ∙ h;
+    stored = λ e h. ap (λ b. not (b || list_any (is_function c) (uses_of e))) (no_function (name_form c spare)) ∙ h;
   }
 
   all_built : (lines : List Line) → AllSay (IsBuiltAct c) lines → unbuilt_line c lines ≡ None
@@ -119,7 +119,7 @@ module _ (made : ℕ → ℕ) (spare : Text) (first last place : Place) (ss : Co
   lines = unit_code made spare first last ss
 
   abbrev acts : List Act
-  acts = acts_of lines
+  acts = acts_in_unit lines
 
   abbrev means_here : Context
   means_here = context_by MainUnit acts

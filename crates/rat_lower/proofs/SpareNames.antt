@@ -1,7 +1,7 @@
 -- The names of the source are kept, so that the spare name is none of them.
 use Rattle.std.proofs.Common.{◌≡◌, List, [], ◌∷◌, ◌++◌, length, ap, ◌∙◌, refl}
 use Rattle.std.proofs.lemmas.Grind.{common_steps}
-use Rattle.f66_tree.specs.Forms.{Text}
+use Rattle.f66_tree.specs.Syntax.{Text}
 use Rattle.name_alloc.specs.Numbers.{starting}
 use Rattle.name_alloc.specs.MadeNames.{Used, keeping, unused, keeping_all}
 use Rattle.name_alloc.proofs.KeptNames.{none_yet, kept_names, kept_none_made, kept_labels}

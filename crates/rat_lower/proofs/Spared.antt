@@ -3,7 +3,7 @@
 use Rattle.std.proofs.Common.{◌≡◌, ◌≢◌, ℕ, ◌+◌, Bool, true, false, List, [], None, refl, sym, ap, ◌∙◌, arith, eqb-true}
 use Rattle.std.specs.Prelude.{nat_eq, if◌then◌else◌, ⊤}
 use Rattle.ground.specs.Content.{Content}
-use Rattle.f66_tree.specs.Forms.{Text, Line}
+use Rattle.f66_tree.specs.Syntax.{Text, Line}
 use Rattle.f66_tree.specs.World.{Store, put_in, State, World, Out, counted, holding, Gives}
 use Rattle.f66_tree.specs.Units.{is_main, Spot, Held, Lent, Linkage, Setting, Frame}
 use Rattle.f66_tree.specs.Evaluation.{held}

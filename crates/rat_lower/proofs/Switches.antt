@@ -2,13 +2,13 @@
 use Rattle.std.proofs.Common.{◌≡◌, true, false, Bool, ℕ, ◌+◌, ◌*◌, ◌≤◌, List, [], ◌∷◌, length, Some, None, refl, sym, ap, subst, arith, true≢false, ◌||◌}
 use Rattle.std.specs.Prelude.{⊤}
 use Rattle.ground.specs.declared.place.Place.{Place}
-use Rattle.f66_tree.specs.Forms.{Text, Formula, Formulas, Nought, Also, Line}
+use Rattle.f66_tree.specs.Syntax.{Text, Formula, Formulas, NoFormula, AndFormula, Line}
 use Rattle.f66_tree.specs.World.{State, World, counted, Out}
 use Rattle.f66_tree.specs.Units.{Spot, Setting, Frame}
 use Rattle.f66_tree.specs.Uses.{Names, NamesOfAll}
 use Rattle.f66_tree.specs.Execution.{from_label, closers}
-use Rattle.rat_tree.specs.Commands.{Command, Empty, Together, When, Either, Whilst, Through, Repeats, Until, Counts, Switches, Leaves, Turns, GivesBack, Plainly, Marked, Commands, NoCommand, AndCommand, Clauses, NoClause, AndClause}
-use Rattle.rat_tree.specs.Meaning.{Flow, Then, landed, fits, run_from, picked, defaulted}
+use Rattle.rat_tree.specs.Syntax.{Command, Empty, Block, If, IfElse, While, For, Repeat, RepeatUntil, Do, Switch, Break, Next, Return, Plain, Labelled, Commands, NoCommand, AndCommand, Clauses, NoClause, AndClause}
+use Rattle.rat_tree.specs.Meaning.{Flow, Continuation, landed, fits_case, run_from, picked, defaulted}
 use Rattle.rat_tree.specs.Uses.{NamesOfCommand, NamesOfCommands, NamesOfClauses}
 use Rattle.rat_lower.specs.Code.{Rings, jump, here, all_labels, each_test, tests, default_label, has_switch, have_switch, code_of, all_code, bodies}
 use Rattle.rat_lower.specs.Checked.{bit, IsBuilt, AreBuilt, ClausesBuilt}
@@ -65,8 +65,8 @@ module _ (g : Lowering) (b : ℕ) (call : ℕ → List Spot → World → Out �
   ClausesRight (AndClause es d ss p cs) = AllRight ss × FromRight ss × ClausesRight cs
 
   clauses_do : (cs : Clauses) → ClausesRight cs → (m out : ℕ) (q : Place) (ls : Rings) (next : List Line) → Within (here out q ∷ next) co → closers out co ≡ [] → Within (bodies made spare cs m out ls (here out q ∷ next)) co → ((z : ℕ) → ends z co + clause_heads made z cs m ≤ 1) → (top : ℕ) → length (bodies made spare cs m out ls (here out q ∷ next)) ≤ top → ClausesDo top ls next cs m
-  clauses_do NoClause r m out q ls next at_out no_out has clear top fits = tt
-  clauses_do (AndClause es d ss p cs) r m out q ls next at_out no_out has clear top fits =
+  clauses_do NoClause r m out q ls next at_out no_out has clear top fits_case = tt
+  clauses_do (AndClause es d ss p cs) r m out q ls next at_out no_out has clear top fits_case =
       let rest = bodies made spare cs (m + 1 + all_labels ss) out ls (here out q ∷ next) in
       let mid = jump p out ∷ rest in
       let body = acd ss (m + 1) ls mid in
@@ -81,19 +81,19 @@ module _ (g : Lowering) (b : ℕ) (call : ℕ → List Spot → World → Out �
             subst (λ z. Fo b top ls pr (R z pr) w.state y next whole) (sym (found (made m) p unique has))
             (first g {j1 = 1} {b1 = b} {x1 = 1 + y} whole (keeps_self top pr) (past_here g p (made m) body pr w.state no_do) (omega arith) (omega arith) (omega arith)
             (passing g b call made spare unique whole (omega arith) (list_right g b call made spare unique ss r.0 r.1 (m + 1) ls mid at_body (λ z. omega (arith, clear z)) top (omega arith) pr w (2 + (1 + y)) (omega arith)) over)),
-        clauses_do cs r.2 (m + 1 + all_labels ss) out q ls next at_out no_out (within_tail _ at_mid) (λ z. omega (arith, clear z)) top (omega (arith, fits, shorter)),
+        clauses_do cs r.2 (m + 1 + all_labels ss) out q ls next at_out no_out (within_tail _ at_mid) (λ z. omega (arith, clear z)) top (omega (arith, fits_case, shorter)),
       )
 
   module _ (holds : HoldsValue g spare) where
-    each_follows : (p : Place) (es : Formulas) → NamesOfAll (g.K g.unit) es → (q : ℕ) (top : ℕ) (ls : Rings) (pr : Extra) (rest next : List Line) (yea nay : Then) →
+    each_follows : (p : Place) (es : Formulas) → NamesOfAll (g.K g.unit) es → (q : ℕ) (top : ℕ) (ls : Rings) (pr : Extra) (rest next : List Line) (yea nay : Continuation) →
         ((w : World) (y : ℕ) → 8 + y ≤ 32 * w.count → Fo b top ls pr (R (from_label q co) pr) w.state y next (yea w)) → ((w : World) (y : ℕ) → 8 + y ≤ 32 * w.count → Fo b top ls pr (R rest pr) w.state y next (nay w)) →
-        (w : World) (x : ℕ) → 8 + x ≤ 32 * w.count → Fo b top ls pr (R (each_test spare p es q rest) pr) w.state x next (fits So f0 p pr.spare es yea nay w)
-    each_follows p Nought used q top ls pr rest next yea nay hy hn w x le = hn w x le
-    each_follows p (Also e es) used q top ls pr rest next yea nay hy hn w x le =
-        case_follows g b call spare holds 9 p e q (counted w) yea (fits So f0 p pr.spare es yea nay) used.0 (omega arith) (omega arith)
+        (w : World) (x : ℕ) → 8 + x ≤ 32 * w.count → Fo b top ls pr (R (each_test spare p es q rest) pr) w.state x next (fits_case So f0 p pr.spare es yea nay w)
+    each_follows p NoFormula used q top ls pr rest next yea nay hy hn w x le = hn w x le
+    each_follows p (AndFormula e es) used q top ls pr rest next yea nay hy hn w x le =
+        case_follows g b call spare holds 9 p e q (counted w) yea (fits_case So f0 p pr.spare es yea nay) used.0 (omega arith) (omega arith)
         (λ w1 y ok. hy w1 (1 + y) (omega arith)) (λ w1 y ok. each_follows p es used.1 q top ls pr rest next yea nay hy hn w1 y (omega arith))
 
-    picked_follows : (cs : Clauses) → NamesOfClauses (g.K g.unit) cs → (m : ℕ) (top : ℕ) (ls : Rings) (pr : Extra) (rest next : List Line) (other : Then) → ClausesDo top ls next cs m → ((w : World) (y : ℕ) → 8 + y ≤ 32 * w.count → Fo b top ls pr (R rest pr) w.state y next (other w)) →
+    picked_follows : (cs : Clauses) → NamesOfClauses (g.K g.unit) cs → (m : ℕ) (top : ℕ) (ls : Rings) (pr : Extra) (rest next : List Line) (other : Continuation) → ClausesDo top ls next cs m → ((w : World) (y : ℕ) → 8 + y ≤ 32 * w.count → Fo b top ls pr (R rest pr) w.state y next (other w)) →
         (w : World) (x : ℕ) → 8 + x ≤ 32 * w.count → Fo b top ls pr (R (tests made spare cs m rest) pr) w.state x next (picked So f0 b pr.spare cs other w)
     picked_follows NoClause used m top ls pr rest next other d h w x le = h w x le
     picked_follows (AndClause es fb ss p cs) used m top ls pr rest next other d h w x le =
@@ -105,7 +105,7 @@ module _ (g : Lowering) (b : ℕ) (call : ℕ → List Spot → World → Out �
   default_follows (AndClause es true ss p cs) m out q top ls next at_out no_out d pr w y ok = d.0 pr w y ok
   default_follows (AndClause es false ss p cs) m out q top ls next at_out no_out d pr w y ok = default_follows cs (m + 1 + all_labels ss) out q top ls next at_out no_out d.1 pr w y ok
 
-  switch_right : HoldsValue g spare → (p : Place) (e : Formula) (cs : Clauses) → Names (g.K g.unit) e → NamesOfClauses (g.K g.unit) cs → ClausesRight cs → Right (Switches p e cs)
+  switch_right : HoldsValue g spare → (p : Place) (e : Formula) (cs : Clauses) → Names (g.K g.unit) e → NamesOfClauses (g.K g.unit) cs → ClausesRight cs → Right (Switch p e cs)
   switch_right holds p e cs used all_used r n ls next has clear top fits_in pr w x le =
       let last = here (made n) p ∷ next in
       let all = bodies made spare cs (n + 1) (made n) ls last in
@@ -135,29 +135,29 @@ module _ (g : Lowering) (b : ℕ) (call : ℕ → List Spot → World → Out �
   -- every statement follows
   mutual
     pub right : (s : Command) → IsBuilt s → NamesOfCommand (g.K g.unit) s → (has_switch s ≡ true → HoldsValue g spare) → Right s
-    right (Empty p) is used may = λ n ls next has clear top fits pr w x le. record { by = (0, omega arith, pr, keeps_self top pr, comes_here (R next pr) w.state) }
-    right (Together p ss) is used may = together_right g b call made spare unique p ss (all_right ss is used may) (from_right ss is used may)
-    right (When p e s) is used may = when_right g b call made spare unique p e s used.0 (right s is used.1 may)
-    right (Either p e s t) is used may = either_right g b call made spare unique p e s t used.0 (right s is.0 used.1 (λ h. may (by_first (has_switch s) (has_switch t) h))) (right t is.1 used.2 (λ h. may (by_second (has_switch s) (has_switch t) h)))
-    right (Whilst p e s) is used may = whilst_right g b call made spare unique p e s used.0 (right s is used.1 may)
-    right (Through p before o step s) is used may = through_right g b call made spare unique p before o step s is.0 is.1 used.0 used.1 used.2 (right s is.2 used.3 may)
-    right (Repeats p s) is used may = repeats_right g b call made spare unique p s (right s is used may)
-    right (Until p s e q) is used may = until_right g b call made spare unique p s e q used.1 (right s is used.0 may)
-    right (Counts p y i1 i2 i3 s) is used may = counts_right g b call made spare unique p y i1 i2 i3 s used.0 used.1 used.2 used.3 (right s is used.4 may)
-    right (Switches p e cs) is used may = switch_right (may refl) p e cs used.0 used.1 (clauses_right cs is used.1 (may refl))
-    right (Leaves p k) is used may = leave_right g b call made spare unique p k
-    right (Turns p k) is used may = again_right g b call made spare unique p k
-    right (GivesBack p e) is used may = gives_right g b call made spare unique p e is
-    right (Plainly m p a) is used may = plain_right g b call made spare unique m p a is used
-    right (Marked m p s) is used may = marked_right g b call made spare unique m p s (right s is used may)
+    right (Empty p) is used may = λ n ls next has clear top fits_case pr w x le. record { by = (0, omega arith, pr, keeps_self top pr, comes_here (R next pr) w.state) }
+    right (Block p ss) is used may = together_right g b call made spare unique p ss (all_right ss is used may) (from_right ss is used may)
+    right (If p e s) is used may = when_right g b call made spare unique p e s used.0 (right s is used.1 may)
+    right (IfElse p e s t) is used may = either_right g b call made spare unique p e s t used.0 (right s is.0 used.1 (λ h. may (by_first (has_switch s) (has_switch t) h))) (right t is.1 used.2 (λ h. may (by_second (has_switch s) (has_switch t) h)))
+    right (While p e s) is used may = whilst_right g b call made spare unique p e s used.0 (right s is used.1 may)
+    right (For p before o step s) is used may = through_right g b call made spare unique p before o step s is.0 is.1 used.0 used.1 used.2 (right s is.2 used.3 may)
+    right (Repeat p s) is used may = repeats_right g b call made spare unique p s (right s is used may)
+    right (RepeatUntil p s e q) is used may = until_right g b call made spare unique p s e q used.1 (right s is used.0 may)
+    right (Do p y i1 i2 i3 s) is used may = counts_right g b call made spare unique p y i1 i2 i3 s used.0 used.1 used.2 used.3 (right s is used.4 may)
+    right (Switch p e cs) is used may = switch_right (may refl) p e cs used.0 used.1 (clauses_right cs is used.1 (may refl))
+    right (Break p k) is used may = leave_right g b call made spare unique p k
+    right (Next p k) is used may = again_right g b call made spare unique p k
+    right (Return p e) is used may = gives_right g b call made spare unique p e is
+    right (Plain m p a) is used may = plain_right g b call made spare unique m p a is used
+    right (Labelled m p s) is used may = marked_right g b call made spare unique m p s (right s is used may)
 
     pub all_right : (ss : Commands) → AreBuilt ss → NamesOfCommands (g.K g.unit) ss → (have_switch ss ≡ true → HoldsValue g spare) → AllRight ss
-    all_right NoCommand is used may = λ n ls next has clear top fits pr w x le. record { by = (0, omega arith, pr, keeps_self top pr, comes_here (R next pr) w.state) }
+    all_right NoCommand is used may = λ n ls next has clear top fits_case pr w x le. record { by = (0, omega arith, pr, keeps_self top pr, comes_here (R next pr) w.state) }
     all_right (AndCommand s ss) is used may =
         more_right g b call made spare unique s ss (right s is.0 used.0 (λ h. may (by_first (has_switch s) (have_switch ss) h))) (all_right ss is.1 used.1 (λ h. may (by_second (has_switch s) (have_switch ss) h)))
 
     pub from_right : (ss : Commands) → AreBuilt ss → NamesOfCommands (g.K g.unit) ss → (have_switch ss ≡ true → HoldsValue g spare) → FromRight ss
-    from_right NoCommand is used may = λ q e n ls next has clear top fits pr w x le. absurd (true≢false (sym e))
+    from_right NoCommand is used may = λ q e n ls next has clear top fits_case pr w x le. absurd (true≢false (sym e))
     from_right (AndCommand s ss) is used may =
         from_more g b call made spare unique s ss (right s is.0 used.0 (λ h. may (by_first (has_switch s) (have_switch ss) h))) (all_right ss is.1 used.1 (λ h. may (by_second (has_switch s) (have_switch ss) h))) (from_right ss is.1 used.1 (λ h. may (by_second (has_switch s) (have_switch ss) h)))
 

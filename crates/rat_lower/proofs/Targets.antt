@@ -3,12 +3,12 @@
 use Rattle.std.proofs.Common.{◌≡◌, ℕ, zero, suc, ◌+◌, ◌≤◌, ◌<◌, Bool, true, false, true≢false, List, [], ◌∷◌, ◌⊎◌, inl, inr, Option, Some, None, refl, sym, ap, ◌∙◌, arith}
 use Rattle.std.specs.Prelude.{nat_eq, not, if◌then◌else◌, ⊤}
 use Rattle.ground.specs.declared.place.Place.{Place}
-use Rattle.f66_tree.specs.Forms.{Text, Formula, Formulas, Nought, Also, Act, Goes, Selects, Signs, Chooses, Loops, Passes, Line, bare}
+use Rattle.f66_tree.specs.Syntax.{Text, Formula, Formulas, NoFormula, AndFormula, Act, Goto, Computed, Sign, When, Loop, Continue, Line, unlabelled_line}
 use Rattle.f66_tree.specs.Units.{is_note}
 use Rattle.f66_tree.specs.Execution.{has_label, from_label}
 use Rattle.f66_flow.specs.Acts.{is_executable, branches}
-use Rattle.rat_tree.specs.Commands.{Command, Empty, Together, When, Either, Whilst, Through, Repeats, Until, Counts, Switches, Leaves, Turns, GivesBack, Plainly, Marked, Commands, NoCommand, AndCommand, Clauses, NoClause, AndClause}
-use Rattle.rat_tree.specs.Meaning.{marks, stands}
+use Rattle.rat_tree.specs.Syntax.{Command, Empty, Block, If, IfElse, While, For, Repeat, RepeatUntil, Do, Switch, Break, Next, Return, Plain, Labelled, Commands, NoCommand, AndCommand, Clauses, NoClause, AndClause}
+use Rattle.rat_tree.specs.Meaning.{has_own_label, stands}
 use Rattle.rat_lower.specs.Checked.{bit, IsBuilt, AreBuilt, ClausesBuilt, IsPlain, IsPlainIfAny, Fits, AllFit, ClausesFit, stands_in, AllStandIn, ActLands, ActLandsIfAny, Lands, AllLand, ClausesLand}
 use Rattle.rat_lower.specs.Code.{each_test, case_test, tests, default_label, bodies, Rings, label_behind, label_again, jump, unless, here, with_test, with_act, labels, all_labels, code_of, all_code}
 use Rattle.rat_lower.proofs.Counts.{same_number, occurs, ends, plain_names, heads, all_heads, clause_heads, occurs-test, ends-test, occurs-act, ends-act, occurs-each, ends-each, occurs-tests, ends-tests, occurs-code, ends-code, occurs-all, ends-all, occurs-bodies, ends-bodies}
@@ -46,7 +46,7 @@ module _ (code : List Line) (unique : AreUnique code) (IsEnd : ℕ → Type 0) w
     pub leaves : EntersNone (here m place ∷ behind) from
 
   abbrev pub EndsRight : List Line → Act → List Line → Type 0
-  EndsRight from (Loops l x a b c) rest = Ending from l rest
+  EndsRight from (Loop l x a b c) rest = Ending from l rest
   EndsRight from _ rest = ⊤
 
   pub record Leads (s : Line) (rest : List Line) : Type 0 where
@@ -92,18 +92,18 @@ module _ (code : List Line) (unique : AreUnique code) (IsEnd : ℕ → Type 0) w
 
   -- ---- single statements ----
 
-  passes_lead : (l : Option ℕ) (p : Place) (rest : List Line) → Leads (record { label = l; place = p; act = Passes }) rest
+  passes_lead : (l : Option ℕ) (p : Place) (rest : List Line) → Leads (record { label = l; place = p; act = Continue }) rest
   passes_lead l p rest = record { targets = tt; ending = tt }
 
   act_targets : {next : List Line} (around : List Commands) (a : Act) → IsPlain a → ActLands around a → ListsLead around next → AllTargets next (branches a)
-  act_targets around (Goes l) is la li = (li l la, tt)
-  act_targets around (Selects ls x) is la li = all_targets around ls li la
-  act_targets around (Signs e n m k) is la li = (li n la.0, (li m la.1, (li k la.2, tt)))
-  act_targets around (Chooses e a) is la li = absurd is
+  act_targets around (Goto l) is la li = (li l la, tt)
+  act_targets around (Computed ls x) is la li = all_targets around ls li la
+  act_targets around (Sign e n m k) is la li = (li n la.0, (li m la.1, (li k la.2, tt)))
+  act_targets around (When e a) is la li = absurd is
   act_targets around _ is la li = tt
 
   act_ends : (from : List Line) (a : Act) (rest : List Line) → IsPlain a → EndsRight from a rest
-  act_ends from (Loops l x a b c) rest is = absurd is
+  act_ends from (Loop l x a b c) rest is = absurd is
   act_ends from _ rest is = tt
 
   act_leads : (around : List Commands) (l : Option ℕ) (p : Place) (a : Act) (next : List Line) → ((q : ℕ) → IsEnd q → bit (has_label q l) ≡ 0) → IsPlain a → ActLands around a → ListsLead around next →
@@ -120,7 +120,7 @@ module _ (code : List Line) (unique : AreUnique code) (IsEnd : ℕ → Type 0) w
   goes_lead : {next : List Line} (l : ℕ) (p : Place) → Target next l → Leads (jump p l) next
   goes_lead l p t = record { targets = (target_from l (λ q h. omega arith) t, tt); ending = tt }
 
-  chooses_lead : {next : List Line} (l : ℕ) (p : Place) (e : Formula) → Target next l → Leads (bare p (Chooses e (Goes l))) next
+  chooses_lead : {next : List Line} (l : ℕ) (p : Place) (e : Formula) → Target next l → Leads (unlabelled_line p (When e (Goto l))) next
   chooses_lead l p e t = record { targets = (target_from l (λ q h. omega arith) t, tt); ending = tt }
 
   test_leads : {next : List Line} (p : Place) (o : Option Formula) (l : ℕ) → Target next l → AllLead next → AllLead (with_test p o l next)
@@ -131,8 +131,8 @@ module _ (code : List Line) (unique : AreUnique code) (IsEnd : ℕ → Type 0) w
   each_level spare p es l next q h = omega (arith, occurs-each q spare p es l next, ends-each q spare p es l next)
 
   each_leads : (spare : Text) (p : Place) (es : Formulas) (l : ℕ) (next : List Line) → Target next l → AllLead next → AllLead (each_test spare p es l next)
-  each_leads spare p Nought l next t k = k
-  each_leads spare p (Also e es) l next t k = (chooses_lead l p (case_test spare e) (target_at l (each_level spare p es l next) t), each_leads spare p es l next t k)
+  each_leads spare p NoFormula l next t k = k
+  each_leads spare p (AndFormula e es) l next t k = (chooses_lead l p (case_test spare e) (target_at l (each_level spare p es l next) t), each_leads spare p es l next t k)
 
   module _ (made : ℕ → ℕ) (spare : Text) where
     -- no label of a DO's last statement is another label of these
@@ -160,9 +160,9 @@ module _ (code : List Line) (unique : AreUnique code) (IsEnd : ℕ → Type 0) w
 
     -- ---- labels that stand directly in a list ----
 
-    marked_target : (m : ℕ) (s : Command) (n : ℕ) (ls : Rings) (next : List Line) → marks m s ≡ true → Within (code_of made spare s n ls next) code → Target (code_of made spare s n ls next) m
-    marked_target m (Marked l p s) n ls next is w = record { line = here l p; behind = _; found = found_line m (here l p) is unique w; runs = refl; enters = λ q h. omega arith }
-    marked_target m (Plainly l p a) n ls next is w = by (is_note a) refl
+    marked_target : (m : ℕ) (s : Command) (n : ℕ) (ls : Rings) (next : List Line) → has_own_label m s ≡ true → Within (code_of made spare s n ls next) code → Target (code_of made spare s n ls next) m
+    marked_target m (Labelled l p s) n ls next is w = record { line = here l p; behind = _; found = found_line m (here l p) is unique w; runs = refl; enters = λ q h. omega arith }
+    marked_target m (Plain l p a) n ls next is w = by (is_note a) refl
       where
         by : (v : Bool) → is_note a ≡ v → Target (record { label = l; place = p; act = a } ∷ next) m
         by true e = absurd (true≢false (sym is ∙ ap (λ v. if v then false else has_label m l) e))
@@ -179,10 +179,10 @@ module _ (code : List Line) (unique : AreUnique code) (IsEnd : ℕ → Type 0) w
     list_target m NoCommand n ls next is bu fr w = absurd (true≢false (sym is))
     list_target m (AndCommand s ss) n ls next is bu fr w =
         let rest = all_code made spare ss (n + labels s) ls next in
-        by (or_true (marks m s) (stands m ss) is) (marked_target m s n ls rest)
+        by (or_true (has_own_label m s) (stands m ss) is) (marked_target m s n ls rest)
         (λ h. list_target m ss (n + labels s) ls next h bu.1 (λ q e. omega (arith, fr q e)) (within_in (within_code made spare s n ls rest) w))
       where
-        by : (marks m s ≡ true) ⊎ (stands m ss ≡ true) → (marks m s ≡ true → Within (all_code made spare (AndCommand s ss) n ls next) code → Target (all_code made spare (AndCommand s ss) n ls next) m) → (stands m ss ≡ true → Target next m) → Target next m
+        by : (has_own_label m s ≡ true) ⊎ (stands m ss ≡ true) → (has_own_label m s ≡ true → Within (all_code made spare (AndCommand s ss) n ls next) code → Target (all_code made spare (AndCommand s ss) n ls next) m) → (stands m ss ≡ true → Target next m) → Target next m
         by (inl h) here_it later = target_at m (λ q e. sym (all_level (AndCommand s ss) n ls next bu fr q e)) (here_it h w)
         by (inr h) here_it later = later h
 
@@ -275,8 +275,8 @@ module _ (code : List Line) (unique : AreUnique code) (IsEnd : ℕ → Type 0) w
       lead : (s : Command) (d n : ℕ) (ls : Rings) (around : List Commands) (next : List Line) → IsBuilt s → Fits d s → Lands around s → Free s n → RingsLead d ls next → ListsLead around next →
           Within (code_of made spare s n ls next) code → AllLead next → AllLead (code_of made spare s n ls next)
       lead (Empty p) d n ls around next bu fi la fr ri li w k = k
-      lead (Together p ss) d n ls around next bu fi la fr ri li w k = lead_all ss d n ls (ss ∷ around) next bu fi la fr ri (lists_more ss n ls next around bu fr w li) w k
-      lead (When p e s) d n ls around next bu fi la fr ri li w k =
+      lead (Block p ss) d n ls around next bu fi la fr ri li w k = lead_all ss d n ls (ss ∷ around) next bu fi la fr ri (lists_more ss n ls next around bu fr w li) w k
+      lead (If p e s) d n ls around next bu fi la fr ri li w k =
           let last : List Line = here (made n) p ∷ next in
           let inner : List Line = code_of made spare s (n + 1) ls last in
           let free : Free s (n + 1) = λ q h. omega (arith, fr q h) in
@@ -287,7 +287,7 @@ module _ (code : List Line) (unique : AreUnique code) (IsEnd : ℕ → Type 0) w
             chooses_lead (made n) p _ (target_at (made n) level behind),
             lead s d (n + 1) ls around last bu fi la free (rings_from d ls to_last ri) (lists_from around to_last li) wi (passes_lead (Some (made n)) p next, k),
           )
-      lead (Either p e s t) d n ls around next bu fi la fr ri li w k =
+      lead (IfElse p e s t) d n ls around next bu fi la fr ri li w k =
           let last : List Line = here (made (n + 1)) p ∷ next in
           let second : List Line = code_of made spare t (n + 2 + labels s) ls last in
           let other : List Line = here (made n) p ∷ second in
@@ -314,9 +314,9 @@ module _ (code : List Line) (unique : AreUnique code) (IsEnd : ℕ → Type 0) w
             chooses_lead (made n) p _ (target_at (made n) a_first otherwise),
             lead s d (n + 2) ls around out bu.0 fi.0 la.0 free_s (rings_from d ls to_out ri) (lists_from around to_out li) wf k_out,
           )
-      lead (Whilst p e s) d n ls around next bu fi la fr ri li w k =
+      lead (While p e s) d n ls around next bu fi la fr ri li w k =
           loop_leads p (Some e) None s d n ls around next bu tt tt fr ri li (λ ri1 li1 w1 k1. lead s (suc d) (n + 3) ((made (n + 2), made (n + 1)) ∷ ls) around _ bu fi la (λ q h. omega (arith, fr q h)) ri1 li1 w1 k1) w k
-      lead (Through p first e step s) d n ls around next bu fi la fr ri li w k =
+      lead (For p first e step s) d n ls around next bu fi la fr ri li w k =
           let rings : Rings = (made (n + 2), made (n + 1)) ∷ ls in
           let mid : List Line = here (made (n + 1)) p ∷ with_act p step (jump p (made n) ∷ here (made (n + 2)) p ∷ next) in
           let inner : List Line = code_of made spare s (n + 3) rings mid in
@@ -336,9 +336,9 @@ module _ (code : List Line) (unique : AreUnique code) (IsEnd : ℕ → Type 0) w
           loop_leads p e step s d n ls around next bu.2 bu.1 la.1 fr ri li
           (λ ri1 li1 w1 k1. lead s (suc d) (n + 3) rings around mid bu.2 fi la.2 (λ q h. omega (arith, fr q h)) ri1 li1 w1 k1) (within_in (within_act p first all) w) k in
           if_any_lead around p first all bu.0 la.0 (lists_from around (λ q h. omega (arith, level q h)) li) loop
-      lead (Repeats p s) d n ls around next bu fi la fr ri li w k =
+      lead (Repeat p s) d n ls around next bu fi la fr ri li w k =
           loop_leads p None None s d n ls around next bu tt tt fr ri li (λ ri1 li1 w1 k1. lead s (suc d) (n + 3) ((made (n + 2), made (n + 1)) ∷ ls) around _ bu fi la (λ q h. omega (arith, fr q h)) ri1 li1 w1 k1) w k
-      lead (Until p s e q0) d n ls around next bu fi la fr ri li w k =
+      lead (RepeatUntil p s e q0) d n ls around next bu fi la fr ri li w k =
           let rings : Rings = (made (n + 2), made (n + 1)) ∷ ls in
           let last : List Line = here (made (n + 2)) p ∷ next in
           let out : List Line = unless q0 e (made n) ∷ last in
@@ -360,7 +360,7 @@ module _ (code : List Line) (unique : AreUnique code) (IsEnd : ℕ → Type 0) w
             lead s (suc d) (n + 3) rings around mid bu fi la free
                 (rings_more d ls (made (n + 2)) (made (n + 1)) (target_at (made (n + 2)) a_mid behind) (target_at (made (n + 1)) a_mid again) (rings_from d ls to_mid ri)) (lists_from around to_mid li) wi k_mid,
           )
-      lead (Counts p x a b c s) d n ls around next bu fi la fr ri li w k =
+      lead (Do p x a b c s) d n ls around next bu fi la fr ri li w k =
           let rings : Rings = (made (n + 1), made n) ∷ ls in
           let last : List Line = here (made (n + 1)) p ∷ next in
           let mid : List Line = here (made n) p ∷ last in
@@ -372,7 +372,7 @@ module _ (code : List Line) (unique : AreUnique code) (IsEnd : ℕ → Type 0) w
           let to_mid : EntersNone mid next = λ q h. omega (arith, fr q h) in
           let again : Target mid (made n) = target_here (made n) p wm (λ q h. omega arith) in
           let behind : Target mid (made (n + 1)) = target_here (made (n + 1)) p wl (λ q h. omega (arith, fr q h)) in
-          let ending : Ending (bare p (Loops (made n) x a b c) ∷ inner) (made n) inner = record {
+          let ending : Ending (unlabelled_line p (Loop (made n) x a b c) ∷ inner) (made n) inner = record {
             place = p;
             behind = last;
             found = found (made n) p unique wm;
@@ -383,7 +383,7 @@ module _ (code : List Line) (unique : AreUnique code) (IsEnd : ℕ → Type 0) w
             lead s (suc d) (n + 2) rings around mid bu fi la free (rings_more d ls (made (n + 1)) (made n) behind again (rings_from d ls to_mid ri)) (lists_from around to_mid li) wi
                 (passes_lead (Some (made n)) p last, (passes_lead (Some (made (n + 1))) p next, k)),
           )
-      lead (Switches p e cs) d n ls around next bu fi la fr ri li w k =
+      lead (Switch p e cs) d n ls around next bu fi la fr ri li w k =
           let last : List Line = here (made n) p ∷ next in
           let all : List Line = bodies made spare cs (n + 1) (made n) ls last in
           let go : List Line = jump p (default_label made spare cs (n + 1) (made n)) ∷ all in
@@ -398,14 +398,14 @@ module _ (code : List Line) (unique : AreUnique code) (IsEnd : ℕ → Type 0) w
           let k_go : AllLead go = (goes_lead _ p (target_at _ level (default_target cs (n + 1) (made n) labels_lead out)), k_all) in
           let go_level : IsLevel go last = λ q h. omega (arith, level q h) in
           (record { targets = tt; ending = tt }, tests_lead cs (n + 1) go (clauses_at go last cs (n + 1) go_level labels_lead) k_go)
-      lead (Leaves p zero) d n ls around next bu fi la fr ri li w k = absurd (omega (arith, fi.0))
-      lead (Leaves p (suc m)) d n ls around next bu fi la fr ri li w k = (goes_lead _ p (ri m (omega (arith, fi.1))).0, k)
-      lead (Turns p zero) d n ls around next bu fi la fr ri li w k = absurd (omega (arith, fi.0))
-      lead (Turns p (suc m)) d n ls around next bu fi la fr ri li w k = (goes_lead _ p (ri m (omega (arith, fi.1))).1, k)
-      lead (GivesBack p None) d n ls around next bu fi la fr ri li w k = (record { targets = tt; ending = tt }, k)
-      lead (GivesBack p (Some e)) d n ls around next bu fi la fr ri li w k = absurd bu
-      lead (Plainly l p a) d n ls around next bu fi la fr ri li w k = (act_leads around l p a next fr bu la li, k)
-      lead (Marked l p s) d n ls around next bu fi la fr ri li w k =
+      lead (Break p zero) d n ls around next bu fi la fr ri li w k = absurd (omega (arith, fi.0))
+      lead (Break p (suc m)) d n ls around next bu fi la fr ri li w k = (goes_lead _ p (ri m (omega (arith, fi.1))).0, k)
+      lead (Next p zero) d n ls around next bu fi la fr ri li w k = absurd (omega (arith, fi.0))
+      lead (Next p (suc m)) d n ls around next bu fi la fr ri li w k = (goes_lead _ p (ri m (omega (arith, fi.1))).1, k)
+      lead (Return p None) d n ls around next bu fi la fr ri li w k = (record { targets = tt; ending = tt }, k)
+      lead (Return p (Some e)) d n ls around next bu fi la fr ri li w k = absurd bu
+      lead (Plain l p a) d n ls around next bu fi la fr ri li w k = (act_leads around l p a next fr bu la li, k)
+      lead (Labelled l p s) d n ls around next bu fi la fr ri li w k =
           (passes_lead (Some l) p _, lead s d n ls around next bu fi la (λ q h. omega (arith, fr q h)) ri li (within_tail _ w) k)
 
       pub lead_all : (ss : Commands) (d n : ℕ) (ls : Rings) (around : List Commands) (next : List Line) → AreBuilt ss → AllFit d ss → AllLand around ss → AllFree ss n → RingsLead d ls next → ListsLead around next →

@@ -3,14 +3,14 @@ use Rattle.std.proofs.Common.{◌≡◌, ◌≢◌, ℕ, suc, ◌+◌, ◌≤◌
 use Rattle.std.specs.Prelude.{nat_eq, if◌then◌else◌, ⊤}
 use Rattle.ground.specs.declared.place.Place.{Place}
 use Rattle.ground.specs.Content.{Nothing}
-use Rattle.f66_tree.specs.Forms.{Text, Line}
+use Rattle.f66_tree.specs.Syntax.{Text, Line}
 use Rattle.f66_tree.specs.World.{Record, put_in, fresh, first_tape, State, World, Out, Lost, Shown, shown}
 use Rattle.f66_tree.specs.Units.{Note, notes_of, Spot, Linkage}
-use Rattle.f66_tree.specs.Execution.{stand, no_loops, nowhere, start, exec, f66}
+use Rattle.f66_tree.specs.Execution.{stand, no_loops, nowhere, first_state, exec, f66}
 use Rattle.f66_tree.specs.Agreement.{Agrees}
 use Rattle.f66_tree.specs.OneUnit.{one_unit, executed}
 use Rattle.f66_tree.proofs.Longer.{f66_extends}
-use Rattle.rat_tree.specs.Commands.{Commands}
+use Rattle.rat_tree.specs.Syntax.{Commands}
 use Rattle.rat_tree.specs.Meaning.{Ours, source_call}
 use Rattle.rat_tree.proofs.AnyCommands.{any_commands}
 use Rattle.rat_lower.specs.Code.{have_switch, all_code, ends_so, stop_unless, declared_if, unit_code}
@@ -46,7 +46,7 @@ module _ (made : ℕ → ℕ) (spare : Text) (first last : Place) (ss : Commands
   code1 = all_code made spare ss 0 [] (stop_unless added last)
 
   abbrev s0 : State
-  s0 = start (one_unit notes) input
+  s0 = first_state (one_unit notes) input
 
   once : (l : ℕ) → all_heads made l ss 0 + all_dos made l ss 0 ≤ 1
   once l = distinct made checked.rises ss checked.unused checked.once l

@@ -9,12 +9,12 @@ use Rattle.ground.specs.declared.value.Kind.{Kind}
 use Rattle.ground.specs.declared.value.Kind.TheVariants.{Integer}
 use Rattle.ground.specs.Content.{Content}
 use Rattle.f66_tree.specs.declared.expression.Operator.TheVariants.{Eq}
-use Rattle.f66_tree.specs.Forms.{Text, Act, Formula, Par}
+use Rattle.f66_tree.specs.Syntax.{Text, Act, Formula, Par}
 use Rattle.f66_tree.specs.Uses.{Names, NameOfPar, NamesOfAct}
 use Rattle.f66_tree.specs.World.{put_in, State, Tape, World, counted, taping, Finish, Trapped, Wrong, Ended, GoesOn, Lost, Out, Gives, Halts, bind, Try, Yields, Traps, Fails, Move, Moves, Breaks, Misses, settle, moving, holding, take_one, choose}
 use Rattle.f66_tree.specs.Units.{Spot, Held, Lent, Setting}
 use Rattle.f66_tree.specs.Evaluation.{asked, held, store_at, load, operate, truth_in, value_of, asks}
-use Rattle.f66_tree.specs.Statements.{Exit, Loop, loop_start, loop_turn, taped, took, item_turns, does}
+use Rattle.f66_tree.specs.Statements.{Exit, LoopParameters, loop_start, loop_turn, taped, taken_content, item_turns, does}
 use Rattle.f66_tree.proofs.Posts.{IfGives, post_any}
 use Rattle.f66_tree.proofs.Related.{Sides, side1, side2, Frames, one, two, Good, Holds, thens, settles, does_holds, asks_hold, value_holds, start_holds, turn_holds}
 use Rattle.rat_tree.specs.Meaning.{is_case}
@@ -141,7 +141,7 @@ module _ (g : Lowering) (I : Type 0) (bound : I → ℕ) (b turns_most : ℕ) (t
   taped_tracks p h (Breaks trap t) v w x e le = halts_now I bound g.spot (Trapped trap p) (taping t w) le (λ i k c. ap (λ q. moving p q (near g.spot v w.state k c)) e)
   taped_tracks p h Misses v w x e le = halts_now I bound g.spot Wrong w le (λ i k c. ap (λ q. moving p q (near g.spot v w.state k c)) e)
 
-  took_tracks : (p : Place) (h : Tape → Try (Content × Tape)) (o : Try (Content × Tape)) (v : Content) (w : World) (x : ℕ) → h w.state.tape ≡ o → x ≤ 32 * w.count → Tracks I bound g.spot {A = Content} b v w.state x (λ i. took p h) (bind (settle p o w) (λ r w2. Gives r.0 (taping r.1 w2)))
+  took_tracks : (p : Place) (h : Tape → Try (Content × Tape)) (o : Try (Content × Tape)) (v : Content) (w : World) (x : ℕ) → h w.state.tape ≡ o → x ≤ 32 * w.count → Tracks I bound g.spot {A = Content} b v w.state x (λ i. taken_content p h) (bind (settle p o w) (λ r w2. Gives r.0 (taping r.1 w2)))
   took_tracks p h (Yields a) v w x e le = gives_now I bound g.spot a.0 (taping a.1 w) le (λ i k c. ap (λ o. bind (settle p o (near g.spot v w.state k c)) (λ r w2. Gives r.0 (taping r.1 w2))) e)
   took_tracks p h (Traps t) v w x e le = halts_now I bound g.spot (Trapped t p) w le (λ i k c. ap (λ o. bind (settle p o (near g.spot v w.state k c)) (λ r w2. Gives r.0 (taping r.1 w2))) e)
   took_tracks p h Fails v w x e le = halts_now I bound g.spot Wrong w le (λ i k c. ap (λ o. bind (settle p o (near g.spot v w.state k c)) (λ r w2. Gives r.0 (taping r.1 w2))) e)
@@ -157,7 +157,7 @@ module _ (g : Lowering) (I : Type 0) (bound : I → ℕ) (b turns_most : ℕ) (t
     loads = loaded;
     stores = put;
     tapes = λ f ok h step v w x le. subst (λ q. Tracks I bound g.spot b v w.state x (λ i. taped f.here h) (taped q h w)) ok.places (taped_tracks f.here h (h w.state.tape) v w x refl le);
-    takes = λ f ok h step v w x le. subst (λ q. Tracks I bound g.spot b v w.state x (λ i. took f.here h) (took q h w)) ok.places (took_tracks f.here h (h w.state.tape) v w x refl le);
+    takes = λ f ok h step v w x le. subst (λ q. Tracks I bound g.spot b v w.state x (λ i. taken_content f.here h) (taken_content q h w)) ok.places (took_tracks f.here h (h w.state.tape) v w x refl le);
     ticks = λ {A} {m1} {m2} h v w x le. same_tracks I bound g.spot (m2 (record { state = w.state; left = w.left; count = tick2 w.count })) (λ i k c. refl) (h v (record { state = w.state; left = w.left; count = tick2 w.count }) x (omega (arith, up w.count)));
     calls = λ u x v ps used e fair. absurd (none_found e (g.alone u x used));
   }
@@ -249,7 +249,7 @@ module _ (g : Lowering) (b : ℕ) (tick2 : ℕ → ℕ) (up : (n : ℕ) → n �
   pub fine : (p : Place) → Good S (both p)
   fine p = record { places = refl; actuals = tt }
 
-  turns_track : (f : Frames) → Good S f → (y : Text) → g.K f.unit y → (lp : Loop) (body1 : ℕ → World → Out ⊤) (body2 : World → Out ⊤) → TR ⊤ body1 body2 → (m r : ℕ) → r ≤ m → r ≤ b → (v : Content) (w : World) (x : ℕ) → x ≤ 32 * w.count → Tracks Both most_of g.spot r v w.state x (λ j. item_turns j.turns (S1 j.fuel) (one f) y lp (body1 j.fuel)) (item_turns m S2 (two f) y lp body2 w)
+  turns_track : (f : Frames) → Good S f → (y : Text) → g.K f.unit y → (lp : LoopParameters) (body1 : ℕ → World → Out ⊤) (body2 : World → Out ⊤) → TR ⊤ body1 body2 → (m r : ℕ) → r ≤ m → r ≤ b → (v : Content) (w : World) (x : ℕ) → x ≤ 32 * w.count → Tracks Both most_of g.spot r v w.state x (λ j. item_turns j.turns (S1 j.fuel) (one f) y lp (body1 j.fuel)) (item_turns m S2 (two f) y lp body2 w)
   turns_track f ok y used lp body1 body2 h zero r lr le v w x small = record { by = (0, omega arith, omega arith, λ j c lt. go j.turns j.most j.is2 c lt j.fuel) }
     where
       go : (n q : ℕ) → q ≤ n → (c : ℕ) → 0 < q → (fu : ℕ) → item_turns n (S1 fu) (one f) y lp (body1 fu) (near g.spot v w.state 0 c) ≡ Halts GoesOn (near g.spot v w.state 0 (c + 0))
@@ -271,7 +271,7 @@ module _ (g : Lowering) (b : ℕ) (tick2 : ℕ → ℕ) (up : (n : ℕ) → n �
       chosen true w3 y3 ok3 h1 = h1
       chosen false w3 y3 ok3 h1 = record { by = (0, omega arith, λ j k c lt. ap (λ w5. Gives tt w5) (still_near g.spot v w3.state k c)) }
 
-  many_track : (f : Frames) → Good S f → (y : Text) → g.K f.unit y → (lp : Loop) (body1 : ℕ → World → Out ⊤) (body2 : World → Out ⊤) → TR ⊤ body1 body2 → TR ⊤ (λ i. item_turns i (S1 i) (one f) y lp (body1 i)) (item_turns b S2 (two f) y lp body2)
+  many_track : (f : Frames) → Good S f → (y : Text) → g.K f.unit y → (lp : LoopParameters) (body1 : ℕ → World → Out ⊤) (body2 : World → Out ⊤) → TR ⊤ body1 body2 → TR ⊤ (λ i. item_turns i (S1 i) (one f) y lp (body1 i)) (item_turns b S2 (two f) y lp body2)
   many_track f ok y used lp body1 body2 h v w x small =
       fold g.spot (λ n fu. item_turns n (S1 fu) (one f) y lp (body1 fu)) (item_turns b S2 (two f) y lp body2 w) (turns_track f ok y used lp body1 body2 h b b (omega arith) (omega arith) v w x small)
 
@@ -281,10 +281,10 @@ module _ (g : Lowering) (b : ℕ) (tick2 : ℕ → ℕ) (up : (n : ℕ) → n �
   pub track_asks : (p : Place) (e : Formula) → Names (g.K g.unit) e → TR Bool (λ i. asks (S1 i) (one (both p)) e) (asks S2 (two (both p)) e)
   track_asks p e used = asks_hold ℕ S (T ℕ same_fuel g.spot b) hold (both p) (fine p) e used
 
-  pub track_start : (p : Place) (y : Text) (a z d : Par) → g.K g.unit y → NameOfPar (g.K g.unit) a → NameOfPar (g.K g.unit) z → NameOfPar (g.K g.unit) d → TR Loop (λ i. loop_start (S1 i) (one (both p)) y a z d) (loop_start S2 (two (both p)) y a z d)
+  pub track_start : (p : Place) (y : Text) (a z d : Par) → g.K g.unit y → NameOfPar (g.K g.unit) a → NameOfPar (g.K g.unit) z → NameOfPar (g.K g.unit) d → TR LoopParameters (λ i. loop_start (S1 i) (one (both p)) y a z d) (loop_start S2 (two (both p)) y a z d)
   track_start p y a z d used ua uz ud = start_holds ℕ S (T ℕ same_fuel g.spot b) hold (both p) (fine p) y a z d used ua uz ud
 
-  pub track_turn : (p : Place) (y : Text) → g.K g.unit y → (k : Loop) → TR Bool (λ i. loop_turn (S1 i) (one (both p)) y k) (loop_turn S2 (two (both p)) y k)
+  pub track_turn : (p : Place) (y : Text) → g.K g.unit y → (k : LoopParameters) → TR Bool (λ i. loop_turn (S1 i) (one (both p)) y k) (loop_turn S2 (two (both p)) y k)
   track_turn p y used k = turn_holds ℕ S (T ℕ same_fuel g.spot b) hold (both p) (fine p) y used k
 
   pub track_does : (p : Place) (a : Act) → NamesOfAct (g.K g.unit) a → TR Exit (λ i. does (S1 i) (one (both p)) a) (does S2 (two (both p)) a)

@@ -2,8 +2,8 @@
 use Rattle.std.proofs.Common.{◌≡◌, ℕ, List, [], ◌∷◌, ◌++◌, Bool, true, false, refl, sym, ap, ◌∙◌}
 use mathlib.Core.Path.{fun_ext}
 use Rattle.ground.specs.declared.place.Place.{Place}
-use Rattle.f66_tree.specs.Forms.{Text, Line}
-use Rattle.rat_tree.specs.Commands.{Commands}
+use Rattle.f66_tree.specs.Syntax.{Text, Line}
+use Rattle.rat_tree.specs.Syntax.{Commands}
 use Rattle.rat_lower.specs.Code.{all_code, declared_if, ends_so, stop_unless, have_switch, unit_code}
 use Rattle.rat_lower.specs.Emitted.{Making, labels_past, Adds, AllEmitted}
 

@@ -3,12 +3,12 @@ use Rattle.std.proofs.Common.{◌≡◌, ℕ, zero, suc, ◌+◌, ◌≤◌, ◌
 use Rattle.std.specs.Prelude.{⊤}
 use Rattle.ground.specs.declared.place.Place.{Place}
 use Rattle.ground.specs.Content.{Content, Nothing}
-use Rattle.f66_tree.specs.Forms.{Text, Stops, Line, bare}
+use Rattle.f66_tree.specs.Syntax.{Text, Stop, Line, unlabelled_line}
 use Rattle.f66_tree.specs.World.{State, World, Done, Finish, Ended, GoesOn, Lost, Out, Gives, Halts, Shown, shown}
 use Rattle.f66_tree.specs.Units.{is_main, Spot}
 use Rattle.f66_tree.specs.Execution.{runnable, no_loops, past_end, fetch, exec}
 use Rattle.f66_tree.specs.Agreement.{Same}
-use Rattle.rat_tree.specs.Commands.{Commands}
+use Rattle.rat_tree.specs.Syntax.{Commands}
 use Rattle.rat_tree.specs.Meaning.{Went, Jumps, Backs, Leave, Again, Flow, all_meaning, ended}
 use Rattle.rat_tree.specs.Uses.{NamesOfCommands}
 use Rattle.rat_lower.specs.Code.{have_switch, all_code, stop_unless}
@@ -40,7 +40,7 @@ module _ (g : Lowering) (b : ℕ) (s0 : State) where
   stops true p pr s (suc n) k c lt = (1 + k, c, ap (λ z. past_end z (near g.spot pr.spare s (1 + k) c)) main_too)
   stops false p pr s (suc n) k c lt =
       let e : 1 + k ≡ suc k = omega arith in
-      (k, c + 1, ap (λ z. Run g (bare p (Stops None) ∷ []) pr (suc n) (at s z c)) e)
+      (k, c + 1, ap (λ z. Run g (unlabelled_line p (Stop None) ∷ []) pr (suc n) (at s z c)) e)
 
   -- a run that has come to an end shows it
   same_end : (f : Finish) (v : Content) (w : World) (work k c : ℕ) (o : Out ⊤) → o ≡ Halts (Ended f) (near g.spot v w.state k c) → Same (record { records = w.state.tape.written; end = Ended f; work = work }) (shown o)

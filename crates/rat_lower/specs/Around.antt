@@ -1,7 +1,7 @@
 -- The loops around a statement, and what stands before and behind each turn of one.
 use Rattle.std.specs.Prelude.{ℕ, List, [], ◌∷◌, Option, Some, None}
 use Rattle.ground.specs.declared.place.Place.{Place}
-use Rattle.f66_tree.specs.Forms.{Formula, Act, Line}
+use Rattle.f66_tree.specs.Syntax.{Formula, Act, Line}
 use Rattle.f66_tree.specs.Views.{formula_of}
 use Rattle.rat_tree.specs.Views.{formula_if_any, act_if_any}
 use Rattle.rat_lower.specs.declared.around.Around.{Around}
@@ -27,10 +27,10 @@ step_of (While e) = None
 step_of (For e step) = act_if_any step.now
 
 -- the label of a statement that is not plain stands before it
-abbrev pub with_label : Option ℕ → Place → List Line → List Line
-with_label None p next = next
-with_label (Some l) p next = here l p ∷ next
+abbrev pub behind_label : Option ℕ → Place → List Line → List Line
+behind_label None p next = next
+behind_label (Some l) p next = here l p ∷ next
 
-abbrev pub with_mark : Option ℕ → Place → RatKind → List Line → List Line
-with_mark l p (Plain a) next = next
-with_mark l p _ next = with_label l p next
+abbrev pub behind_mark : Option ℕ → Place → RatKind → List Line → List Line
+behind_mark l p (Plain a) next = next
+behind_mark l p _ next = behind_label l p next

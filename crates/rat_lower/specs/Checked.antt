@@ -1,10 +1,10 @@
 -- What is checked of a main unit before it becomes one of FORTRAN.
 use Rattle.std.specs.Prelude.{◌≡◌, ◌≢◌, ℕ, suc, ◌+◌, ◌≤◌, ◌<◌, Bool, true, false, nat_eq, ◌||◌, List, [], ◌∷◌, Option, Some, None, ⊤}
-use Rattle.f66_tree.specs.Forms.{Text, Declared, Area, Act, Goes, Selects, Signs, Chooses, Loops, Types, Dimensions, Commons}
+use Rattle.f66_tree.specs.Syntax.{Text, Declared, Area, Act, Goto, Computed, Sign, When, Loop, Typed, Dimension, Common}
 use Rattle.f66_tree.specs.Units.{Note}
 use Rattle.f66_tree.specs.Uses.{NamesOfPars}
 use Rattle.f66_tree.specs.Execution.{has_label}
-use Rattle.rat_tree.specs.Commands.{Command, Empty, Together, When, Either, Whilst, Through, Repeats, Until, Counts, Switches, Leaves, Turns, GivesBack, Plainly, Marked, Commands, NoCommand, AndCommand, Clauses, NoClause, AndClause}
+use Rattle.rat_tree.specs.Syntax.{Command, Empty, Block, If, IfElse, While, For, Repeat, RepeatUntil, Do, Switch, Break, Next, Return, Plain, Labelled, Commands, NoCommand, AndCommand, Clauses, NoClause, AndClause}
 use Rattle.rat_tree.specs.Meaning.{stands}
 use Rattle.rat_tree.specs.Uses.{NamesOfCommands}
 use Rattle.rat_lower.specs.Code.{have_switch}
@@ -14,8 +14,8 @@ use Rattle.rat_lower.specs.OneUnit.{notes_of_unit}
 
 -- a plain statement: neither a logical IF nor a DO
 abbrev pub IsPlain : Act → Type 0
-IsPlain (Chooses e a) = ⊥
-IsPlain (Loops l x a b c) = ⊥
+IsPlain (When e a) = ⊥
+IsPlain (Loop l x a b c) = ⊥
 IsPlain _ = ⊤
 
 abbrev pub IsPlainIfAny : Option Act → Type 0
@@ -30,20 +30,20 @@ IsNothing (Some e) = ⊥
 abbrev mutual
   pub IsBuilt : Command → Type 0
   IsBuilt (Empty p) = ⊤
-  IsBuilt (Together p ss) = AreBuilt ss
-  IsBuilt (When p e s) = IsBuilt s
-  IsBuilt (Either p e s t) = IsBuilt s × IsBuilt t
-  IsBuilt (Whilst p e s) = IsBuilt s
-  IsBuilt (Through p first e step s) = IsPlainIfAny first × IsPlainIfAny step × IsBuilt s
-  IsBuilt (Repeats p s) = IsBuilt s
-  IsBuilt (Until p s e q) = IsBuilt s
-  IsBuilt (Counts p x a b c s) = IsBuilt s
-  IsBuilt (Switches p e cs) = ClausesBuilt cs
-  IsBuilt (Leaves p n) = ⊤
-  IsBuilt (Turns p n) = ⊤
-  IsBuilt (GivesBack p e) = IsNothing e
-  IsBuilt (Plainly l p a) = IsPlain a
-  IsBuilt (Marked l p s) = IsBuilt s
+  IsBuilt (Block p ss) = AreBuilt ss
+  IsBuilt (If p e s) = IsBuilt s
+  IsBuilt (IfElse p e s t) = IsBuilt s × IsBuilt t
+  IsBuilt (While p e s) = IsBuilt s
+  IsBuilt (For p first e step s) = IsPlainIfAny first × IsPlainIfAny step × IsBuilt s
+  IsBuilt (Repeat p s) = IsBuilt s
+  IsBuilt (RepeatUntil p s e q) = IsBuilt s
+  IsBuilt (Do p x a b c s) = IsBuilt s
+  IsBuilt (Switch p e cs) = ClausesBuilt cs
+  IsBuilt (Break p n) = ⊤
+  IsBuilt (Next p n) = ⊤
+  IsBuilt (Return p e) = IsNothing e
+  IsBuilt (Plain l p a) = IsPlain a
+  IsBuilt (Labelled l p s) = IsBuilt s
 
   pub AreBuilt : Commands → Type 0
   AreBuilt NoCommand = ⊤
@@ -59,20 +59,20 @@ abbrev mutual
 abbrev mutual
   pub Fits : ℕ → Command → Type 0
   Fits d (Empty p) = ⊤
-  Fits d (Together p ss) = AllFit d ss
-  Fits d (When p e s) = Fits d s
-  Fits d (Either p e s t) = Fits d s × Fits d t
-  Fits d (Whilst p e s) = Fits (suc d) s
-  Fits d (Through p first e step s) = Fits (suc d) s
-  Fits d (Repeats p s) = Fits (suc d) s
-  Fits d (Until p s e q) = Fits (suc d) s
-  Fits d (Counts p x a b c s) = Fits (suc d) s
-  Fits d (Switches p e cs) = ClausesFit d cs
-  Fits d (Leaves p n) = (1 ≤ n) × (n ≤ d)
-  Fits d (Turns p n) = (1 ≤ n) × (n ≤ d)
-  Fits d (GivesBack p e) = ⊤
-  Fits d (Plainly l p a) = ⊤
-  Fits d (Marked l p s) = Fits d s
+  Fits d (Block p ss) = AllFit d ss
+  Fits d (If p e s) = Fits d s
+  Fits d (IfElse p e s t) = Fits d s × Fits d t
+  Fits d (While p e s) = Fits (suc d) s
+  Fits d (For p first e step s) = Fits (suc d) s
+  Fits d (Repeat p s) = Fits (suc d) s
+  Fits d (RepeatUntil p s e q) = Fits (suc d) s
+  Fits d (Do p x a b c s) = Fits (suc d) s
+  Fits d (Switch p e cs) = ClausesFit d cs
+  Fits d (Break p n) = (1 ≤ n) × (n ≤ d)
+  Fits d (Next p n) = (1 ≤ n) × (n ≤ d)
+  Fits d (Return p e) = ⊤
+  Fits d (Plain l p a) = ⊤
+  Fits d (Labelled l p s) = Fits d s
 
   pub AllFit : ℕ → Commands → Type 0
   AllFit d NoCommand = ⊤
@@ -95,9 +95,9 @@ AllStandIn (l ∷ ls) lists = (stands_in l lists ≡ true) × AllStandIn ls list
 
 -- the labels to which a plain statement may go stand directly in these lists
 abbrev pub ActLands : List Commands → Act → Type 0
-ActLands around (Goes l) = stands_in l around ≡ true
-ActLands around (Selects ls x) = AllStandIn ls around
-ActLands around (Signs e n m k) = (stands_in n around ≡ true) × (stands_in m around ≡ true) × (stands_in k around ≡ true)
+ActLands around (Goto l) = stands_in l around ≡ true
+ActLands around (Computed ls x) = AllStandIn ls around
+ActLands around (Sign e n m k) = (stands_in n around ≡ true) × (stands_in m around ≡ true) × (stands_in k around ≡ true)
 ActLands around _ = ⊤
 
 abbrev pub ActLandsIfAny : List Commands → Option Act → Type 0
@@ -108,20 +108,20 @@ ActLandsIfAny around (Some a) = ActLands around a
 abbrev mutual
   pub Lands : List Commands → Command → Type 0
   Lands around (Empty p) = ⊤
-  Lands around (Together p ss) = AllLand (ss ∷ around) ss
-  Lands around (When p e s) = Lands around s
-  Lands around (Either p e s t) = Lands around s × Lands around t
-  Lands around (Whilst p e s) = Lands around s
-  Lands around (Through p first e step s) = ActLandsIfAny around first × ActLandsIfAny around step × Lands around s
-  Lands around (Repeats p s) = Lands around s
-  Lands around (Until p s e q) = Lands around s
-  Lands around (Counts p x a b c s) = Lands around s
-  Lands around (Switches p e cs) = ClausesLand around cs
-  Lands around (Leaves p n) = ⊤
-  Lands around (Turns p n) = ⊤
-  Lands around (GivesBack p e) = ⊤
-  Lands around (Plainly l p a) = ActLands around a
-  Lands around (Marked l p s) = Lands around s
+  Lands around (Block p ss) = AllLand (ss ∷ around) ss
+  Lands around (If p e s) = Lands around s
+  Lands around (IfElse p e s t) = Lands around s × Lands around t
+  Lands around (While p e s) = Lands around s
+  Lands around (For p first e step s) = ActLandsIfAny around first × ActLandsIfAny around step × Lands around s
+  Lands around (Repeat p s) = Lands around s
+  Lands around (RepeatUntil p s e q) = Lands around s
+  Lands around (Do p x a b c s) = Lands around s
+  Lands around (Switch p e cs) = ClausesLand around cs
+  Lands around (Break p n) = ⊤
+  Lands around (Next p n) = ⊤
+  Lands around (Return p e) = ⊤
+  Lands around (Plain l p a) = ActLands around a
+  Lands around (Labelled l p s) = Lands around s
 
   pub AllLand : List Commands → Commands → Type 0
   AllLand around NoCommand = ⊤
@@ -141,20 +141,20 @@ bit false = 0
 abbrev mutual
   pub given : ℕ → Command → ℕ
   given l (Empty p) = 0
-  given l (Together p ss) = all_given l ss
-  given l (When p e s) = given l s
-  given l (Either p e s t) = given l s + given l t
-  given l (Whilst p e s) = given l s
-  given l (Through p first e step s) = given l s
-  given l (Repeats p s) = given l s
-  given l (Until p s e q) = given l s
-  given l (Counts p x a b c s) = given l s
-  given l (Switches p e cs) = clause_given l cs
-  given l (Leaves p k) = 0
-  given l (Turns p k) = 0
-  given l (GivesBack p e) = 0
-  given l (Plainly m p a) = bit (has_label l m)
-  given l (Marked m p s) = bit (nat_eq m l) + given l s
+  given l (Block p ss) = all_given l ss
+  given l (If p e s) = given l s
+  given l (IfElse p e s t) = given l s + given l t
+  given l (While p e s) = given l s
+  given l (For p first e step s) = given l s
+  given l (Repeat p s) = given l s
+  given l (RepeatUntil p s e q) = given l s
+  given l (Do p x a b c s) = given l s
+  given l (Switch p e cs) = clause_given l cs
+  given l (Break p k) = 0
+  given l (Next p k) = 0
+  given l (Return p e) = 0
+  given l (Plain m p a) = bit (has_label l m)
+  given l (Labelled m p s) = bit (nat_eq m l) + given l s
 
   pub all_given : ℕ → Commands → ℕ
   all_given l NoCommand = 0
@@ -176,9 +176,9 @@ NamesOfAreas K [] = ⊤
 NamesOfAreas K (a ∷ areas) = NamesOfSizes K a.list × NamesOfAreas K areas
 
 abbrev pub NamesOfNote : (Text → Type 0) → Act → Type 0
-NamesOfNote K (Types t ds) = NamesOfSizes K ds
-NamesOfNote K (Dimensions ds) = NamesOfSizes K ds
-NamesOfNote K (Commons areas) = NamesOfAreas K areas
+NamesOfNote K (Typed t ds) = NamesOfSizes K ds
+NamesOfNote K (Dimension ds) = NamesOfSizes K ds
+NamesOfNote K (Common areas) = NamesOfAreas K areas
 NamesOfNote K _ = ⊤
 
 abbrev pub NamesOfNotes : (Text → Type 0) → List Note → Type 0

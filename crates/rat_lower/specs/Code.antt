@@ -3,10 +3,11 @@ use Rattle.std.specs.Prelude.{ℕ, zero, suc, ◌+◌, Bool, true, false, ◌||�
 use Rattle.ground.specs.declared.place.Place.{Place}
 use Rattle.f66_tree.specs.declared.declaration.TypeWord.TheVariants.{Integer}
 use Rattle.f66_tree.specs.declared.expression.Operator.TheVariants.{Eq}
-use Rattle.f66_tree.specs.Forms.{Text, Formula, Variable, Grouped, Negated, Joined, Formulas, Nought, Also, MainUnit, Act, Assigns, Goes, Selects, Signs, Chooses, Loops, Passes, Stops, Returns, Types, Line, bare, marked}
+use Rattle.f66_tree.specs.Syntax.{Text, Formula, Ref, Group, Not, Pair, Formulas, NoFormula, AndFormula, MainUnit, Act, Assign, Goto, Computed, Sign, When, Loop, Continue, Stop, Return, Typed, Line, unlabelled_line, labelled_line}
 use Rattle.f66_tree.specs.Units.{is_note, name_of}
-use Rattle.rat_tree.specs.Commands.{Command, Empty, Together, When, Either, Whilst, Through, Repeats, Until, Counts, Switches, Leaves, Turns, GivesBack, Plainly, Marked, Commands, NoCommand, AndCommand, Clauses, NoClause, AndClause}
+use Rattle.rat_tree.specs.Syntax.{Command, Empty, Block, If, IfElse, While, For, Repeat, RepeatUntil, Do, Switch, Break, Next, Plain, Labelled, Commands, NoCommand, AndCommand, Clauses, NoClause, AndClause}
 use Rattle.rat_tree.specs.Meaning.{pred_of}
+use Rattle.rat_tree.specs.Syntax as ratfor_tree
 
 -- the loops around a statement, from the inside out: the label behind each, and the label of its next turn
 abbrev pub Rings : Type 0
@@ -23,14 +24,14 @@ label_again (l ∷ ls) zero = l.1
 label_again (l ∷ ls) (suc k) = label_again ls k
 
 abbrev pub jump : Place → ℕ → Line
-jump p l = bare p (Goes l)
+jump p l = unlabelled_line p (Goto l)
 
 -- IF(.NOT.(e))GO TO l
 abbrev pub unless : Place → Formula → ℕ → Line
-unless p e l = bare p (Chooses (Negated (Grouped e)) (Goes l))
+unless p e l = unlabelled_line p (When (Not (Group e)) (Goto l))
 
 abbrev pub here : ℕ → Place → Line
-here l p = marked l p Passes
+here l p = labelled_line l p Continue
 
 -- a missing condition is true, and a missing statement does nothing
 abbrev pub with_test : Place → Option Formula → ℕ → List Line → List Line
@@ -39,31 +40,31 @@ with_test p (Some e) l next = unless p e l ∷ next
 
 abbrev pub with_act : Place → Option Act → List Line → List Line
 with_act p None next = next
-with_act p (Some a) next = bare p a ∷ next
+with_act p (Some a) next = unlabelled_line p a ∷ next
 
 -- a return, with or without the value of a function
 abbrev pub with_return : Place → Option Formula → List Line → List Line
-with_return p None next = bare p Returns ∷ next
-with_return p (Some e) next = bare p (Assigns (Variable (name_of MainUnit)) e) ∷ bare p Returns ∷ next
+with_return p None next = unlabelled_line p Return ∷ next
+with_return p (Some e) next = unlabelled_line p (Assign (Ref (name_of MainUnit)) e) ∷ unlabelled_line p Return ∷ next
 
 -- how many labels are made for a command
 abbrev mutual
   pub labels : Command → ℕ
   labels (Empty p) = 0
-  labels (Together p ss) = all_labels ss
-  labels (When p e s) = labels s + 1
-  labels (Either p e s t) = labels s + labels t + 2
-  labels (Whilst p e s) = labels s + 3
-  labels (Through p first e step s) = labels s + 3
-  labels (Repeats p s) = labels s + 3
-  labels (Until p s e q) = labels s + 3
-  labels (Counts p x a b c s) = labels s + 2
-  labels (Switches p e cs) = clause_labels cs + 1
-  labels (Leaves p n) = 0
-  labels (Turns p n) = 0
-  labels (GivesBack p e) = 0
-  labels (Plainly l p a) = 0
-  labels (Marked l p s) = labels s
+  labels (Block p ss) = all_labels ss
+  labels (If p e s) = labels s + 1
+  labels (IfElse p e s t) = labels s + labels t + 2
+  labels (While p e s) = labels s + 3
+  labels (For p first e step s) = labels s + 3
+  labels (Repeat p s) = labels s + 3
+  labels (RepeatUntil p s e q) = labels s + 3
+  labels (Do p x a b c s) = labels s + 2
+  labels (Switch p e cs) = clause_labels cs + 1
+  labels (Break p n) = 0
+  labels (Next p n) = 0
+  labels (ratfor_tree.Return p e) = 0
+  labels (Plain l p a) = 0
+  labels (Labelled l p s) = labels s
 
   pub all_labels : Commands → ℕ
   all_labels NoCommand = 0
@@ -75,12 +76,12 @@ abbrev mutual
 
 -- whether the spare name holds the value of a case expression
 abbrev pub case_test : Text → Formula → Formula
-case_test spare e = Joined Eq (Variable spare) (Grouped e)
+case_test spare e = Pair Eq (Ref spare) (Group e)
 
 -- the case expressions of a clause, in their order, each of which leads to the clause's label
 abbrev pub each_test : Text → Place → Formulas → ℕ → List Line → List Line
-each_test spare p Nought l next = next
-each_test spare p (Also e es) l next = bare p (Chooses (case_test spare e) (Goes l)) ∷ each_test spare p es l next
+each_test spare p NoFormula l next = next
+each_test spare p (AndFormula e es) l next = unlabelled_line p (When (case_test spare e) (Goto l)) ∷ each_test spare p es l next
 
 -- where made n is the n-th of the labels that are made, and the spare name holds the values of switches
 module _ (made : ℕ → ℕ) (spare : Text) where
@@ -97,27 +98,27 @@ module _ (made : ℕ → ℕ) (spare : Text) where
   abbrev mutual
     pub code_of : Command → ℕ → Rings → List Line → List Line
     code_of (Empty p) n ls next = next
-    code_of (Together p ss) n ls next = all_code ss n ls next
-    code_of (When p e s) n ls next = unless p e (made n) ∷ code_of s (n + 1) ls (here (made n) p ∷ next)
-    code_of (Either p e s t) n ls next =
+    code_of (Block p ss) n ls next = all_code ss n ls next
+    code_of (If p e s) n ls next = unless p e (made n) ∷ code_of s (n + 1) ls (here (made n) p ∷ next)
+    code_of (IfElse p e s t) n ls next =
         unless p e (made n) ∷ code_of s (n + 2) ls (jump p (made (n + 1)) ∷ here (made n) p ∷ code_of t (n + 2 + labels s) ls (here (made (n + 1)) p ∷ next))
-    code_of (Whilst p e s) n ls next =
+    code_of (While p e s) n ls next =
         here (made n) p ∷ with_test p (Some e) (made (n + 2)) (code_of s (n + 3) ((made (n + 2), made (n + 1)) ∷ ls) (here (made (n + 1)) p ∷ jump p (made n) ∷ here (made (n + 2)) p ∷ next))
-    code_of (Through p first e step s) n ls next =
+    code_of (For p first e step s) n ls next =
         with_act p first (here (made n) p ∷ with_test p e (made (n + 2)) (code_of s (n + 3) ((made (n + 2), made (n + 1)) ∷ ls) (here (made (n + 1)) p ∷ with_act p step (jump p (made n) ∷ here (made (n + 2)) p ∷ next))))
-    code_of (Repeats p s) n ls next =
+    code_of (Repeat p s) n ls next =
         here (made n) p ∷ code_of s (n + 3) ((made (n + 2), made (n + 1)) ∷ ls) (here (made (n + 1)) p ∷ jump p (made n) ∷ here (made (n + 2)) p ∷ next)
-    code_of (Until p s e q) n ls next =
+    code_of (RepeatUntil p s e q) n ls next =
         here (made n) p ∷ code_of s (n + 3) ((made (n + 2), made (n + 1)) ∷ ls) (here (made (n + 1)) p ∷ unless q e (made n) ∷ here (made (n + 2)) p ∷ next)
-    code_of (Counts p x a b c s) n ls next =
-        bare p (Loops (made n) x a b c) ∷ code_of s (n + 2) ((made (n + 1), made n) ∷ ls) (here (made n) p ∷ here (made (n + 1)) p ∷ next)
-    code_of (Switches p e cs) n ls next =
-        bare p (Assigns (Variable spare) e) ∷ tests cs (n + 1) (jump p (default_label cs (n + 1) (made n)) ∷ bodies cs (n + 1) (made n) ls (here (made n) p ∷ next))
-    code_of (Leaves p k) n ls next = jump p (label_behind ls (pred_of k)) ∷ next
-    code_of (Turns p k) n ls next = jump p (label_again ls (pred_of k)) ∷ next
-    code_of (GivesBack p e) n ls next = with_return p e next
-    code_of (Plainly l p a) n ls next = record { label = l; place = p; act = a } ∷ next
-    code_of (Marked l p s) n ls next = here l p ∷ code_of s n ls next
+    code_of (Do p x a b c s) n ls next =
+        unlabelled_line p (Loop (made n) x a b c) ∷ code_of s (n + 2) ((made (n + 1), made n) ∷ ls) (here (made n) p ∷ here (made (n + 1)) p ∷ next)
+    code_of (Switch p e cs) n ls next =
+        unlabelled_line p (Assign (Ref spare) e) ∷ tests cs (n + 1) (jump p (default_label cs (n + 1) (made n)) ∷ bodies cs (n + 1) (made n) ls (here (made n) p ∷ next))
+    code_of (Break p k) n ls next = jump p (label_behind ls (pred_of k)) ∷ next
+    code_of (Next p k) n ls next = jump p (label_again ls (pred_of k)) ∷ next
+    code_of (ratfor_tree.Return p e) n ls next = with_return p e next
+    code_of (Plain l p a) n ls next = record { label = l; place = p; act = a } ∷ next
+    code_of (Labelled l p s) n ls next = here l p ∷ code_of s n ls next
 
     pub all_code : Commands → ℕ → Rings → List Line → List Line
     all_code NoCommand n ls next = next
@@ -132,16 +133,16 @@ module _ (made : ℕ → ℕ) (spare : Text) where
 -- whether a switch stands in it
 abbrev mutual
   pub has_switch : Command → Bool
-  has_switch (Together p ss) = have_switch ss
-  has_switch (When p e s) = has_switch s
-  has_switch (Either p e s t) = has_switch s || has_switch t
-  has_switch (Whilst p e s) = has_switch s
-  has_switch (Through p first e step s) = has_switch s
-  has_switch (Repeats p s) = has_switch s
-  has_switch (Until p s e q) = has_switch s
-  has_switch (Counts p x a b c s) = has_switch s
-  has_switch (Switches p e cs) = true
-  has_switch (Marked l p s) = has_switch s
+  has_switch (Block p ss) = have_switch ss
+  has_switch (If p e s) = has_switch s
+  has_switch (IfElse p e s t) = has_switch s || has_switch t
+  has_switch (While p e s) = has_switch s
+  has_switch (For p first e step s) = has_switch s
+  has_switch (Repeat p s) = has_switch s
+  has_switch (RepeatUntil p s e q) = has_switch s
+  has_switch (Do p x a b c s) = has_switch s
+  has_switch (Switch p e cs) = true
+  has_switch (Labelled l p s) = has_switch s
   has_switch _ = false
 
   pub have_switch : Commands → Bool
@@ -150,11 +151,11 @@ abbrev mutual
 
 -- a statement after which the next one is not begun
 abbrev pub is_transfer : Act → Bool
-is_transfer (Goes l) = true
-is_transfer (Selects ls x) = true
-is_transfer (Signs e n m k) = true
-is_transfer (Stops n) = true
-is_transfer Returns = true
+is_transfer (Goto l) = true
+is_transfer (Computed ls x) = true
+is_transfer (Sign e n m k) = true
+is_transfer (Stop n) = true
+is_transfer Return = true
 is_transfer _ = false
 
 -- whether the last statement that is executed is one, where other says so of those before
@@ -164,11 +165,11 @@ ends_so other (s ∷ rest) = if is_note s.act then ends_so other rest else ends_
 
 abbrev pub stop_unless : Bool → Place → List Line
 stop_unless true p = []
-stop_unless false p = bare p (Stops None) ∷ []
+stop_unless false p = unlabelled_line p (Stop None) ∷ []
 
 -- INTEGER spare
 abbrev pub declared_if : Bool → Place → Text → List Line → List Line
-declared_if true p spare code = bare p (Types Integer (record { name = spare; sizes = [] } ∷ [])) ∷ code
+declared_if true p spare code = unlabelled_line p (Typed Integer (record { name = spare; sizes = [] } ∷ [])) ∷ code
 declared_if false p spare code = code
 
 -- A main unit: the spare name is declared where a switch uses it, at the unit's place, and a STOP stands at the end of the

@@ -7,8 +7,8 @@ use Rattle.f66_names.specs.Declaring.{declared_in}
 use Rattle.f66_names.specs.Uses.{uses_in}
 use Rattle.rat_check.specs.Parts.{unit_parts}
 use Rattle.rat_check.specs.Said.{said_in}
-use Rattle.f66_tree.specs.Forms.{Text, Act, Line}
-use Rattle.rat_tree.specs.Commands.{Command, Commands, Clauses}
+use Rattle.f66_tree.specs.Syntax.{Text, Act, Line}
+use Rattle.rat_tree.specs.Syntax.{Command, Commands, Clauses}
 use Rattle.rat_lower.specs.Code.{Rings, labels, all_labels, clause_labels, code_of, all_code, tests, bodies}
 
 -- the labels of the source, how many labels were made, and the name that holds the values of switches

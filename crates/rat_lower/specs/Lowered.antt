@@ -5,10 +5,10 @@ use Rattle.ground.specs.declared.fault.Fault.{Fault}
 use Rattle.ground.specs.declared.fault.FaultKind.{FaultKind}
 use Rattle.ground.specs.declared.fault.FaultKind.TheVariants.{Limit}
 use Rattle.rule_table.specs.First.{IsClean}
-use Rattle.f66_tree.specs.Forms.{Line}
+use Rattle.f66_tree.specs.Syntax.{Line}
 use Rattle.f66_flow.specs.FlowRules.{breaks_flow_at, header_breaks_flow}
 use Rattle.f66_flow.specs.declared.scope.Scope.TheVariants.{Whole}
-use Rattle.rat_tree.specs.Commands.{Commands, RatRoutine}
+use Rattle.rat_tree.specs.Syntax.{Commands, RatRoutine}
 use Rattle.rat_check.specs.Parts.{unit_parts}
 use Rattle.rat_check.specs.FirstFault.{or_else, unit_fault}
 use Rattle.rat_check.specs.Survey.{own_labels}

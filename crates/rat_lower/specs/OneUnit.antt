@@ -1,10 +1,10 @@
 -- What a program of one main unit means.
 use Rattle.std.specs.Prelude.{ℕ, if◌then◌else◌, List, [], ◌∷◌, Option, Some, None}
-use Rattle.f66_tree.specs.Forms.{Act}
+use Rattle.f66_tree.specs.Syntax.{Act}
 use Rattle.f66_tree.specs.World.{Record, Shown}
 use Rattle.f66_tree.specs.Units.{is_note, Note}
 use Rattle.f66_tree.specs.OneUnit.{one_unit}
-use Rattle.rat_tree.specs.Commands.{Command, Empty, Together, When, Either, Whilst, Through, Repeats, Until, Counts, Switches, Leaves, Turns, GivesBack, Plainly, Marked, Commands, NoCommand, AndCommand, Clauses, NoClause, AndClause}
+use Rattle.rat_tree.specs.Syntax.{Command, Empty, Block, If, IfElse, While, For, Repeat, RepeatUntil, Do, Switch, Break, Next, Return, Plain, Labelled, Commands, NoCommand, AndCommand, Clauses, NoClause, AndClause}
 use Rattle.rat_tree.specs.Meaning.{Ours, ratfor}
 
 -- a statement, if it is one that is not executed
@@ -19,20 +19,20 @@ note_if_any (Some a) rest = note_then None a rest
 abbrev mutual
   pub notes_in : Command → List Note → List Note
   notes_in (Empty p) rest = rest
-  notes_in (Together p ss) rest = all_notes ss rest
-  notes_in (When p e s) rest = notes_in s rest
-  notes_in (Either p e s t) rest = notes_in s (notes_in t rest)
-  notes_in (Whilst p e s) rest = notes_in s rest
-  notes_in (Through p first e step s) rest = note_if_any first (notes_in s (note_if_any step rest))
-  notes_in (Repeats p s) rest = notes_in s rest
-  notes_in (Until p s e q) rest = notes_in s rest
-  notes_in (Counts p x a b c s) rest = notes_in s rest
-  notes_in (Switches p e cs) rest = clause_notes cs rest
-  notes_in (Leaves p k) rest = rest
-  notes_in (Turns p k) rest = rest
-  notes_in (GivesBack p e) rest = rest
-  notes_in (Plainly l p a) rest = note_then l a rest
-  notes_in (Marked l p s) rest = notes_in s rest
+  notes_in (Block p ss) rest = all_notes ss rest
+  notes_in (If p e s) rest = notes_in s rest
+  notes_in (IfElse p e s t) rest = notes_in s (notes_in t rest)
+  notes_in (While p e s) rest = notes_in s rest
+  notes_in (For p first e step s) rest = note_if_any first (notes_in s (note_if_any step rest))
+  notes_in (Repeat p s) rest = notes_in s rest
+  notes_in (RepeatUntil p s e q) rest = notes_in s rest
+  notes_in (Do p x a b c s) rest = notes_in s rest
+  notes_in (Switch p e cs) rest = clause_notes cs rest
+  notes_in (Break p k) rest = rest
+  notes_in (Next p k) rest = rest
+  notes_in (Return p e) rest = rest
+  notes_in (Plain l p a) rest = note_then l a rest
+  notes_in (Labelled l p s) rest = notes_in s rest
 
   pub all_notes : Commands → List Note → List Note
   all_notes NoCommand rest = rest

@@ -2,13 +2,13 @@
 use Rattle.std.specs.Prelude.{◌≡◌, List}
 use Rattle.std.specs.List.{AllZip}
 use Rattle.f66_tree.specs.declared.unit.Unit.{Unit as AUnit}
-use Rattle.f66_tree.specs.Forms.{MainUnit}
+use Rattle.f66_tree.specs.Syntax.{MainUnit}
 use Rattle.f66_tree.specs.Views.{header_of, lines_of, routine_of}
 use Rattle.f66_tree.specs.World.{Record}
 use Rattle.f66_tree.specs.OneUnit.{executed}
 use Rattle.f66_tree.specs.Agreement.{Agrees}
 use Rattle.f66_check.specs.Answers.{IsSound}
-use Rattle.rat_tree.specs.Commands.{Commands, RatRoutine}
+use Rattle.rat_tree.specs.Syntax.{Commands, RatRoutine}
 use Rattle.rat_lower.specs.OneUnit.{means}
 use Rattle.rat_lower.specs.Lowered.{KeepsFlow}
 

@@ -1,7 +1,7 @@
 // The statements of FORTRAN that a statement of Ratfor becomes.
 ghost use Rattle.std.specs.Prelude.{◌≡◌, ◌+◌, ◌≤◌, List, length, None, IfOk, OnOk, Bool, true, false};
 ghost use Rattle.f66_tree.specs.Views.{formula_of, lines_of};
-ghost use Rattle.rat_tree.specs.Commands.{Switches, Through, Until, When, Either};
+ghost use Rattle.rat_tree.specs.Syntax.{Switch, For, RepeatUntil, If, IfElse};
 ghost use Rattle.rat_tree.specs.Views.{command, commands, clauses};
 ghost use Rattle.rat_lower.specs.Around.{rings_of, step_of, test_of};
 ghost use Rattle.rat_lower.specs.Code.{all_labels, clause_labels, default_label, labels};
@@ -86,7 +86,7 @@ fn emit_if(
     around: &Around,
 ) -> Result<(), Memory>
     requires { maker.old.made + length maker.old.taken + (labels (command body.now) + 1) ≤ 77000 }
-    ensures { OnOk result (Emitted (When place (formula_of e.now) (command body.now)) (rings_of around.now) maker.old maker.new (lines_of code.old.items) (lines_of code.new.items)) }
+    ensures { OnOk result (Emitted (If place (formula_of e.now) (command body.now)) (rings_of around.now) maker.old maker.new (lines_of code.old.items) (lines_of code.new.items)) }
 {
     let behind = maker.fresh_label()?;
     put_unless(maker.alloc(), code, place, e, behind)?;
@@ -106,7 +106,7 @@ fn emit_either(
     around: &Around,
 ) -> Result<(), Memory>
     requires { maker.old.made + length maker.old.taken + (labels (command body.now) + labels (command other.now) + 2) ≤ 77000 }
-    ensures { OnOk result (Emitted (Either place (formula_of e.now) (command body.now) (command other.now)) (rings_of around.now) maker.old maker.new (lines_of code.old.items) (lines_of code.new.items)) }
+    ensures { OnOk result (Emitted (IfElse place (formula_of e.now) (command body.now) (command other.now)) (rings_of around.now) maker.old maker.new (lines_of code.old.items) (lines_of code.new.items)) }
 {
     let otherwise = maker.fresh_label()?;
     let behind = maker.fresh_label()?;
@@ -130,7 +130,7 @@ fn emit_loop(
     around: &Around,
 ) -> Result<(), Memory>
     requires { maker.old.made + length maker.old.taken + (labels (command body.now) + 3) ≤ 77000 }
-    ensures { OnOk result (Emitted (Through place None (test_of turn.entry) (step_of turn.entry) (command body.now)) (rings_of around.now) maker.old maker.new (lines_of code.old.items) (lines_of code.new.items)) }
+    ensures { OnOk result (Emitted (For place None (test_of turn.entry) (step_of turn.entry) (command body.now)) (rings_of around.now) maker.old maker.new (lines_of code.old.items) (lines_of code.new.items)) }
 {
     let head = maker.fresh_label()?;
     let again = maker.fresh_label()?;
@@ -156,7 +156,7 @@ fn emit_until(
     around: &Around,
 ) -> Result<(), Memory>
     requires { maker.old.made + length maker.old.taken + (labels (command body.now) + 3) ≤ 77000 }
-    ensures { OnOk result (Emitted (Until place (command body.now) (formula_of e.now) at) (rings_of around.now) maker.old maker.new (lines_of code.old.items) (lines_of code.new.items)) }
+    ensures { OnOk result (Emitted (RepeatUntil place (command body.now) (formula_of e.now) at) (rings_of around.now) maker.old maker.new (lines_of code.old.items) (lines_of code.new.items)) }
 {
     let head = maker.fresh_label()?;
     let again = maker.fresh_label()?;
@@ -181,7 +181,7 @@ fn emit_switch(
     around: &Around,
 ) -> Result<(), Memory>
     requires { maker.old.made + length maker.old.taken + (clause_labels (clauses list.now) + 1) ≤ 77000 }
-    ensures { OnOk result (Emitted (Switches place (formula_of e.now) (clauses list.now)) (rings_of around.now) maker.old maker.new (lines_of code.old.items) (lines_of code.new.items)) }
+    ensures { OnOk result (Emitted (Switch place (formula_of e.now) (clauses list.now)) (rings_of around.now) maker.old maker.new (lines_of code.old.items) (lines_of code.new.items)) }
 {
     let behind = maker.fresh_label()?;
     let spare = maker.spare()?;

@@ -1,10 +1,10 @@
 // Single statements of FORTRAN, put behind others.
 ghost use Rattle.std.specs.Prelude.{◌≡◌, ◌∷◌, ◌++◌, IfOk, OnOk, None};
-ghost use Rattle.f66_tree.specs.Forms.{bare, Assigns, Chooses, Goes, Grouped, Loops, Variable};
+ghost use Rattle.f66_tree.specs.Syntax.{unlabelled_line, Assign, When, Goto, Group, Loop, Ref};
 ghost use Rattle.f66_tree.specs.Views.{formula_of, formulas_of, par_of, act_of, lines_of};
 ghost use Rattle.rat_tree.specs.Views.{act_if_any, formula_if_any};
 ghost use Rattle.rat_tree.specs.Meaning.{pred_of};
-ghost use Rattle.rat_lower.specs.Around.{rings_of, test_of, step_of, with_mark};
+ghost use Rattle.rat_lower.specs.Around.{rings_of, test_of, step_of, behind_mark};
 ghost use Rattle.rat_lower.specs.Code.{jump, label_again, label_behind, unless, here, with_test, with_act, with_return, case_test, each_test};
 ghost use Rattle.rat_lower.specs.Emitted.{Adds};
 
@@ -74,7 +74,7 @@ fn put_choice(
     test: Expr,
     label: u32,
 ) -> Result<(), AllocError>
-    ensures { OnOk result (Adds (lines_of code.old.items) (lines_of code.new.items) (λ rest. bare place (Chooses (formula_of test) (Goes label)) ∷ rest)) }
+    ensures { OnOk result (Adds (lines_of code.old.items) (lines_of code.new.items) (λ rest. unlabelled_line place (When (formula_of test) (Goto label)) ∷ rest)) }
 {
     let jump = Box::new(alloc, StmtKind::Goto(label))?;
     put(code, None, place, StmtKind::When(test, jump))
@@ -82,7 +82,7 @@ fn put_choice(
 
 // The expression in parentheses.
 fn grouped(alloc: Global, e: &Expr) -> Result<Box<Expr>, AllocError>
-    ensures { IfOk result (λ group. formula_of group.value ≡ Grouped (formula_of e.now)) }
+    ensures { IfOk result (λ group. formula_of group.value ≡ Group (formula_of e.now)) }
 {
     let e = Box::new(alloc, copy_expr(alloc, e)?)?;
     Ok(Box::new(alloc, Expr::Group(e))?)
@@ -150,7 +150,7 @@ pub fn put_step(
 
 /// The label of a statement that is not plain, at a CONTINUE of its own.
 pub fn put_mark(code: &mut List<Stmt>, statement: &RatStmt) -> Result<(), AllocError>
-    ensures { OnOk result (Adds (lines_of code.old.items) (lines_of code.new.items) (with_mark statement.now.label statement.now.place statement.now.kind)) }
+    ensures { OnOk result (Adds (lines_of code.old.items) (lines_of code.new.items) (behind_mark statement.now.label statement.now.place statement.now.kind)) }
 {
     match (&statement.kind, statement.label) {
         (RatKind::Plain(_), _) | (_, None) => Ok(()),
@@ -179,7 +179,7 @@ pub fn put_do(
     name: &Name,
     parameters: (&Par, &Par, &Par),
 ) -> Result<(), AllocError>
-    ensures { OnOk result (Adds (lines_of code.old.items) (lines_of code.new.items) (λ rest. bare place (Loops end name.now (par_of parameters.entry.0.now) (par_of parameters.entry.1.now) (par_of parameters.entry.2.now)) ∷ rest)) }
+    ensures { OnOk result (Adds (lines_of code.old.items) (lines_of code.new.items) (λ rest. unlabelled_line place (Loop end name.now (par_of parameters.entry.0.now) (par_of parameters.entry.1.now) (par_of parameters.entry.2.now)) ∷ rest)) }
 {
     let name = name.copy()?;
     let first = copy_par(parameters.0)?;
@@ -218,7 +218,7 @@ pub fn put_value(
     name: Name,
     e: &Expr,
 ) -> Result<(), AllocError>
-    ensures { OnOk result (Adds (lines_of code.old.items) (lines_of code.new.items) (λ rest. bare place (Assigns (Variable name) (formula_of e.now)) ∷ rest)) }
+    ensures { OnOk result (Adds (lines_of code.old.items) (lines_of code.new.items) (λ rest. unlabelled_line place (Assign (Ref name) (formula_of e.now)) ∷ rest)) }
 {
     let e = copy_expr(alloc, e)?;
     put(code, None, place, StmtKind::Assign(Expr::Ref(name), e))
@@ -233,7 +233,7 @@ fn put_case(
     e: &Expr,
     label: u32,
 ) -> Result<(), AllocError>
-    ensures { OnOk result (Adds (lines_of code.old.items) (lines_of code.new.items) (λ rest. bare place (Chooses (case_test name (formula_of e.now)) (Goes label)) ∷ rest)) }
+    ensures { OnOk result (Adds (lines_of code.old.items) (lines_of code.new.items) (λ rest. unlabelled_line place (When (case_test name (formula_of e.now)) (Goto label)) ∷ rest)) }
 {
     let name = Box::new(alloc, Expr::Ref(name))?;
     let test = Expr::Pair(Operator::Eq, name, grouped(alloc, e)?);

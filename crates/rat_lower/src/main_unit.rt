@@ -1,6 +1,6 @@
 // From a unit of Ratfor to one of FORTRAN.
 ghost use Rattle.std.specs.Prelude.{◌≡◌, ◌+◌, nat_le, IfOk};
-ghost use Rattle.rat_tree.specs.Views.{commands, routine_of};
+ghost use Rattle.rat_tree.specs.Views.{commands, rat_routine_of};
 ghost use Rattle.rat_check.specs.FirstFault.{Tells};
 ghost use Rattle.rat_lower.specs.Lowered.{lower_fault};
 ghost use Rattle.rat_lower.specs.Served.{Serves};
@@ -21,7 +21,7 @@ const SIZE_LIMIT_NUMBER: u64 = 6;
 
 /// The unit of FORTRAN that does what a main unit does whose text ends at `finish`, or the unit's fault.
 pub fn lower_unit(alloc: Global, unit: &RatUnit, finish: Place) -> Result<CheckedUnit, Refusal>
-    ensures fault { Tells result (lower_fault (routine_of unit.now)) }
+    ensures fault { Tells result (lower_fault (rat_routine_of unit.now)) }
     ensures serves { IfOk result (λ made. Serves (commands unit.now.body.items) made) }
 {
     let labels = check(alloc, unit)?;

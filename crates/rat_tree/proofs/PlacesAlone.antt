@@ -2,10 +2,10 @@
 -- the place of a trap.
 use Rattle.std.proofs.Common.{◌≡◌, ℕ, zero, suc, ◌+◌, Bool, true, false, List, [], ◌∷◌, refl, sym, ap, ◌∙◌, arith}
 use Rattle.std.specs.Prelude.{⊤, map}
-use Rattle.f66_tree.specs.Forms.{Line}
+use Rattle.f66_tree.specs.Syntax.{Line}
 use Rattle.f66_tree.specs.World.{Record, World, End, Ended, GoesOn, Lost, Out, Gives, Halts, counted}
 use Rattle.f66_tree.specs.Units.{is_main, Spot, Linkage, Frame}
-use Rattle.f66_tree.specs.Execution.{no_loops, past_end, nowhere, start}
+use Rattle.f66_tree.specs.Execution.{no_loops, past_end, nowhere, first_state}
 use Rattle.f66_tree.specs.Laws.{shown_placeless}
 use Rattle.f66_tree.proofs.Posts.{IfGives}
 use Rattle.f66_tree.proofs.RelatedRuns.{LikeLines}
@@ -13,7 +13,7 @@ use Rattle.f66_tree.proofs.AnyNames.{any_lines, any_fair}
 use Rattle.f66_tree.proofs.PlacesAlone.{Alike, AllAlike, alike_end, bind_alike, anywhere, alike_holds, shown_alike}
 use Rattle.rat_tree.specs.Places.{all_placed, line_placed}
 use Rattle.rat_tree.specs.Meaning.{Course, Went, Jumps, Backs, Leave, Again, all_meaning, ended_by, Body, Ours, Theirs, source, does_body, source_call, ratfor}
-use Rattle.rat_tree.specs.Laws.{placeless, PlacesTellTrapsAlone}
+use Rattle.rat_tree.specs.Laws.{body_placeless, RatforPlacesTellTrapsAlone}
 use Rattle.rat_tree.proofs.RelatedCommands.{Bounds, all_hold, beside_holds}
 use Rattle.rat_tree.proofs.AnyCommands.{any_commands}
 
@@ -39,7 +39,7 @@ like_bare (a ∷ as') = (refl, refl, tt, like_bare as')
 
 module _ (l : Linkage) (bodies : ℕ → Body) (b : ℕ) where
   abbrev bare : ℕ → Body
-  bare v = placeless (bodies v)
+  bare v = body_placeless (bodies v)
 
   abbrev frame : ℕ → List Spot → Frame
   frame u ps = record { unit = u; actuals = ps; place = nowhere }
@@ -55,7 +55,7 @@ module _ (l : Linkage) (bodies : ℕ → Body) (b : ℕ) where
   ended_alike main (Leave k) w = refl
   ended_alike main (Again k) w = refl
 
-  body_alike : (call1 call2 : ℕ → List Spot → World → Out ⊤) → ((v : ℕ) (ps : List Spot) → AllAlike ⊤ (call1 v ps) (call2 v ps)) → (u : ℕ) (ps : List Spot) (body : Body) → AllAlike ⊤ (does_body l bodies b (source l bodies b call1) (frame u ps) body) (does_body l bare b (source l bare b call2) (frame u ps) (placeless body))
+  body_alike : (call1 call2 : ℕ → List Spot → World → Out ⊤) → ((v : ℕ) (ps : List Spot) → AllAlike ⊤ (call1 v ps) (call2 v ps)) → (u : ℕ) (ps : List Spot) (body : Body) → AllAlike ⊤ (does_body l bodies b (source l bodies b call1) (frame u ps) body) (does_body l bare b (source l bare b call2) (frame u ps) (body_placeless body))
   body_alike call1 call2 h u ps (Ours ss) w =
       let f = frame u ps in
       let begin : World → Out ⊤ = λ w1. Gives tt (counted w1) in
@@ -74,9 +74,9 @@ module _ (l : Linkage) (bodies : ℕ → Body) (b : ℕ) where
   call_alike (suc k) v ps w = body_alike (source_call l bodies b k) (source_call l bare b k) (call_alike k) v ps (bodies v) w
 
   to_placeless : (input : List Record) → shown_placeless (ratfor l bodies b input) ≡ shown_placeless (ratfor l bare b input)
-  to_placeless input = shown_alike _ _ (call_alike l.deep l.main [] (record { state = start l input; left = 0; count = 0 }))
+  to_placeless input = shown_alike _ _ (call_alike l.deep l.main [] (record { state = first_state l input; left = 0; count = 0 }))
 
-pub places_alone : PlacesTellTrapsAlone
+pub places_alone : RatforPlacesTellTrapsAlone
 places_alone l bodies1 bodies2 same input b =
-    let equal : (λ (v : ℕ). placeless (bodies1 v)) ≡ (λ v. placeless (bodies2 v)) = λ i v. same v i in
+    let equal : (λ (v : ℕ). body_placeless (bodies1 v)) ≡ (λ v. body_placeless (bodies2 v)) = λ i v. same v i in
     to_placeless l bodies1 b input ∙ ap (λ bodies. shown_placeless (ratfor l bodies b input)) equal ∙ sym (to_placeless l bodies2 b input)

@@ -7,31 +7,32 @@ use Rattle.ground.specs.declared.place.Place.{Place}
 use Rattle.ground.specs.declared.value.Kind.TheVariants.{Integer}
 use Rattle.ground.specs.Content.{Content}
 use Rattle.f66_tree.specs.declared.expression.Operator.TheVariants.{Eq}
-use Rattle.f66_tree.specs.Forms.{Text, Formula, Formulas, Nought, Also, Act, Returns, Line}
+use Rattle.f66_tree.specs.Syntax.{Text, Formula, Formulas, NoFormula, AndFormula, Act, Return, Line}
 use Rattle.f66_tree.specs.World.{World, End, GoesOn, Out, Gives, Halts, bind, Try, settle, choose, counted}
 use Rattle.f66_tree.specs.Units.{is_note, is_main, name_of, Setting, Frame, moved_to}
 use Rattle.f66_tree.specs.Uses.{Names, NamesOfAll, NamesOfAct, NamesOfLines}
 use Rattle.f66_tree.specs.Evaluation.{base, asked, operate, truth_in, store_at, value_of}
-use Rattle.f66_tree.specs.Statements.{Exit, Loop, loop_turn, item_turns, does}
+use Rattle.f66_tree.specs.Statements.{Exit, LoopParameters, loop_turn, item_turns, does}
 use Rattle.f66_tree.specs.Execution.{stand, Onward, Progress, runnable, perform, fetch, past_end}
 use Rattle.f66_tree.proofs.Posts.{AllFair}
 use Rattle.f66_tree.proofs.Related as related
 use Rattle.f66_tree.proofs.Related.{Sides, side1, side2, Frames, one, two, Good, Holds}
 use Rattle.f66_tree.proofs.RelatedRuns.{LikeLines, like_runnable, names_runnable, performs}
-use Rattle.rat_tree.specs.Commands.{Command, Empty, Together, When, Either, Whilst, Through, Repeats, Until, Counts, Switches, Leaves, Turns, GivesBack, Plainly, Marked, Commands, NoCommand, AndCommand, Clauses, NoClause, AndClause}
+use Rattle.rat_tree.specs.Syntax.{Command, Empty, Block, If, IfElse, While, For, Repeat, RepeatUntil, Do, Switch, Break, Next, Plain, Labelled, Commands, NoCommand, AndCommand, Clauses, NoClause, AndClause}
 use Rattle.rat_tree.specs.Places.{placed, all_placed, clauses_placed}
 use Rattle.rat_tree.specs.Uses.{NamesIfAny, ActIfAny, NamesOfCommand, NamesOfCommands, NamesOfClauses}
-use Rattle.rat_tree.specs.Meaning.{Course, Went, Jumps, Backs, Leave, Again, course_of, Then, went, stays, after, after_turn, turned, turns, always, marks, stands, landing, decides, plainly, labelled, tested, performed, stepped, until, counts, gives_back, is_case, fits, meaning, run_from, picked, defaulted, all_meaning, waiting, beside}
+use Rattle.rat_tree.specs.Meaning.{Course, Went, Jumps, Backs, Leave, Again, course_of, Continuation, went, stays, after, after_turn, turned, turns, always, has_own_label, stands, landing, decides, plain_statement, passed_label, tested, performed, stepped, until, do_turns, gives_back, is_case, fits_case, meaning, run_from, picked, defaulted, all_meaning, waiting, beside}
+use Rattle.rat_tree.specs.Syntax as ratfor_tree
 
 -- labels don't change with places
-marks_placed : (g : Place → Place) (l : ℕ) (c : Command) → marks l (placed g c) ≡ marks l c
-marks_placed g l (Plainly m p a) = refl
-marks_placed g l (Marked m p s) = refl
+marks_placed : (g : Place → Place) (l : ℕ) (c : Command) → has_own_label l (placed g c) ≡ has_own_label l c
+marks_placed g l (Plain m p a) = refl
+marks_placed g l (Labelled m p s) = refl
 marks_placed g l _ = refl
 
 stands_placed : (g : Place → Place) (l : ℕ) (ss : Commands) → stands l (all_placed g ss) ≡ stands l ss
 stands_placed g l NoCommand = refl
-stands_placed g l (AndCommand s ss) = ap (λ b. b || stands l (all_placed g ss)) (marks_placed g l s) ∙ ap (λ b. marks l s || b) (stands_placed g l ss)
+stands_placed g l (AndCommand s ss) = ap (λ b. b || stands l (all_placed g ss)) (marks_placed g l s) ∙ ap (λ b. has_own_label l s || b) (stands_placed g l ss)
 
 -- what a relation must have besides for commands: e is by how much the bound of the second side is greater
 pub record Bounds (R : (A : Type 0) → (World → Out A) → (World → Out A) → Type 0) (e : ℕ) : Type 1 where
@@ -69,14 +70,14 @@ module _ (d : Sides ⊤) (R : (A : Type 0) → (World → Out A) → (World → 
 
   -- ---- what comes after a statement ----
 
-  after_holds : {go1 go2 : Then} → R Course go1 go2 → (c : Course) → R Course (after go1 c) (after go2 c)
+  after_holds : {go1 go2 : Continuation} → R Course go1 go2 → (c : Course) → R Course (after go1 c) (after go2 c)
   after_holds h Went = h
   after_holds h (Jumps l) = gives (Jumps l)
   after_holds h Backs = gives Backs
   after_holds h (Leave k) = gives (Leave k)
   after_holds h (Again k) = gives (Again k)
 
-  after_turn_holds : {go1 go2 : Then} → R Course go1 go2 → (c : Course) → R Course (after_turn go1 c) (after_turn go2 c)
+  after_turn_holds : {go1 go2 : Continuation} → R Course go1 go2 → (c : Course) → R Course (after_turn go1 c) (after_turn go2 c)
   after_turn_holds h Went = h
   after_turn_holds h (Jumps l) = gives (Jumps l)
   after_turn_holds h Backs = gives Backs
@@ -85,7 +86,7 @@ module _ (d : Sides ⊤) (R : (A : Type 0) → (World → Out A) → (World → 
   after_turn_holds h (Again zero) = h
   after_turn_holds h (Again (suc k)) = gives (Again k)
 
-  module _ (ss1 ss2 : Commands) (same : (l : ℕ) → stands l ss2 ≡ stands l ss1) (go1 go2 : ℕ → Then) (h : (l : ℕ) → R Course (go1 l) (go2 l)) where
+  module _ (ss1 ss2 : Commands) (same : (l : ℕ) → stands l ss2 ≡ stands l ss1) (go1 go2 : ℕ → Continuation) (h : (l : ℕ) → R Course (go1 l) (go2 l)) where
     landing_holds : (n1 n2 : ℕ) → n1 ≤ n2 → n2 ≤ n1 + e → (c : Course) → R Course (landing n1 ss1 go1 c) (landing n2 ss2 go2 c)
     landing_holds zero zero le ge (Jumps l) = subst (λ v. R Course (λ w. if stands l ss1 then Halts GoesOn w else Gives (Jumps l) w) (λ w. if v then Halts GoesOn w else Gives (Jumps l) w)) (sym (same l)) (choice_if (stands l ss1) (b.halts GoesOn) (gives (Jumps l)))
     landing_holds zero (suc n2) le ge (Jumps l) =
@@ -113,10 +114,10 @@ module _ (d : Sides ⊤) (R : (A : Type 0) → (World → Out A) → (World → 
     landing_holds (suc n1) (suc n2) le ge (Again k) = gives (Again k)
 
   -- a test, or what stands after a turn
-  abbrev TopHolds : (Then → Then → Then) → (Then → Then → Then) → Type 0
-  TopHolds top1 top2 = (go1 go2 leave1 leave2 : Then) → R Course go1 go2 → R Course leave1 leave2 → R Course (top1 go1 leave1) (top2 go2 leave2)
+  abbrev TopHolds : (Continuation → Continuation → Continuation) → (Continuation → Continuation → Continuation) → Type 0
+  TopHolds top1 top2 = (go1 go2 leave1 leave2 : Continuation) → R Course go1 go2 → R Course leave1 leave2 → R Course (top1 go1 leave1) (top2 go2 leave2)
 
-  module _ (top1 top2 : Then → Then → Then) (body1 body2 : Then) (bottom1 bottom2 : Then → Then → Then) (t : TopHolds top1 top2) (h : R Course body1 body2) (u : TopHolds bottom1 bottom2) where
+  module _ (top1 top2 : Continuation → Continuation → Continuation) (body1 body2 : Continuation) (bottom1 bottom2 : Continuation → Continuation → Continuation) (t : TopHolds top1 top2) (h : R Course body1 body2) (u : TopHolds bottom1 bottom2) where
     turn_of : (n1 n2 : ℕ) → R Course (turns n1 top1 body1 bottom1) (turns n2 top2 body2 bottom2) → R Course (λ w1. turned (body1 (counted w1)) (bottom1 (turns n1 top1 body1 bottom1) went)) (λ w1. turned (body2 (counted w1)) (bottom2 (turns n2 top2 body2 bottom2) went))
     turn_of n1 n2 rest = thens (b.counts h) (after_turn_holds (u (turns n1 top1 body1 bottom1) (turns n2 top2 body2 bottom2) went went rest (gives Went)))
 
@@ -134,7 +135,7 @@ module _ (d : Sides ⊤) (R : (A : Type 0) → (World → Out A) → (World → 
 
   -- implied DO loops
   module _ (begins : R ⊤ (d.begin1 tt) d.begin2) where
-    many_hold : (f : Frames) → Good d f → (x : Text) → d.K f.unit x → (k : Loop) (m1 m2 : World → Out ⊤) → R ⊤ m1 m2 → (n1 n2 : ℕ) → n1 ≤ n2 → n2 ≤ n1 + e → R ⊤ (item_turns n1 s1 (one f) x k m1) (item_turns n2 s2 (two f) x k m2)
+    many_hold : (f : Frames) → Good d f → (x : Text) → d.K f.unit x → (k : LoopParameters) (m1 m2 : World → Out ⊤) → R ⊤ m1 m2 → (n1 n2 : ℕ) → n1 ≤ n2 → n2 ≤ n1 + e → R ⊤ (item_turns n1 s1 (one f) x k m1) (item_turns n2 s2 (two f) x k m2)
     many_hold f g x used k m1 m2 h zero zero le ge = b.halts GoesOn
     many_hold f g x used k m1 m2 h zero (suc n2) le ge =
         b.stays {m1 = λ w. bind (d.begin1 tt w) (λ _ w1. bind (m1 w1) (λ _ w2. bind (loop_turn s1 (one f) x k w2) (λ on w3. choose on (item_turns zero s1 (one f) x k m1 w3) (Gives tt w3))))} (omega arith)
@@ -152,7 +153,7 @@ module _ (d : Sides ⊤) (R : (A : Type 0) → (World → Out A) → (World → 
       good : (p : Place) → Good d (at p)
       good p = record { places = places p; actuals = fair }
 
-      many : (f1 : Frames) → Good d f1 → (x : Text) → d.K f1.unit x → (k : Loop) (m1 : ⊤ → World → Out ⊤) (m2 : World → Out ⊤) → RI ⊤ m1 m2 → RI ⊤ (λ i. item_turns (d.most1 i) (side1 d i) (one f1) x k (m1 i)) (item_turns d.most2 s2 (two f1) x k m2)
+      many : (f1 : Frames) → Good d f1 → (x : Text) → d.K f1.unit x → (k : LoopParameters) (m1 : ⊤ → World → Out ⊤) (m2 : World → Out ⊤) → RI ⊤ m1 m2 → RI ⊤ (λ i. item_turns (d.most1 i) (side1 d i) (one f1) x k (m1 i)) (item_turns d.most2 s2 (two f1) x k m2)
       many f1 g1 x used k m1 m2 h = many_hold f1 g1 x used k (m1 tt) m2 h (d.most1 tt) d.most2 most most_too
 
       value_holds : (p : Place) (a : Formula) → Names (d.K f.unit) a → R Content (value_of s1 (moved_to p f) a) (value_of s2 (moved_to (g p) f) a)
@@ -164,13 +165,13 @@ module _ (d : Sides ⊤) (R : (A : Type 0) → (World → Out A) → (World → 
       settled : {A : Type 0} (p : Place) (o : Try A) → R A (settle p o) (settle (g p) o)
       settled p o = related.settles ⊤ d RI r (at p) (good p) o
 
-      decides_holds : (p : Place) (a : Formula) → Names (d.K f.unit) a → {yea1 yea2 nay1 nay2 : Then} → R Course yea1 yea2 → R Course nay1 nay2 → R Course (decides s1 f p a yea1 nay1) (decides s2 f (g p) a yea2 nay2)
+      decides_holds : (p : Place) (a : Formula) → Names (d.K f.unit) a → {yea1 yea2 nay1 nay2 : Continuation} → R Course yea1 yea2 → R Course nay1 nay2 → R Course (decides s1 f p a yea1 nay1) (decides s2 f (g p) a yea2 nay2)
       decides_holds p a used h k = thens (related.asks_hold ⊤ d RI r (at p) (good p) a used) (λ holds. choice holds h k)
 
-      plainly_holds : (p : Place) (a : Act) → NamesOfAct (d.K f.unit) a → R Course (plainly s1 f p a) (plainly s2 f (g p) a)
+      plainly_holds : (p : Place) (a : Act) → NamesOfAct (d.K f.unit) a → R Course (plain_statement s1 f p a) (plain_statement s2 f (g p) a)
       plainly_holds p a used = choice_if (is_note a) (gives Went) (thens (b.counts (does_holds p a used)) (λ y. gives (course_of y)))
 
-      labelled_holds : (o : Option ℕ) (p : Place) (a : Act) → NamesOfAct (d.K f.unit) a → R Course (labelled s1 f o p a) (labelled s2 f o (g p) a)
+      labelled_holds : (o : Option ℕ) (p : Place) (a : Act) → NamesOfAct (d.K f.unit) a → R Course (passed_label s1 f o p a) (passed_label s2 f o (g p) a)
       labelled_holds None p a used = plainly_holds p a used
       labelled_holds (Some m) p a used = choice_if (is_note a) (gives Went) (b.counts (plainly_holds p a used))
 
@@ -178,14 +179,14 @@ module _ (d : Sides ⊤) (R : (A : Type 0) → (World → Out A) → (World → 
       tested_holds p None used go1 go2 leave1 leave2 h k = h
       tested_holds p (Some a) used go1 go2 leave1 leave2 h k = decides_holds p a used h k
 
-      performed_holds : (p : Place) (a : Option Act) → ActIfAny (d.K f.unit) a → {go1 go2 : Then} → R Course go1 go2 → R Course (performed s1 f p a go1) (performed s2 f (g p) a go2)
+      performed_holds : (p : Place) (a : Option Act) → ActIfAny (d.K f.unit) a → {go1 go2 : Continuation} → R Course go1 go2 → R Course (performed s1 f p a go1) (performed s2 f (g p) a go2)
       performed_holds p None used h = h
       performed_holds p (Some a) used h = thens (plainly_holds p a used) (after_holds h)
 
-      counts_hold : (p : Place) (x : Text) → d.K f.unit x → (k : Loop) (body1 body2 : Then) → R Course body1 body2 → (n1 n2 : ℕ) → n1 ≤ n2 → n2 ≤ n1 + e → R Course (counts s1 f n1 p x k body1) (counts s2 f n2 (g p) x k body2)
+      counts_hold : (p : Place) (x : Text) → d.K f.unit x → (k : LoopParameters) (body1 body2 : Continuation) → R Course body1 body2 → (n1 n2 : ℕ) → n1 ≤ n2 → n2 ≤ n1 + e → R Course (do_turns s1 f n1 p x k body1) (do_turns s2 f n2 (g p) x k body2)
       counts_hold p x used k body1 body2 h zero zero le ge = b.halts GoesOn
       counts_hold p x used k body1 body2 h zero (suc n2) le ge =
-          b.stays {m1 = λ w. bind (body1 (counted w)) (after_turn (λ w1. bind (loop_turn s1 (moved_to p f) x k w1) (λ on w2. choose on (counts s1 f zero p x k body1 w2) (Gives Went w2))))} (omega arith)
+          b.stays {m1 = λ w. bind (body1 (counted w)) (after_turn (λ w1. bind (loop_turn s1 (moved_to p f) x k w1) (λ on w2. choose on (do_turns s1 f zero p x k body1 w2) (Gives Went w2))))} (omega arith)
           (thens (b.counts h) (after_turn_holds (thens (related.turn_holds ⊤ d RI r (at p) (good p) x used k) (λ on. choice on (counts_hold p x used k body1 body2 h zero n2 (omega arith) (omega arith)) (gives Went)))))
       counts_hold p x used k body1 body2 h (suc n1) zero le ge = absurd (omega arith)
       counts_hold p x used k body1 body2 h (suc n1) (suc n2) le ge =
@@ -194,56 +195,56 @@ module _ (d : Sides ⊤) (R : (A : Type 0) → (World → Out A) → (World → 
       case_holds : (p : Place) (v : Content) (a : Formula) → Names (d.K f.unit) a → R Bool (is_case s1 f p v a) (is_case s2 f (g p) v a)
       case_holds p v a used = thens (settled p (asked Integer v)) (λ v1. thens (value_holds p a used) (λ u. thens (settled p (operate Eq v1 u)) (λ t. settled p (truth_in t))))
 
-      fits_hold : (p : Place) (v : Content) (es : Formulas) → NamesOfAll (d.K f.unit) es → {yea1 yea2 nay1 nay2 : Then} → R Course yea1 yea2 → R Course nay1 nay2 → R Course (fits s1 f p v es yea1 nay1) (fits s2 f (g p) v es yea2 nay2)
-      fits_hold p v Nought used h k = k
-      fits_hold p v (Also a es) used h k = thens (b.counts (case_holds p v a used.0)) (λ holds. choice holds h (fits_hold p v es used.1 h k))
+      fits_hold : (p : Place) (v : Content) (es : Formulas) → NamesOfAll (d.K f.unit) es → {yea1 yea2 nay1 nay2 : Continuation} → R Course yea1 yea2 → R Course nay1 nay2 → R Course (fits_case s1 f p v es yea1 nay1) (fits_case s2 f (g p) v es yea2 nay2)
+      fits_hold p v NoFormula used h k = k
+      fits_hold p v (AndFormula a es) used h k = thens (b.counts (case_holds p v a used.0)) (λ holds. choice holds h (fits_hold p v es used.1 h k))
 
       -- a function's own name is one of its names
       module _ (own : d.K f.unit (name_of (d.linked2.context f.unit).header)) where
         gives_back_holds : (p : Place) (a : Option Formula) → NamesIfAny (d.K f.unit) a → R Course (gives_back s1 f p a) (gives_back s2 f (g p) a)
-        gives_back_holds p None used = plainly_holds p Returns tt
+        gives_back_holds p None used = plainly_holds p Return tt
         gives_back_holds p (Some a) used =
             let x : Text = name_of (d.linked2.context f.unit).header in
-            subst (λ h. R Course (λ w. bind (settle p (base s1 f (name_of h)) (counted w)) (λ spot w1. bind (value_of s1 (moved_to p f) a w1) (λ v w2. bind (store_at s1 (moved_to p f) spot v w2) (λ _ w3. bind (does s1 (moved_to p f) Returns w3) (λ y w4. Gives (course_of y) w4))))) (gives_back s2 f (g p) (Some a))) (sym (r.same.header f.unit))
-            (b.counts {m1 = λ w. bind (settle p (base s1 f x) w) (λ spot w1. bind (value_of s1 (moved_to p f) a w1) (λ v w2. bind (store_at s1 (moved_to p f) spot v w2) (λ _ w3. bind (does s1 (moved_to p f) Returns w3) (λ y w4. Gives (course_of y) w4))))}
+            subst (λ h. R Course (λ w. bind (settle p (base s1 f (name_of h)) (counted w)) (λ spot w1. bind (value_of s1 (moved_to p f) a w1) (λ v w2. bind (store_at s1 (moved_to p f) spot v w2) (λ _ w3. bind (does s1 (moved_to p f) Return w3) (λ y w4. Gives (course_of y) w4))))) (gives_back s2 f (g p) (Some a))) (sym (r.same.header f.unit))
+            (b.counts {m1 = λ w. bind (settle p (base s1 f x) w) (λ spot w1. bind (value_of s1 (moved_to p f) a w1) (λ v w2. bind (store_at s1 (moved_to p f) spot v w2) (λ _ w3. bind (does s1 (moved_to p f) Return w3) (λ y w4. Gives (course_of y) w4))))}
             (related.base_then ⊤ d RI r
-            {g1 = λ spot i w1. bind (value_of s1 (moved_to p f) a w1) (λ v w2. bind (store_at s1 (moved_to p f) spot v w2) (λ _ w3. bind (does s1 (moved_to p f) Returns w3) (λ y w4. Gives (course_of y) w4)))}
-            {g2 = λ spot w1. bind (value_of s2 (moved_to (g p) f) a w1) (λ v w2. bind (store_at s2 (moved_to (g p) f) spot v w2) (λ _ w3. bind (does s2 (moved_to (g p) f) Returns w3) (λ y w4. Gives (course_of y) w4)))}
-            (at p) (good p) x own (λ spot ok. thens (value_holds p a used) (λ v. thens (r.stores (at p) (good p) spot ok v) (λ _. thens (does_holds p Returns tt) (λ y. gives (course_of y)))))))
+            {g1 = λ spot i w1. bind (value_of s1 (moved_to p f) a w1) (λ v w2. bind (store_at s1 (moved_to p f) spot v w2) (λ _ w3. bind (does s1 (moved_to p f) Return w3) (λ y w4. Gives (course_of y) w4)))}
+            {g2 = λ spot w1. bind (value_of s2 (moved_to (g p) f) a w1) (λ v w2. bind (store_at s2 (moved_to (g p) f) spot v w2) (λ _ w3. bind (does s2 (moved_to (g p) f) Return w3) (λ y w4. Gives (course_of y) w4)))}
+            (at p) (good p) x own (λ spot ok. thens (value_holds p a used) (λ v. thens (r.stores (at p) (good p) spot ok v) (λ _. thens (does_holds p Return tt) (λ y. gives (course_of y)))))))
 
         mutual
           meaning_holds : (c : Command) → NamesOfCommand (d.K f.unit) c → R Course (meaning s1 f b1 c) (meaning s2 f b2 (placed g c))
           meaning_holds (Empty p) used = b.counts (gives Went)
-          meaning_holds (Together p ss) used =
+          meaning_holds (Block p ss) used =
               thens (b.counts (run_holds ss used None)) (landing_holds ss (all_placed g ss) (λ m. stands_placed g m ss) (λ m. run_from s1 f b1 ss (Some m)) (λ m. run_from s2 f b2 (all_placed g ss) (Some m)) (λ m. run_holds ss used (Some m)) b1 b2 less less_too)
-          meaning_holds (When p a c) used = b.counts (decides_holds p a used.0 (meaning_holds c used.1) (gives Went))
-          meaning_holds (Either p a c1 c2) used = b.counts (decides_holds p a used.0 (meaning_holds c1 used.1) (meaning_holds c2 used.2))
-          meaning_holds (Whilst p a c) used =
+          meaning_holds (If p a c) used = b.counts (decides_holds p a used.0 (meaning_holds c used.1) (gives Went))
+          meaning_holds (IfElse p a c1 c2) used = b.counts (decides_holds p a used.0 (meaning_holds c1 used.1) (meaning_holds c2 used.2))
+          meaning_holds (While p a c) used =
               b.counts (turns_hold (tested s1 f p (Some a)) (tested s2 f (g p) (Some a)) (meaning s1 f b1 c) (meaning s2 f b2 (placed g c)) always always (tested_holds p (Some a) used.0) (meaning_holds c used.1) always_holds b1 b2 less less_too)
-          meaning_holds (Through p first a step c) used =
+          meaning_holds (For p first a step c) used =
               b.counts (performed_holds p first used.0 (turns_hold (tested s1 f p a) (tested s2 f (g p) a) (meaning s1 f b1 c) (meaning s2 f b2 (placed g c)) (stepped s1 f p step) (stepped s2 f (g p) step) (tested_holds p a used.1) (meaning_holds c used.3)
               (λ go1 go2 leave1 leave2 h k. performed_holds p step used.2 h) b1 b2 less less_too))
-          meaning_holds (Repeats p c) used =
+          meaning_holds (Repeat p c) used =
               b.counts (turns_hold (tested s1 f p None) (tested s2 f (g p) None) (meaning s1 f b1 c) (meaning s2 f b2 (placed g c)) always always (tested_holds p None tt) (meaning_holds c used) always_holds b1 b2 less less_too)
-          meaning_holds (Until p c a q) used =
+          meaning_holds (RepeatUntil p c a q) used =
               b.counts (turns_hold (tested s1 f p None) (tested s2 f (g p) None) (meaning s1 f b1 c) (meaning s2 f b2 (placed g c)) (until s1 f q a) (until s2 f (g q) a) (tested_holds p None tt) (meaning_holds c used.0) (λ go1 go2 leave1 leave2 h k. decides_holds q a used.1 k h) b1 b2 less less_too)
-          meaning_holds (Counts p x a z s c) used =
+          meaning_holds (Do p x a z s c) used =
               thens (b.counts (related.start_holds ⊤ d RI r (at p) (good p) x a z s used.0 used.1 used.2 used.3)) (λ k. counts_hold p x used.0 k (meaning s1 f b1 c) (meaning s2 f b2 (placed g c)) (meaning_holds c used.4) b1 b2 less less_too)
-          meaning_holds (Switches p a cs) used = thens (b.counts (value_holds p a used.0)) (λ v. picked_holds v cs used.1 (defaulted_holds cs used.1))
-          meaning_holds (Leaves p n) used = b.counts (gives _)
-          meaning_holds (Turns p n) used = b.counts (gives _)
-          meaning_holds (GivesBack p a) used = gives_back_holds p a used
-          meaning_holds (Plainly o p a) used = labelled_holds o p a used
-          meaning_holds (Marked m p c) used = b.counts (meaning_holds c used)
+          meaning_holds (Switch p a cs) used = thens (b.counts (value_holds p a used.0)) (λ v. picked_holds v cs used.1 (defaulted_holds cs used.1))
+          meaning_holds (Break p n) used = b.counts (gives _)
+          meaning_holds (Next p n) used = b.counts (gives _)
+          meaning_holds (ratfor_tree.Return p a) used = gives_back_holds p a used
+          meaning_holds (Plain o p a) used = labelled_holds o p a used
+          meaning_holds (Labelled m p c) used = b.counts (meaning_holds c used)
 
           run_holds : (ss : Commands) → NamesOfCommands (d.K f.unit) ss → (from : Option ℕ) → R Course (run_from s1 f b1 ss from) (run_from s2 f b2 (all_placed g ss) from)
           run_holds NoCommand used from = gives Went
           run_holds (AndCommand c ss) used None = thens (meaning_holds c used.0) (after_holds (run_holds ss used.1 None))
           run_holds (AndCommand c ss) used (Some m) =
               subst (λ v. R Course (run_from s1 f b1 (AndCommand c ss) (Some m)) (λ w. if v then bind (meaning s2 f b2 (placed g c) w) (after (run_from s2 f b2 (all_placed g ss) None)) else run_from s2 f b2 (all_placed g ss) (Some m) w)) (sym (marks_placed g m c))
-              (choice_if (marks m c) (thens (meaning_holds c used.0) (after_holds (run_holds ss used.1 None))) (run_holds ss used.1 (Some m)))
+              (choice_if (has_own_label m c) (thens (meaning_holds c used.0) (after_holds (run_holds ss used.1 None))) (run_holds ss used.1 (Some m)))
 
-          picked_holds : (v : Content) (cs : Clauses) → NamesOfClauses (d.K f.unit) cs → {other1 other2 : Then} → R Course other1 other2 → R Course (picked s1 f b1 v cs other1) (picked s2 f b2 v (clauses_placed g cs) other2)
+          picked_holds : (v : Content) (cs : Clauses) → NamesOfClauses (d.K f.unit) cs → {other1 other2 : Continuation} → R Course other1 other2 → R Course (picked s1 f b1 v cs other1) (picked s2 f b2 v (clauses_placed g cs) other2)
           picked_holds v NoClause used h = h
           picked_holds v (AndClause es fallback ss p cs) used h =
               fits_hold p v es used.0 (thens (run_holds ss used.1 None) (landing_holds ss (all_placed g ss) (λ m. stands_placed g m ss) (λ m. run_from s1 f b1 ss (Some m)) (λ m. run_from s2 f b2 (all_placed g ss) (Some m)) (λ m. run_holds ss used.1 (Some m)) b1 b2 less less_too)) (picked_holds v cs used.2 h)

@@ -10,8 +10,9 @@ use Rattle.rat_tree.specs.declared.program.RatCase.{RatCase, RatCase'}
 use Rattle.rat_tree.specs.declared.program.RatCase as cases
 use Rattle.rat_tree.specs.declared.program.RatKind.TheVariants.{Block, Block', Switch, Switch'}
 use Rattle.rat_tree.specs.declared.program.RatKind.TheBlock.{Row_of-RatStmt, end_of-RatStmt, more_of-RatStmt, items-the_row-RatStmt, items_hidden-the_row-RatStmt-0, Row_of-RatCase, end_of-RatCase, more_of-RatCase, items-the_row-RatCase, items_hidden-the_row-RatCase-1}
-use Rattle.rat_tree.specs.Commands.{Together, Switches, AndCommand, Clauses, AndClause}
+use Rattle.rat_tree.specs.Syntax.{AndCommand, Clauses, AndClause}
 use Rattle.rat_tree.specs.Views.{labelled, command_of, row_commands, commands, row_clauses, clause_then, clauses}
+use Rattle.rat_tree.specs.Syntax as ratfor_tree
 
 row_commands_are : (n : _) (row : Row_of-RatStmt n) → row_commands row ≡ commands (items-the_row-RatStmt n row)
 row_commands_are n end_of-RatStmt = refl
@@ -29,15 +30,15 @@ abbrev case_row_of : RatKind → (n : Count) × Row_of-RatCase n
 case_row_of (Switch' e shape row) = (_, row)
 case_row_of _ = (_, end_of-RatCase)
 
-pub block_commands : (l : Option ℕ) (p : Place) (list : Vec RatStmt Global) → command_of l p (Block list) ≡ labelled l p (Together p (commands list.items))
+pub block_commands : (l : Option ℕ) (p : Place) (list : Vec RatStmt Global) → command_of l p (Block list) ≡ labelled l p (ratfor_tree.Block p (commands list.items))
 block_commands l p list =
     let row = row_of (Block list) in
-    ap (λ ss. labelled l p (Together p ss)) (row_commands_are row.0 row.1 ∙ ap commands (items_hidden-the_row-RatStmt-0 list))
+    ap (λ ss. labelled l p (ratfor_tree.Block p ss)) (row_commands_are row.0 row.1 ∙ ap commands (items_hidden-the_row-RatStmt-0 list))
 
-pub switch_clauses : (l : Option ℕ) (p : Place) (e : Expr) (list : Vec RatCase Global) → command_of l p (Switch e list) ≡ labelled l p (Switches p (formula_of e) (clauses list.items))
+pub switch_clauses : (l : Option ℕ) (p : Place) (e : Expr) (list : Vec RatCase Global) → command_of l p (Switch e list) ≡ labelled l p (ratfor_tree.Switch p (formula_of e) (clauses list.items))
 switch_clauses l p e list =
     let row = case_row_of (Switch e list) in
-    ap (λ cs. labelled l p (Switches p (formula_of e) cs)) (row_clauses_are row.0 row.1 ∙ ap clauses (items_hidden-the_row-RatCase-1 list))
+    ap (λ cs. labelled l p (ratfor_tree.Switch p (formula_of e) cs)) (row_clauses_are row.0 row.1 ∙ ap clauses (items_hidden-the_row-RatCase-1 list))
 
 abbrev body_row_of : RatCase → (n : Count) × Row_of-RatStmt n
 body_row_of (RatCase' tests fallback shape row p) = (_, row)

@@ -4,13 +4,13 @@ use Rattle.std.proofs.Common.{◌≡◌, ℕ, zero, suc, ◌+◌, Bool, true, fa
 use Rattle.std.specs.Prelude.{⊤}
 use Rattle.f66_tree.specs.World.{Record, World, End, Ended, GoesOn, Lost, Out, Gives, Halts, counted}
 use Rattle.f66_tree.specs.Units.{is_main, Spot, Linkage, Frame}
-use Rattle.f66_tree.specs.Execution.{no_loops, past_end, nowhere, start}
+use Rattle.f66_tree.specs.Execution.{no_loops, past_end, nowhere, first_state}
 use Rattle.f66_tree.proofs.Posts.{post_any}
 use Rattle.f66_tree.proofs.RelatedRuns.{like_itself}
 use Rattle.f66_tree.proofs.AnyNames.{any_lines, any_fair}
 use Rattle.f66_tree.proofs.UnaskedRuns.{fuller, SparesOut, AllSpare, end_spares, bind_spares, inputs, spares_hold, shown_spares}
 use Rattle.rat_tree.specs.Meaning.{Course, Went, Jumps, Backs, Leave, Again, all_meaning, ended_by, Body, Ours, Theirs, source, does_body, source_call}
-use Rattle.rat_tree.specs.Laws.{UnaskedChangeNothing}
+use Rattle.rat_tree.specs.Laws.{RatforUnaskedChangeNothing}
 use Rattle.rat_tree.proofs.RelatedCommands.{Bounds, all_hold, beside_holds}
 use Rattle.rat_tree.proofs.AnyCommands.{any_commands, all_placed_same}
 
@@ -63,6 +63,6 @@ module _ (more : List Record) where
     call_spares zero v ps w = refl
     call_spares (suc k) v ps w = body_spares (source_call l bodies b k) (call_spares k) v ps (bodies v) w
 
-pub unasked_alone : UnaskedChangeNothing
+pub unasked_alone : RatforUnaskedChangeNothing
 unasked_alone l bodies input more b not_asked =
-    shown_spares more _ _ (call_spares more l bodies b l.deep l.main [] (record { state = start l input; left = 0; count = 0 })) not_asked
+    shown_spares more _ _ (call_spares more l bodies b l.deep l.main [] (record { state = first_state l input; left = 0; count = 0 })) not_asked

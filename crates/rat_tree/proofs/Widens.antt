@@ -3,12 +3,12 @@
 use Rattle.std.proofs.Common.{◌≡◌, ℕ, zero, suc, ◌+◌, ◌-◌, ◌≤◌, Bool, true, false, List, [], refl, sym, ap, subst, arith}
 use Rattle.std.specs.Prelude.{if◌then◌else◌, ⊤}
 use Rattle.ground.specs.declared.place.Place.{Place}
-use Rattle.f66_tree.specs.Forms.{Line}
+use Rattle.f66_tree.specs.Syntax.{Line}
 use Rattle.f66_tree.specs.World.{World, Trapped, End, Ended, GoesOn, Lost, Out, Gives, Halts, bind, choose, counted, IsPrefix, shown}
 use Rattle.f66_tree.specs.Units.{is_main, Spot, Linkage, Setting, Frame}
 use Rattle.f66_tree.specs.Evaluation.{load, store_at, ticked}
-use Rattle.f66_tree.specs.Statements.{taped, took}
-use Rattle.f66_tree.specs.Execution.{stand, past_end, no_loops, nowhere, start}
+use Rattle.f66_tree.specs.Statements.{taped, taken_content}
+use Rattle.f66_tree.specs.Execution.{stand, past_end, no_loops, nowhere, first_state}
 use Rattle.f66_tree.specs.Laws.{Extends}
 use Rattle.f66_tree.proofs.Prefixes.{prefix_self, prefix_in}
 use Rattle.f66_tree.proofs.Posts.{IfGives}
@@ -17,7 +17,7 @@ use Rattle.f66_tree.proofs.Related.{Sides, Frames, Good, Holds}
 use Rattle.f66_tree.proofs.RelatedRuns.{like_itself}
 use Rattle.f66_tree.proofs.AnyNames.{Any, AnySpot, any_scope, any_lines, any_fair}
 use Rattle.f66_tree.proofs.Grows.{out_of, Grows, bind_grows_if, alone, G, grows_hold}
-use Rattle.rat_tree.specs.Commands.{Commands}
+use Rattle.rat_tree.specs.Syntax.{Commands}
 use Rattle.rat_tree.proofs.RelatedCommands.{Bounds, all_hold, beside_holds}
 use Rattle.rat_tree.proofs.AnyCommands.{any_commands, all_placed_same}
 use Rattle.rat_tree.specs.Laws.{MeaningsExtend}
@@ -143,7 +143,7 @@ module _ (l : Linkage) (call1 call2 : ℕ → List Spot → World → Out ⊤) (
     loads = λ f g k p fair. at_both f.here f.there (λ v w. load s2 (record { unit = f.unit; actuals = f.actuals; place = v }) k p w) g.places (grow2.loads f (free f) k p tt);
     stores = λ f g p fair c. at_both f.here f.there (λ v w. store_at s2 (record { unit = f.unit; actuals = f.actuals; place = v }) p c w) g.places (grow2.stores f (free f) p tt c);
     tapes = λ f g h step. at_both f.here f.there (λ v w. taped v h w) g.places (grow2.tapes f (free f) h step);
-    takes = λ f g h step. at_both f.here f.there (λ v w. took v h w) g.places (grow2.takes f (free f) h step);
+    takes = λ f g h step. at_both f.here f.there (λ v w. taken_content v h w) g.places (grow2.takes f (free f) h step);
     ticks = λ h. record { grows = λ w. h.grows (ticked s2 w); widens = λ w. h.widens (ticked s2 w) };
     calls = λ u x v ps used e fair. calls v ps;
   }
@@ -206,5 +206,5 @@ extends_by (Halts GoesOn w) q h = record { over = λ y e. absurd (subst IsOver (
 
 pub meanings_extend : MeaningsExtend
 meanings_extend l bodies input a b le =
-    let w : World = record { state = start l input; left = 0; count = 0 } in
+    let w : World = record { state = first_state l input; left = 0; count = 0 } in
     extends_by (source_call l bodies a l.deep l.main [] w) (source_call l bodies b l.deep l.main [] w) ((call_widens l bodies a b le l.deep l.main []).widens w)

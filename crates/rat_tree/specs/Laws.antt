@@ -14,15 +14,15 @@ abbrev pub MeaningsExtend : Type 0
 MeaningsExtend = (l : Linkage) (bodies : ℕ → Body) (input : List Record) (a b : ℕ) → a ≤ b → Extends (ratfor l bodies a input) (ratfor l bodies b input)
 
 -- a body without its places
-abbrev pub placeless : Body → Body
-placeless body = body_placed (λ p. nowhere) body
+abbrev pub body_placeless : Body → Body
+body_placeless body = body_placed (λ p. nowhere) body
 
 -- programs that differ in places alone have meanings that differ in the trap's place alone
-abbrev pub PlacesTellTrapsAlone : Type 0
-PlacesTellTrapsAlone =
-    (l : Linkage) (bodies1 bodies2 : ℕ → Body) → ((v : ℕ) → placeless (bodies1 v) ≡ placeless (bodies2 v)) → (input : List Record) (b : ℕ) → shown_placeless (ratfor l bodies1 b input) ≡ shown_placeless (ratfor l bodies2 b input)
+abbrev pub RatforPlacesTellTrapsAlone : Type 0
+RatforPlacesTellTrapsAlone =
+    (l : Linkage) (bodies1 bodies2 : ℕ → Body) → ((v : ℕ) → body_placeless (bodies1 v) ≡ body_placeless (bodies2 v)) → (input : List Record) (b : ℕ) → shown_placeless (ratfor l bodies1 b input) ≡ shown_placeless (ratfor l bodies2 b input)
 
 -- records that a program does not ask for don't change it: it asks for one that is not there only where it ends so
-abbrev pub UnaskedChangeNothing : Type 0
-UnaskedChangeNothing =
+abbrev pub RatforUnaskedChangeNothing : Type 0
+RatforUnaskedChangeNothing =
     (l : Linkage) (bodies : ℕ → Body) (input more : List Record) (b : ℕ) → ((p : Place) → (ratfor l bodies b input).end ≢ Ended (Trapped EndOfInput p)) → ratfor l bodies b (input ++ more) ≡ ratfor l bodies b input

@@ -1,5 +1,5 @@
 -- The definitions that the contracts of rat_tree cite.
-pub mod Commands
+pub mod Syntax
 pub mod Views
 pub mod Meaning
 pub mod Places

@@ -6,13 +6,14 @@ use Rattle.ground.specs.declared.place.Place.{Place}
 use Rattle.ground.specs.declared.value.Kind.TheVariants.{Integer}
 use Rattle.ground.specs.Content.{Content}
 use Rattle.f66_tree.specs.declared.expression.Operator.TheVariants.{Eq}
-use Rattle.f66_tree.specs.Forms.{Text, Formula, Formulas, Nought, Also, Act, Returns, Line}
+use Rattle.f66_tree.specs.Syntax.{Text, Formula, Formulas, NoFormula, AndFormula, Act, Return, Line}
 use Rattle.f66_tree.specs.World.{Record, World, GoesOn, Lost, Out, Gives, Halts, bind, settle, choose, counted, Shown, shown}
 use Rattle.f66_tree.specs.Units.{is_note, is_main, name_of, Spot, Linkage, Setting, Frame, moved_to, around}
 use Rattle.f66_tree.specs.Evaluation.{base, asked, operate, truth_in, store_at, value_of, asks}
-use Rattle.f66_tree.specs.Statements.{Exit, Next, To, Back, Loop, loop_start, loop_turn, does}
-use Rattle.f66_tree.specs.Execution.{has_label, runnable, Stand, stand, no_loops, nowhere, start, past_end, fetch}
-use Rattle.rat_tree.specs.Commands.{Command, Empty, Together, When, Either, Whilst, Through, Repeats, Until, Counts, Switches, Leaves, Turns, GivesBack, Plainly, Marked, Commands, NoCommand, AndCommand, Clauses, NoClause, AndClause}
+use Rattle.f66_tree.specs.Statements.{Exit, Normal, To, Back, LoopParameters, loop_start, loop_turn, does}
+use Rattle.f66_tree.specs.Execution.{has_label, runnable, Stand, stand, no_loops, nowhere, first_state, past_end, fetch}
+use Rattle.rat_tree.specs.Syntax.{Command, Empty, Block, If, IfElse, While, For, Repeat, RepeatUntil, Do, Switch, Break, Next, Plain, Labelled, Commands, NoCommand, AndCommand, Clauses, NoClause, AndClause}
+use Rattle.rat_tree.specs.Syntax as ratfor_tree
 
 -- how a statement is left: as usual, for a label, for the caller, or by leaving or turning a loop
 pub data Course : Type 0 where
@@ -23,32 +24,32 @@ pub data Course : Type 0 where
   Again : ℕ → Course
 
 abbrev pub course_of : Exit → Course
-course_of Next = Went
+course_of Normal = Went
 course_of (To l) = Jumps l
 course_of Back = Backs
 
 abbrev pub Flow : Type 0
 Flow = Out Course
 
-abbrev pub Then : Type 0
-Then = World → Flow
+abbrev pub Continuation : Type 0
+Continuation = World → Flow
 
-abbrev pub went : Then
+abbrev pub went : Continuation
 went w = Gives Went w
 
-abbrev pub stays : Then
+abbrev pub stays : Continuation
 stays w = Halts GoesOn w
 
 -- what comes after a statement that has ended as usual
-abbrev pub after : Then → Course → Then
+abbrev pub after : Continuation → Course → Continuation
 after go Went w = go w
 after go c w = Gives c w
 
-abbrev pub then_do : Flow → Then → Flow
+abbrev pub then_do : Flow → Continuation → Flow
 then_do flow go = bind flow (after go)
 
 -- what comes after a turn: it has ended as usual or by `next`, or `break` leaves the loop
-abbrev pub after_turn : Then → Course → Then
+abbrev pub after_turn : Continuation → Course → Continuation
 after_turn go Went w = go w
 after_turn go (Leave zero) w = Gives Went w
 after_turn go (Leave (suc k)) w = Gives (Leave k) w
@@ -56,7 +57,7 @@ after_turn go (Again zero) w = go w
 after_turn go (Again (suc k)) w = Gives (Again k) w
 after_turn go c w = Gives c w
 
-abbrev pub turned : Flow → Then → Flow
+abbrev pub turned : Flow → Continuation → Flow
 turned flow go = bind flow (after_turn go)
 
 abbrev pub pred_of : ℕ → ℕ
@@ -64,30 +65,30 @@ pred_of zero = zero
 pred_of (suc n) = n
 
 -- at most n turns of a loop: a test, the turn, and what stands after each turn, which may leave the loop
-abbrev pub turns : ℕ → (Then → Then → Then) → Then → (Then → Then → Then) → Then
+abbrev pub turns : ℕ → (Continuation → Continuation → Continuation) → Continuation → (Continuation → Continuation → Continuation) → Continuation
 turns zero top body bottom w = top stays went w
 turns (suc n) top body bottom w = top (λ w1. turned (body (counted w1)) (bottom (turns n top body bottom) went)) went w
 
-abbrev pub always : Then → Then → Then
+abbrev pub always : Continuation → Continuation → Continuation
 always go leave w = go w
 
 -- whether a statement has this label, and whether one does that stands directly in a list
-abbrev pub marks : ℕ → Command → Bool
-marks l (Plainly m p a) = if is_note a then false else has_label l m
-marks l (Marked m p s) = nat_eq m l
-marks l _ = false
+abbrev pub has_own_label : ℕ → Command → Bool
+has_own_label l (Plain m p a) = if is_note a then false else has_label l m
+has_own_label l (Labelled m p s) = nat_eq m l
+has_own_label l _ = false
 
 abbrev pub stands : ℕ → Commands → Bool
 stands l NoCommand = false
-stands l (AndCommand s ss) = marks l s || stands l ss
+stands l (AndCommand s ss) = has_own_label l s || stands l ss
 
 -- jumps to a label that stands directly in this list, at most n of them
-abbrev pub landing : ℕ → Commands → (ℕ → Then) → Course → Then
+abbrev pub landing : ℕ → Commands → (ℕ → Continuation) → Course → Continuation
 landing zero ss go (Jumps l) w = if stands l ss then Halts GoesOn w else Gives (Jumps l) w
 landing (suc n) ss go (Jumps l) w = if stands l ss then bind (go l (counted w)) (landing n ss go) else Gives (Jumps l) w
 landing n ss go c w = Gives c w
 
-abbrev pub landed : ℕ → Commands → (ℕ → Then) → Flow → Flow
+abbrev pub landed : ℕ → Commands → (ℕ → Continuation) → Flow → Flow
 landed n ss go flow = bind flow (landing n ss go)
 
 -- where the nodes of expressions add nothing to the work
@@ -96,87 +97,87 @@ quiet s = record { linked = s.linked; call = s.call; begin = s.begin; most = s.m
 
 module _ (s : Setting) (f : Frame) where
   -- chooses by a condition in the statement at p
-  abbrev pub decides : Place → Formula → Then → Then → Then
+  abbrev pub decides : Place → Formula → Continuation → Continuation → Continuation
   decides p e yea nay w = bind (asks s (moved_to p f) e w) (λ holds w1. choose holds (yea w1) (nay w1))
 
   -- a plain statement begins; a statement that is not executed does nothing
-  abbrev pub plainly : Place → Act → Then
-  plainly p a w = if is_note a then Gives Went w else bind (does s (moved_to p f) a (counted w)) (λ y w1. Gives (course_of y) w1)
+  abbrev pub plain_statement : Place → Act → Continuation
+  plain_statement p a w = if is_note a then Gives Went w else bind (does s (moved_to p f) a (counted w)) (λ y w1. Gives (course_of y) w1)
 
   -- the label of a statement that is executed is passed, which adds one to the work
-  abbrev pub labelled : Option ℕ → Place → Act → Then
-  labelled None p a w = plainly p a w
-  labelled (Some l) p a w = if is_note a then Gives Went w else plainly p a (counted w)
+  abbrev pub passed_label : Option ℕ → Place → Act → Continuation
+  passed_label None p a w = plain_statement p a w
+  passed_label (Some l) p a w = if is_note a then Gives Went w else plain_statement p a (counted w)
 
   -- the part of a loop before a turn, and the part after it; a missing one does nothing
-  abbrev pub tested : Place → Option Formula → Then → Then → Then
+  abbrev pub tested : Place → Option Formula → Continuation → Continuation → Continuation
   tested p None yea nay w = yea w
   tested p (Some e) yea nay w = decides p e yea nay w
 
-  abbrev pub performed : Place → Option Act → Then → Then
+  abbrev pub performed : Place → Option Act → Continuation → Continuation
   performed p None go w = go w
-  performed p (Some a) go w = then_do (plainly p a w) go
+  performed p (Some a) go w = then_do (plain_statement p a w) go
 
   -- what stands after a turn of a `for`, and of a `repeat` with `until`
-  abbrev pub stepped : Place → Option Act → Then → Then → Then
+  abbrev pub stepped : Place → Option Act → Continuation → Continuation → Continuation
   stepped p a go leave w = performed p a go w
 
-  abbrev pub until : Place → Formula → Then → Then → Then
+  abbrev pub until : Place → Formula → Continuation → Continuation → Continuation
   until p e go leave w = decides p e leave go w
 
   -- at most n turns of a `do`
-  abbrev pub counts : ℕ → Place → Text → Loop → Then → Then
-  counts zero p x k body w = stays w
-  counts (suc n) p x k body w =
-      turned (body (counted w)) (λ w1. bind (loop_turn s (moved_to p f) x k w1) (λ goes_on w2. choose goes_on (counts n p x k body w2) (Gives Went w2)))
+  abbrev pub do_turns : ℕ → Place → Text → LoopParameters → Continuation → Continuation
+  do_turns zero p x k body w = stays w
+  do_turns (suc n) p x k body w =
+      turned (body (counted w)) (λ w1. bind (loop_turn s (moved_to p f) x k w1) (λ goes_on w2. choose goes_on (do_turns n p x k body w2) (Gives Went w2)))
 
   -- `return (e)` stores in the function's name, and returns
-  abbrev pub gives_back : Place → Option Formula → Then
-  gives_back p None w = plainly p Returns w
+  abbrev pub gives_back : Place → Option Formula → Continuation
+  gives_back p None w = plain_statement p Return w
   gives_back p (Some e) w =
       bind (settle p (base s f (name_of (around s f).header)) (counted w)) (λ spot w1. bind (value_of s (moved_to p f) e w1) (λ v w2.
-      bind (store_at s (moved_to p f) spot v w2) (λ _ w3. bind (does s (moved_to p f) Returns w3) (λ y w4. Gives (course_of y) w4))))
+      bind (store_at s (moved_to p f) spot v w2) (λ _ w3. bind (does s (moved_to p f) Return w3) (λ y w4. Gives (course_of y) w4))))
 
   -- A switch takes its value once. It reads it as an integer for each case expression, in order, and compares.
   abbrev pub is_case : Place → Content → Formula → World → Out Bool
   is_case p v e w =
       bind (settle p (asked Integer v) w) (λ v1 w1. bind (value_of s (moved_to p f) e w1) (λ u w2. bind (settle p (operate Eq v1 u) w2) (λ t w3. settle p (truth_in t) w3)))
 
-  abbrev pub fits : Place → Content → Formulas → Then → Then → Then
-  fits p v Nought yea nay w = nay w
-  fits p v (Also e es) yea nay w = bind (is_case p v e (counted w)) (λ holds w1. choose holds (yea w1) (fits p v es yea nay w1))
+  abbrev pub fits_case : Place → Content → Formulas → Continuation → Continuation → Continuation
+  fits_case p v NoFormula yea nay w = nay w
+  fits_case p v (AndFormula e es) yea nay w = bind (is_case p v e (counted w)) (λ holds w1. choose holds (yea w1) (fits_case p v es yea nay w1))
 
   -- what a statement does, where each loop makes at most b turns in one entry, and each list at most b jumps
   module _ (b : ℕ) where
     abbrev mutual
       pub meaning : Command → World → Flow
       meaning (Empty p) w = Gives Went (counted w)
-      meaning (Together p ss) w = landed b ss (λ l. run_from ss (Some l)) (run_from ss None (counted w))
-      meaning (When p e c) w = decides p e (meaning c) went (counted w)
-      meaning (Either p e c d) w = decides p e (meaning c) (meaning d) (counted w)
-      meaning (Whilst p e c) w = turns b (tested p (Some e)) (meaning c) always (counted w)
-      meaning (Through p first e step c) w = performed p first (turns b (tested p e) (meaning c) (stepped p step)) (counted w)
-      meaning (Repeats p c) w = turns b (tested p None) (meaning c) always (counted w)
-      meaning (Until p c e q) w = turns b (tested p None) (meaning c) (until q e) (counted w)
-      meaning (Counts p x a z d c) w = bind (loop_start s (moved_to p f) x a z d (counted w)) (λ k w1. counts b p x k (meaning c) w1)
-      meaning (Switches p e cs) w = bind (value_of s (moved_to p f) e (counted w)) (λ v w1. picked v cs (defaulted cs) w1)
-      meaning (Leaves p n) w = Gives (Leave (pred_of n)) (counted w)
-      meaning (Turns p n) w = Gives (Again (pred_of n)) (counted w)
-      meaning (GivesBack p e) w = gives_back p e w
-      meaning (Plainly l p a) w = labelled l p a w
-      meaning (Marked l p c) w = meaning c (counted w)
+      meaning (Block p ss) w = landed b ss (λ l. run_from ss (Some l)) (run_from ss None (counted w))
+      meaning (If p e c) w = decides p e (meaning c) went (counted w)
+      meaning (IfElse p e c d) w = decides p e (meaning c) (meaning d) (counted w)
+      meaning (While p e c) w = turns b (tested p (Some e)) (meaning c) always (counted w)
+      meaning (For p first e step c) w = performed p first (turns b (tested p e) (meaning c) (stepped p step)) (counted w)
+      meaning (Repeat p c) w = turns b (tested p None) (meaning c) always (counted w)
+      meaning (RepeatUntil p c e q) w = turns b (tested p None) (meaning c) (until q e) (counted w)
+      meaning (Do p x a z d c) w = bind (loop_start s (moved_to p f) x a z d (counted w)) (λ k w1. do_turns b p x k (meaning c) w1)
+      meaning (Switch p e cs) w = bind (value_of s (moved_to p f) e (counted w)) (λ v w1. picked v cs (defaulted cs) w1)
+      meaning (Break p n) w = Gives (Leave (pred_of n)) (counted w)
+      meaning (Next p n) w = Gives (Again (pred_of n)) (counted w)
+      meaning (ratfor_tree.Return p e) w = gives_back p e w
+      meaning (Plain l p a) w = passed_label l p a w
+      meaning (Labelled l p c) w = meaning c (counted w)
 
       -- a list from its start, or from a label that stands directly in it
       pub run_from : Commands → Option ℕ → World → Flow
       run_from NoCommand from w = Gives Went w
       run_from (AndCommand c ss) None w = then_do (meaning c w) (run_from ss None)
-      run_from (AndCommand c ss) (Some l) w = if marks l c then (then_do (meaning c w) (run_from ss None)) else (run_from ss (Some l) w)
+      run_from (AndCommand c ss) (Some l) w = if has_own_label l c then (then_do (meaning c w) (run_from ss None)) else (run_from ss (Some l) w)
 
       -- the first clause whose tests fit, else the default
-      pub picked : Content → Clauses → Then → World → Flow
+      pub picked : Content → Clauses → Continuation → World → Flow
       picked v NoClause other w = other w
       picked v (AndClause es fallback ss p cs) other w =
-          fits p v es (λ w1. landed b ss (λ l. run_from ss (Some l)) (run_from ss None w1)) (picked v cs other) w
+          fits_case p v es (λ w1. landed b ss (λ l. run_from ss (Some l)) (run_from ss None w1)) (picked v cs other) w
 
       pub defaulted : Clauses → World → Flow
       defaulted NoClause w = Gives Went w
@@ -226,4 +227,4 @@ module _ (l : Linkage) (bodies : ℕ → Body) (b : ℕ) where
 
   -- a program's run over these input records
   abbrev pub ratfor : List Record → Shown
-  ratfor input = shown (source_call l.deep l.main [] (record { state = start l input; left = 0; count = 0 }))
+  ratfor input = shown (source_call l.deep l.main [] (record { state = first_state l input; left = 0; count = 0 }))

@@ -1,27 +1,27 @@
 -- Programs with their places changed.
 use Rattle.std.specs.Prelude.{map}
 use Rattle.ground.specs.declared.place.Place.{Place}
-use Rattle.f66_tree.specs.Forms.{Line}
-use Rattle.rat_tree.specs.Commands.{Command, Empty, Together, When, Either, Whilst, Through, Repeats, Until, Counts, Switches, Leaves, Turns, GivesBack, Plainly, Marked, Commands, NoCommand, AndCommand, Clauses, NoClause, AndClause}
+use Rattle.f66_tree.specs.Syntax.{Line}
+use Rattle.rat_tree.specs.Syntax.{Command, Empty, Block, If, IfElse, While, For, Repeat, RepeatUntil, Do, Switch, Break, Next, Return, Plain, Labelled, Commands, NoCommand, AndCommand, Clauses, NoClause, AndClause}
 use Rattle.rat_tree.specs.Meaning.{Body, Ours, Theirs}
 
 abbrev mutual
   pub placed : (Place → Place) → Command → Command
   placed g (Empty p) = Empty (g p)
-  placed g (Together p ss) = Together (g p) (all_placed g ss)
-  placed g (When p e c) = When (g p) e (placed g c)
-  placed g (Either p e c d) = Either (g p) e (placed g c) (placed g d)
-  placed g (Whilst p e c) = Whilst (g p) e (placed g c)
-  placed g (Through p first e step c) = Through (g p) first e step (placed g c)
-  placed g (Repeats p c) = Repeats (g p) (placed g c)
-  placed g (Until p c e q) = Until (g p) (placed g c) e (g q)
-  placed g (Counts p x a z d c) = Counts (g p) x a z d (placed g c)
-  placed g (Switches p e cs) = Switches (g p) e (clauses_placed g cs)
-  placed g (Leaves p n) = Leaves (g p) n
-  placed g (Turns p n) = Turns (g p) n
-  placed g (GivesBack p e) = GivesBack (g p) e
-  placed g (Plainly o p a) = Plainly o (g p) a
-  placed g (Marked m p c) = Marked m (g p) (placed g c)
+  placed g (Block p ss) = Block (g p) (all_placed g ss)
+  placed g (If p e c) = If (g p) e (placed g c)
+  placed g (IfElse p e c d) = IfElse (g p) e (placed g c) (placed g d)
+  placed g (While p e c) = While (g p) e (placed g c)
+  placed g (For p first e step c) = For (g p) first e step (placed g c)
+  placed g (Repeat p c) = Repeat (g p) (placed g c)
+  placed g (RepeatUntil p c e q) = RepeatUntil (g p) (placed g c) e (g q)
+  placed g (Do p x a z d c) = Do (g p) x a z d (placed g c)
+  placed g (Switch p e cs) = Switch (g p) e (clauses_placed g cs)
+  placed g (Break p n) = Break (g p) n
+  placed g (Next p n) = Next (g p) n
+  placed g (Return p e) = Return (g p) e
+  placed g (Plain o p a) = Plain o (g p) a
+  placed g (Labelled m p c) = Labelled m (g p) (placed g c)
 
   pub all_placed : (Place → Place) → Commands → Commands
   all_placed g NoCommand = NoCommand

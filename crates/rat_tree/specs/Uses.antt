@@ -1,8 +1,8 @@
 -- The names that commands use: here each of them is one of which something holds.
 use Rattle.std.specs.Prelude.{Option, Some, None, ⊤}
-use Rattle.f66_tree.specs.Forms.{Text, Formula, Act}
+use Rattle.f66_tree.specs.Syntax.{Text, Formula, Act}
 use Rattle.f66_tree.specs.Uses.{Names, NamesOfAll, NameOfPar, NamesOfAct, NamesOfLines}
-use Rattle.rat_tree.specs.Commands.{Command, Empty, Together, When, Either, Whilst, Through, Repeats, Until, Counts, Switches, Leaves, Turns, GivesBack, Plainly, Marked, Commands, NoCommand, AndCommand, Clauses, NoClause, AndClause}
+use Rattle.rat_tree.specs.Syntax.{Command, Empty, Block, If, IfElse, While, For, Repeat, RepeatUntil, Do, Switch, Break, Next, Return, Plain, Labelled, Commands, NoCommand, AndCommand, Clauses, NoClause, AndClause}
 use Rattle.rat_tree.specs.Meaning.{Body, Ours, Theirs}
 
 abbrev pub NamesIfAny : (Text → Type 0) → Option Formula → Type 0
@@ -15,21 +15,21 @@ ActIfAny K (Some a) = NamesOfAct K a
 
 abbrev mutual
   pub NamesOfCommand : (Text → Type 0) → Command → Type 0
-  NamesOfCommand K (Together p ss) = NamesOfCommands K ss
-  NamesOfCommand K (When p e c) = Names K e × NamesOfCommand K c
-  NamesOfCommand K (Either p e c d) = Names K e × NamesOfCommand K c × NamesOfCommand K d
-  NamesOfCommand K (Whilst p e c) = Names K e × NamesOfCommand K c
-  NamesOfCommand K (Through p first e step c) = ActIfAny K first × NamesIfAny K e × ActIfAny K step × NamesOfCommand K c
-  NamesOfCommand K (Repeats p c) = NamesOfCommand K c
-  NamesOfCommand K (Until p c e q) = NamesOfCommand K c × Names K e
-  NamesOfCommand K (Counts p x a z d c) = K x × NameOfPar K a × NameOfPar K z × NameOfPar K d × NamesOfCommand K c
-  NamesOfCommand K (Switches p e cs) = Names K e × NamesOfClauses K cs
-  NamesOfCommand K (GivesBack p e) = NamesIfAny K e
-  NamesOfCommand K (Plainly o p a) = NamesOfAct K a
-  NamesOfCommand K (Marked m p c) = NamesOfCommand K c
+  NamesOfCommand K (Block p ss) = NamesOfCommands K ss
+  NamesOfCommand K (If p e c) = Names K e × NamesOfCommand K c
+  NamesOfCommand K (IfElse p e c d) = Names K e × NamesOfCommand K c × NamesOfCommand K d
+  NamesOfCommand K (While p e c) = Names K e × NamesOfCommand K c
+  NamesOfCommand K (For p first e step c) = ActIfAny K first × NamesIfAny K e × ActIfAny K step × NamesOfCommand K c
+  NamesOfCommand K (Repeat p c) = NamesOfCommand K c
+  NamesOfCommand K (RepeatUntil p c e q) = NamesOfCommand K c × Names K e
+  NamesOfCommand K (Do p x a z d c) = K x × NameOfPar K a × NameOfPar K z × NameOfPar K d × NamesOfCommand K c
+  NamesOfCommand K (Switch p e cs) = Names K e × NamesOfClauses K cs
+  NamesOfCommand K (Return p e) = NamesIfAny K e
+  NamesOfCommand K (Plain o p a) = NamesOfAct K a
+  NamesOfCommand K (Labelled m p c) = NamesOfCommand K c
   NamesOfCommand K (Empty p) = ⊤
-  NamesOfCommand K (Leaves p n) = ⊤
-  NamesOfCommand K (Turns p n) = ⊤
+  NamesOfCommand K (Break p n) = ⊤
+  NamesOfCommand K (Next p n) = ⊤
 
   pub NamesOfCommands : (Text → Type 0) → Commands → Type 0
   NamesOfCommands K NoCommand = ⊤

@@ -3,7 +3,7 @@ use Rattle.std.specs.Prelude.{ℕ, Option, None, Some, List, [], ◌∷◌, map}
 use Rattle.ground.specs.declared.place.Place.{Place}
 use Rattle.f66_tree.specs.declared.expression.Expr.{Expr}
 use Rattle.f66_tree.specs.declared.statement.StmtKind.{StmtKind}
-use Rattle.f66_tree.specs.Forms.{Formula, Act}
+use Rattle.f66_tree.specs.Syntax.{Formula, Act}
 use Rattle.f66_tree.specs.Views.{formula_of, formulas_of, par_of, act_of, header_of}
 use Rattle.rat_tree.specs.declared.program.RatStmt.{RatStmt}
 use Rattle.rat_tree.specs.declared.program.RatCase.{RatCase, RatCase'}
@@ -11,7 +11,7 @@ use Rattle.rat_tree.specs.declared.program.RatKind.{RatKind}
 use Rattle.rat_tree.specs.declared.program.RatKind.TheBlock as k
 use Rattle.rat_tree.specs.declared.program.RatUnit.{RatUnit}
 use Rattle.rat_tree.specs.declared.program.RatProgram as programs
-use Rattle.rat_tree.specs.Commands.{Command, Empty, Together, When, Either, Whilst, Through, Repeats, Until, Counts, Switches, Leaves, Turns, GivesBack, Plainly, Marked, Commands, NoCommand, AndCommand, Clauses, NoClause, AndClause, RatRoutine, RatProgram}
+use Rattle.rat_tree.specs.Syntax.{Command, Empty, Block, If, IfElse, While, For, Repeat, RepeatUntil, Do, Switch, Break, Next, Return, Plain, Labelled, Commands, NoCommand, AndCommand, Clauses, NoClause, AndClause, RatRoutine, RatProgram}
 
 abbrev pub act_if_any : Option StmtKind → Option Act
 act_if_any None = None
@@ -22,32 +22,32 @@ formula_if_any None = None
 formula_if_any (Some e) = Some (formula_of e)
 
 abbrev pub repeated : Place → Command → Option (Expr × Place) → Command
-repeated p s None = Repeats p s
-repeated p s (Some u) = Until p s (formula_of u.0) u.1
+repeated p s None = Repeat p s
+repeated p s (Some u) = RepeatUntil p s (formula_of u.0) u.1
 
 -- a statement that isn't plain, with its label
 abbrev pub labelled : Option ℕ → Place → Command → Command
 labelled None p c = c
-labelled (Some l) p c = Marked l p c
+labelled (Some l) p c = Labelled l p c
 
 abbrev mutual
   pub command_of : Option ℕ → Place → RatKind → Command
   command_of l p k.Empty = labelled l p (Empty p)
-  command_of l p (k.Block' shape all) = labelled l p (Together p (row_commands all))
+  command_of l p (k.Block' shape all) = labelled l p (Block p (row_commands all))
   command_of l p (k.If' e q l1 p1 s other) = labelled l p (either_of p (formula_of e) (command_of l1 p1 s) other)
-  command_of l p (k.While' e q l1 p1 s) = labelled l p (Whilst p (formula_of e) (command_of l1 p1 s))
-  command_of l p (k.For' a e b q l1 p1 s) = labelled l p (Through p (act_if_any a) (formula_if_any e) (act_if_any b) (command_of l1 p1 s))
+  command_of l p (k.While' e q l1 p1 s) = labelled l p (While p (formula_of e) (command_of l1 p1 s))
+  command_of l p (k.For' a e b q l1 p1 s) = labelled l p (For p (act_if_any a) (formula_if_any e) (act_if_any b) (command_of l1 p1 s))
   command_of l p (k.Repeat' q l1 p1 s o) = labelled l p (repeated p (command_of l1 p1 s) o)
-  command_of l p (k.Do' x a b c q l1 p1 s) = labelled l p (Counts p x (par_of a) (par_of b) (par_of c) (command_of l1 p1 s))
-  command_of l p (k.Switch' e shape all) = labelled l p (Switches p (formula_of e) (row_clauses all))
-  command_of l p (k.Break n) = labelled l p (Leaves p n)
-  command_of l p (k.Next n) = labelled l p (Turns p n)
-  command_of l p (k.Return e) = labelled l p (GivesBack p (formula_if_any e))
-  command_of l p (k.Plain a) = Plainly l p (act_of a)
+  command_of l p (k.Do' x a b c q l1 p1 s) = labelled l p (Do p x (par_of a) (par_of b) (par_of c) (command_of l1 p1 s))
+  command_of l p (k.Switch' e shape all) = labelled l p (Switch p (formula_of e) (row_clauses all))
+  command_of l p (k.Break n) = labelled l p (Break p n)
+  command_of l p (k.Next n) = labelled l p (Next p n)
+  command_of l p (k.Return e) = labelled l p (Return p (formula_if_any e))
+  command_of l p (k.Plain a) = Plain l p (act_of a)
 
   pub either_of : Place → Formula → Command → k.Held-RatKind-If-2 → Command
-  either_of p e s k.None' = When p e s
-  either_of p e s (k.Some' q l1 p1 t) = Either p e s (command_of l1 p1 t)
+  either_of p e s k.None' = If p e s
+  either_of p e s (k.Some' q l1 p1 t) = IfElse p e s (command_of l1 p1 t)
 
   pub row_commands : {m : _} → k.Row_of-RatStmt m → Commands
   row_commands k.end_of-RatStmt = NoCommand
@@ -74,8 +74,8 @@ abbrev pub clauses : List RatCase → Clauses
 clauses [] = NoClause
 clauses (c ∷ cs) = clause_then c (clauses cs)
 
-abbrev pub routine_of : RatUnit → RatRoutine
-routine_of u = record { header = header_of u.header; body = commands u.body.items; place = u.place }
+abbrev pub rat_routine_of : RatUnit → RatRoutine
+rat_routine_of u = record { header = header_of u.header; body = commands u.body.items; place = u.place }
 
 abbrev pub program_of : programs.RatProgram → RatProgram
-program_of p = record { routines = map routine_of p.units.items; finish = p.finish }
+program_of p = record { routines = map rat_routine_of p.units.items; finish = p.finish }

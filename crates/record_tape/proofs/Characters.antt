@@ -14,10 +14,10 @@ use Rattle.f66_tree.specs.declared.editing.EditKind.TheVariants as edits
 use Rattle.f66_tree.specs.declared.editing.Mark.{Mark}
 use Rattle.f66_tree.specs.declared.editing.Mark.TheVariants.{Between, Due, Complete, Over}
 use Rattle.f66_tree.specs.Fields.{Step, Takes, Blanks, Chars, Slash, has_item}
-use Rattle.f66_tree.specs.Turns.{Hand, ◌>>=◌, blanked, lettered, suits, stands, find, next_turn, line_of, is_over, put_letter, take_letter}
+use Rattle.f66_tree.specs.Turns.{Hand, ◌>>=◌, blanked, lettered, suits, hand_at, find, next_turn, line_in_hand, is_over, put_letter, take_letter}
 use Rattle.f66_tree.specs.Editing.{Files}
 use Rattle.f66_tree.specs.World.{Yields, tape_of, lifted, then_try}
-use Rattle.f66_tree.specs.Records.{placed, put_by, take_by, handed}
+use Rattle.f66_tree.specs.Records.{tape_placed, put_by, take_by, handed}
 use Rattle.format_io.specs.Answers.{due_of}
 use Rattle.format_io.specs.Letters.{PutsLetters, TakesLetters}
 use Rattle.record_tape.specs.Letters.{SendsLetters, GetsLetters}
@@ -32,14 +32,14 @@ Waits (Ok (RecordDone, h)) = Unit {0}
 Waits (Err e) = Unit {0}
 
 find_waits : (way : Way) (cycle : List Step) (k : Kind) (rest : List Step) (line : List ℕ) → Waits (find way cycle k rest line)
-find_waits way cycle k [] line = elim (has_item cycle) as (λ b. Waits (if b then Ok (RecordDone, stands way cycle cycle line Complete) else Err FormatMismatch)) [ true ↦ tt | false ↦ tt ]
-find_waits way cycle k (Takes j w ∷ rest) line = elim (suits k j) as (λ b. Waits (if b then Ok (Ready j, stands way rest cycle line (Due j w)) else Err FormatMismatch)) [ true ↦ refl | false ↦ tt ]
+find_waits way cycle k [] line = elim (has_item cycle) as (λ b. Waits (if b then Ok (RecordDone, hand_at way cycle cycle line Complete) else Err FormatMismatch)) [ true ↦ tt | false ↦ tt ]
+find_waits way cycle k (Takes j w ∷ rest) line = elim (suits k j) as (λ b. Waits (if b then Ok (Ready j, hand_at way rest cycle line (Due j w)) else Err FormatMismatch)) [ true ↦ refl | false ↦ tt ]
 find_waits way cycle k (Blanks n ∷ rest) line = elim (blanked way n line) as (λ r. Waits (r >>= λ l. find way cycle k rest l)) [ Ok l ↦ find_waits way cycle k rest l | Err e ↦ tt ]
 find_waits way cycle k (Chars text ∷ rest) line = elim (lettered way text line) as (λ r. Waits (r >>= λ l. find way cycle k rest l)) [ Ok l ↦ find_waits way cycle k rest l | Err e ↦ tt ]
 find_waits way cycle k (Slash ∷ rest) line = tt
 
 ready_waits : (h h1 : Hand) (k : Kind) (j : EditKind) → next_turn h k ≡ Ok (Ready j, h1) → due_of h1.mark ≡ Some j
-ready_waits h h1 k j e = subst Waits e (find_waits h.way h.cycle k h.rest (line_of h.way h.mark h.line))
+ready_waits h h1 k j e = subst Waits e (find_waits h.way h.cycle k h.rest (line_in_hand h.way h.mark h.line))
 
 -- ---- a character goes out or comes in by it ----
 
@@ -73,7 +73,7 @@ sends (c ∷ cs) old new f p =
     let due = ready_waits old p.0 Integer edits.Letter p.2 in (
       tape_of p.0 f,
       tape_of p.1 f,
-      ap (placed (tape_of old f)) (ready_is old p.0 Integer f edits.Letter p.2),
+      ap (tape_placed (tape_of old f)) (ready_is old p.0 Integer f edits.Letter p.2),
       ap (handed (tape_of p.0 f)) (put_by_letter p.0.mark p.0 (pos c) due ∙ ap lifted p.3),
       sends cs p.1 new f p.4,
     )
@@ -84,7 +84,7 @@ gets (c ∷ cs) old new f p =
     let due = ready_waits old p.0 Integer edits.Letter p.2 in (
       tape_of p.0 f,
       tape_of p.1 f,
-      ap (placed (tape_of old f)) (ready_is old p.0 Integer f edits.Letter p.2),
+      ap (tape_placed (tape_of old f)) (ready_is old p.0 Integer f edits.Letter p.2),
       ap (λ t. then_try t (λ x. Yields (x.0, tape_of x.1 f))) (take_by_letter p.0.mark p.0 due ∙ ap (λ r. lifted (r >>= λ x. Ok (Whole x.0, x.1))) p.3),
       gets cs p.1 new f p.4,
     )

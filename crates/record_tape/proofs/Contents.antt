@@ -17,14 +17,14 @@ use Rattle.format_io.specs.Answers.{due_of}
 use Rattle.record_tape.specs.declared.tape.Break.{Break}
 use Rattle.record_tape.specs.declared.tape.Break.TheVariants.{Trapped}
 use Rattle.record_tape.specs.Moves.{IsBroken, IsPut}
-use Rattle.f66_tree.specs.Fielded.{field, whole_text, truth_text, whole_of, truth_of, letter_of, signed, ranged, with_sign, sign_of, minus, digits_of, unblanked, is_character}
-use Rattle.f66_tree.specs.Turns.{Hand, ◌>>=◌, extended, with_letter, is_over, width_of, past, put, put_whole, put_truth, put_letter, take_whole, take_truth, take_letter}
+use Rattle.f66_tree.specs.Fielded.{field, whole_text, truth_text, whole_of, truth_of, letter_of, signed, ranged, signed_value, sign_of, minus, digits_of, unblanked, is_character}
+use Rattle.f66_tree.specs.Turns.{Hand, ◌>>=◌, extended, with_letter, is_over, width_of, past, put_text, put_whole, put_truth, put_letter, take_whole, take_truth, take_letter}
 
 abbrev Goes : Result Hand Trap → Type 0
 Goes (Ok h) = is_over h.mark ≡ false
 Goes (Err e) = Unit {0}
 
-put_goes : (h : Hand) (text : List ℕ) → Goes (put h text)
+put_goes : (h : Hand) (text : List ℕ) → Goes (put_text h text)
 put_goes h text = elim (extended h.line text) as (λ r. Goes (r >>= λ line. Ok (record h { line = line; mark = Between }))) [ Ok line ↦ refl | Err e ↦ tt ]
 
 pub whole_out : (h h1 : Hand) (n : ℤ) → put_whole h n ≡ Ok h1 → is_over h1.mark ≡ false
@@ -91,7 +91,7 @@ sign_in : (b : Bool) (o : Option ℕ) → Holds IsInRange (ranged (sign_of b) o)
 sign_in b None = tt
 sign_in b (Some n) = go (nat_le n 2147483647) refl
   where
-    go : (v : Bool) → nat_le n 2147483647 ≡ v → Holds IsInRange (with_sign (sign_of b) (if v then Some n else None))
+    go : (v : Bool) → nat_le n 2147483647 ≡ v → Holds IsInRange (signed_value (sign_of b) (if v then Some n else None))
     go true e = small b n e
     go false e = tt
 

@@ -8,8 +8,8 @@ use Rattle.f66_tree.specs.declared.editing.Turn.{Turn}
 use Rattle.f66_tree.specs.declared.editing.Mark.{Mark}
 use Rattle.f66_tree.specs.declared.editing.Mark.TheVariants.{Between, Due, Complete, Over}
 use Rattle.f66_tree.specs.Fields.{Step, Takes, Blanks, Chars, Slash}
-use Rattle.f66_tree.specs.Turns.{Hand, ◌>>=◌, blanked, lettered, line_of, close, last_turn, is_over}
-use Rattle.f66_tree.specs.Editing.{Files, Break, within, fetched, arrived, changed_by, to_end, ended_by, followed_end}
+use Rattle.f66_tree.specs.Turns.{Hand, ◌>>=◌, blanked, lettered, line_in_hand, end_turn, last_turn, is_over}
+use Rattle.f66_tree.specs.Editing.{Files, Break, with_records, next_record, arrived, changed_by, to_end, finished_by, followed_end}
 use Rattle.format_io.proofs.TurnsOfItems.{to_end_is}
 use Rattle.record_tape.specs.Moves.{Changes, left_of}
 
@@ -17,9 +17,9 @@ abbrev closing : Hand → Files → Result (Hand × Files) Break
 closing h f = if is_over h.mark then Ok (h, f) else to_end h f
 
 closing_by : (h : Hand) (f : Files) (b : Bool) → is_over h.mark ≡ b
-    → (if b then Ok (h, f) else to_end h f) ≡ followed_end f (if b then Ok (None, h) else close h.way h.cycle h.rest (line_of h.way h.mark h.line))
+    → (if b then Ok (h, f) else to_end h f) ≡ followed_end f (if b then Ok (None, h) else end_turn h.way h.cycle h.rest (line_in_hand h.way h.mark h.line))
 closing_by h f true e = refl
-closing_by h f false e = to_end_is h f e ∙ ap (λ b. followed_end f (if b then Ok (None, h) else close h.way h.cycle h.rest (line_of h.way h.mark h.line))) e
+closing_by h f false e = to_end_is h f e ∙ ap (λ b. followed_end f (if b then Ok (None, h) else end_turn h.way h.cycle h.rest (line_in_hand h.way h.mark h.line))) e
 
 closing_is : (h : Hand) (f : Files) → closing h f ≡ followed_end f (last_turn h)
 closing_is h f = closing_by h f (is_over h.mark) refl
@@ -37,22 +37,22 @@ settled : (h : Hand) (f : Files) (b : Bool) → is_over h.mark ≡ b → closing
 settled h f b e = ap (λ v. if v then Ok (h, f) else to_end h f) e
 
 goes_on : (way : Way) (h1 h2 : Hand) (f f2 : Files) → h1.way ≡ way → changed_by way h1 f ≡ Ok (h2, f2) → is_over h2.mark ≡ false
-    → (within f (changed_by h1.way h1 f) >>= λ x. to_end x.0 x.1) ≡ closing h2 f2
+    → (with_records f (changed_by h1.way h1 f) >>= λ x. to_end x.0 x.1) ≡ closing h2 f2
 goes_on way h1 h2 f f2 same made still =
-    ap (λ w. within f (changed_by w h1 f) >>= λ x. to_end x.0 x.1) same
-    ∙ ap (λ r. within f r >>= λ x. to_end x.0 x.1) made
+    ap (λ w. with_records f (changed_by w h1 f) >>= λ x. to_end x.0 x.1) same
+    ∙ ap (λ r. with_records f r >>= λ x. to_end x.0 x.1) made
     ∙ sym (settled h2 f2 false still)
 
 ended_is : (way : Way) (m : Mark) (h1 h2 : Hand) (f f2 : Files) → h1.way ≡ way → changed_by way h1 f ≡ Ok (h2, f2) → Changes way m h2.mark
-    → ended_by way m h1 f ≡ closing h2 f2
-ended_is Writing Over h1 h2 f f2 same made mark = ap (within f) made ∙ sym (settled h2 f2 true (ap is_over mark))
+    → finished_by way m h1 f ≡ closing h2 f2
+ended_is Writing Over h1 h2 f f2 same made mark = ap (with_records f) made ∙ sym (settled h2 f2 true (ap is_over mark))
 ended_is Writing Between h1 h2 f f2 same made mark = goes_on Writing h1 h2 f f2 same made (ap is_over mark)
 ended_is Writing (Due k w) h1 h2 f f2 same made mark = goes_on Writing h1 h2 f f2 same made (ap is_over mark)
 ended_is Writing Complete h1 h2 f f2 same made mark = goes_on Writing h1 h2 f f2 same made (ap is_over mark)
 ended_is Reading m h1 h2 f f2 same made mark = goes_on Reading h1 h2 f f2 same made (ap is_over mark)
 
-ended_alike : (h : Hand) (way : Way) (f : Files) → h.way ≡ way → ended_by h.way h.mark h f ≡ ended_by way h.mark h f
-ended_alike h way f same = ap (λ w. ended_by w h.mark h f) same
+ended_alike : (h : Hand) (way : Way) (f : Files) → h.way ≡ way → finished_by h.way h.mark h f ≡ finished_by way h.mark h f
+ended_alike h way f same = ap (λ w. finished_by w h.mark h f) same
 
 -- a record is done, and the next one begins, or none
 pub after_is : (h h1 h2 : Hand) (t : Turn) (way : Way) (f f2 : Files) → last_turn h ≡ Ok (Some t, h1) → h1.way ≡ way → changed_by way h1 f ≡ Ok (h2, f2)
@@ -64,10 +64,10 @@ abbrev IsErr : Result (Hand × Files) Trap → Type 0
 IsErr (Ok x) = ⊥
 IsErr (Err e) = Unit {0}
 
-ended_cut : (way : Way) (m : Mark) (h1 : Hand) (f : Files) (t : Trap) → h1.way ≡ way → changed_by way h1 f ≡ Err t → ended_by way m h1 f ≡ Err (t, f)
+ended_cut : (way : Way) (m : Mark) (h1 : Hand) (f : Files) (t : Trap) → h1.way ≡ way → changed_by way h1 f ≡ Err t → finished_by way m h1 f ≡ Err (t, f)
 ended_cut Writing m h1 f t same made = absurd (subst IsErr (sym made) tt)
 ended_cut Reading m h1 f t same made =
-    ap (λ w. within f (changed_by w h1 f) >>= λ x. to_end x.0 x.1) same ∙ ap (λ r. within f r >>= λ x. to_end x.0 x.1) made
+    ap (λ w. with_records f (changed_by w h1 f) >>= λ x. to_end x.0 x.1) same ∙ ap (λ r. with_records f r >>= λ x. to_end x.0 x.1) made
 
 -- a record is done, and no other comes
 pub lacking_is : (h h1 : Hand) (t : Turn) (way : Way) (f : Files) (e : Trap) → last_turn h ≡ Ok (Some t, h1) → h1.way ≡ way → changed_by way h1 f ≡ Err e
@@ -91,19 +91,19 @@ more n m way (Err e) le less = tt
 more n m way (Ok (None, h)) le less = tt
 more n m way (Ok (Some t, h)) le less = omega (arith, le, less)
 
-close_lessens : (way : Way) (cycle rest : List Step) (line : List ℕ) → Lessens (suc (length rest)) way (close way cycle rest line)
+close_lessens : (way : Way) (cycle rest : List Step) (line : List ℕ) → Lessens (suc (length rest)) way (end_turn way cycle rest line)
 close_lessens Writing cycle [] line = omega arith
 close_lessens Reading cycle [] line = tt
 close_lessens Writing cycle (Takes j w ∷ rest) line = omega arith
 close_lessens Reading cycle (Takes j w ∷ rest) line = tt
-close_lessens way cycle (Blanks n ∷ rest) line = elim (blanked way n line) as (λ r. Lessens (suc (suc (length rest))) way (r >>= λ l. close way cycle rest l)) [ Ok l ↦ more _ _ way _ (omega arith) (close_lessens way cycle rest l) | Err e ↦ tt ]
-close_lessens way cycle (Chars text ∷ rest) line = elim (lettered way text line) as (λ r. Lessens (suc (suc (length rest))) way (r >>= λ l. close way cycle rest l)) [ Ok l ↦ more _ _ way _ (omega arith) (close_lessens way cycle rest l) | Err e ↦ tt ]
+close_lessens way cycle (Blanks n ∷ rest) line = elim (blanked way n line) as (λ r. Lessens (suc (suc (length rest))) way (r >>= λ l. end_turn way cycle rest l)) [ Ok l ↦ more _ _ way _ (omega arith) (close_lessens way cycle rest l) | Err e ↦ tt ]
+close_lessens way cycle (Chars text ∷ rest) line = elim (lettered way text line) as (λ r. Lessens (suc (suc (length rest))) way (r >>= λ l. end_turn way cycle rest l)) [ Ok l ↦ more _ _ way _ (omega arith) (close_lessens way cycle rest l) | Err e ↦ tt ]
 close_lessens Writing cycle (Slash ∷ rest) line = omega arith
 close_lessens Reading cycle (Slash ∷ rest) line = omega arith
 
 last_lessens : (h : Hand) → Lessens (left_of h) h.way (last_turn h)
-last_lessens h = elim (is_over h.mark) as (λ b. Lessens (if b then 0 else suc (length h.rest)) h.way (if b then Ok (None, h) else close h.way h.cycle h.rest (line_of h.way h.mark h.line)))
-    [ true ↦ tt | false ↦ close_lessens h.way h.cycle h.rest (line_of h.way h.mark h.line) ]
+last_lessens h = elim (is_over h.mark) as (λ b. Lessens (if b then 0 else suc (length h.rest)) h.way (if b then Ok (None, h) else end_turn h.way h.cycle h.rest (line_in_hand h.way h.mark h.line)))
+    [ true ↦ tt | false ↦ close_lessens h.way h.cycle h.rest (line_in_hand h.way h.mark h.line) ]
 
 abbrev left_in : ℕ → Result (Hand × Files) Trap → ℕ
 left_in n (Ok x) = left_of x.0
@@ -115,7 +115,7 @@ arrived_left h (Err e) = refl
 
 change_left : (way : Way) (h : Hand) (f : Files) → left_in (left_after way h) (changed_by way h f) ≡ left_after way h
 change_left Writing h f = refl
-change_left Reading h f = arrived_left h (fetched f.unread f)
+change_left Reading h f = arrived_left h (next_record f.unread f)
 
 changed_left : (way : Way) (h h2 : Hand) (f f2 : Files) → changed_by way h f ≡ Ok (h2, f2) → left_of h2 ≡ left_after way h
 changed_left way h h2 f f2 e = sym (ap (left_in (left_after way h)) e) ∙ change_left way h f

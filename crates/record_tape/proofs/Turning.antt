@@ -12,8 +12,8 @@ use Rattle.f66_tree.specs.declared.editing.Mark.{Mark}
 use Rattle.f66_tree.specs.declared.editing.Mark.TheVariants.{Due, Complete}
 use Rattle.f66_tree.specs.declared.editing.EditKind.{EditKind}
 use Rattle.f66_tree.specs.Fields.{Step, Takes, Blanks, Chars, Slash, has_item}
-use Rattle.f66_tree.specs.Turns.{Hand, ◌>>=◌, blanked, lettered, suits, stands, find, next_turn, line_of, is_over}
-use Rattle.f66_tree.specs.Editing.{Files, within, fetched, arrived, changed_by, followed, to_item}
+use Rattle.f66_tree.specs.Turns.{Hand, ◌>>=◌, blanked, lettered, suits, hand_at, find, next_turn, line_in_hand, is_over}
+use Rattle.f66_tree.specs.Editing.{Files, with_records, next_record, arrived, changed_by, followed, to_item}
 use Rattle.format_io.proofs.TurnsOfItems.{to_item_is}
 use Rattle.record_tape.specs.Moves.{Changes, ahead}
 
@@ -30,12 +30,12 @@ stopped_is h k f t e = to_item_is h k f ∙ ap (followed k f) e
 -- a record is done, and the next one begins
 pub done_is : (h h1 h2 : Hand) (k : Kind) (f f2 : Files) → next_turn h k ≡ Ok (RecordDone, h1) → changed_by h1.way h1 f ≡ Ok (h2, f2)
     → to_item h k f ≡ to_item h2 k f2
-done_is h h1 h2 k f f2 e made = to_item_is h k f ∙ ap (followed k f) e ∙ ap (λ r. within f r >>= λ x. to_item x.0 k x.1) made
+done_is h h1 h2 k f f2 e made = to_item_is h k f ∙ ap (followed k f) e ∙ ap (λ r. with_records f r >>= λ x. to_item x.0 k x.1) made
 
 -- a record is done, and no other comes
 pub cut_is : (h h1 : Hand) (k : Kind) (f : Files) (t : Trap) → next_turn h k ≡ Ok (RecordDone, h1) → changed_by h1.way h1 f ≡ Err t
     → to_item h k f ≡ Err (t, f)
-cut_is h h1 k f t e made = to_item_is h k f ∙ ap (followed k f) e ∙ ap (λ r. within f r >>= λ x. to_item x.0 k x.1) made
+cut_is h h1 k f t e made = to_item_is h k f ∙ ap (followed k f) e ∙ ap (λ r. with_records f r >>= λ x. to_item x.0 k x.1) made
 
 -- the edits ahead, and where control goes back, as a change of records leaves them
 abbrev ahead_in : ℕ → Result (Hand × Files) Trap → ℕ
@@ -48,7 +48,7 @@ arrived_ahead h (Err e) = refl
 
 change_ahead : (way : Way) (h : Hand) (f : Files) → ahead_in (ahead h) (changed_by way h f) ≡ ahead h
 change_ahead Writing h f = refl
-change_ahead Reading h f = arrived_ahead h (fetched f.unread f)
+change_ahead Reading h f = arrived_ahead h (next_record f.unread f)
 
 pub changed_ahead : (way : Way) (h h2 : Hand) (f f2 : Files) → changed_by way h f ≡ Ok (h2, f2) → ahead h2 ≡ ahead h
 changed_ahead way h h2 f f2 e = sym (ap (ahead_in (ahead h)) e) ∙ change_ahead way h f
@@ -74,7 +74,7 @@ grown false n m = omega arith
 
 -- where control goes back to, an edit takes an item
 back_lessens : (way : Way) (cycle : List Step) (line : List ℕ) (b : Bool) → has_item cycle ≡ b
-    → Lessens (suc (0 + length cycle)) (if b then Ok (RecordDone, stands way cycle cycle line Complete) else Err FormatMismatch)
+    → Lessens (suc (0 + length cycle)) (if b then Ok (RecordDone, hand_at way cycle cycle line Complete) else Err FormatMismatch)
 back_lessens way cycle line true e =
     let same : size_of cycle cycle ≡ length cycle = ap (λ b. if b then length cycle else suc (length cycle + length cycle)) e in
     omega (arith, same)
@@ -82,13 +82,13 @@ back_lessens way cycle line false e = tt
 
 find_lessens : (way : Way) (cycle : List Step) (k : Kind) (rest : List Step) (line : List ℕ) → Lessens (size_of rest cycle) (find way cycle k rest line)
 find_lessens way cycle k [] line = back_lessens way cycle line (has_item cycle) refl
-find_lessens way cycle k (Takes j w ∷ rest) line = elim (suits k j) as (λ b. Lessens (size_of (Takes j w ∷ rest) cycle) (if b then Ok (Ready j, stands way rest cycle line (Due j w)) else Err FormatMismatch)) [ true ↦ tt | false ↦ tt ]
+find_lessens way cycle k (Takes j w ∷ rest) line = elim (suits k j) as (λ b. Lessens (size_of (Takes j w ∷ rest) cycle) (if b then Ok (Ready j, hand_at way rest cycle line (Due j w)) else Err FormatMismatch)) [ true ↦ tt | false ↦ tt ]
 find_lessens way cycle k (Blanks n ∷ rest) line = elim (blanked way n line) as (λ r. Lessens (size_of (Blanks n ∷ rest) cycle) (r >>= λ l. find way cycle k rest l)) [ Ok l ↦ more _ _ _ (grown (has_item rest) (length rest) (length cycle)) (find_lessens way cycle k rest l) | Err e ↦ tt ]
 find_lessens way cycle k (Chars text ∷ rest) line = elim (lettered way text line) as (λ r. Lessens (size_of (Chars text ∷ rest) cycle) (r >>= λ l. find way cycle k rest l)) [ Ok l ↦ more _ _ _ (grown (has_item rest) (length rest) (length cycle)) (find_lessens way cycle k rest l) | Err e ↦ tt ]
 find_lessens way cycle k (Slash ∷ rest) line = grown (has_item rest) (length rest) (length cycle)
 
 done_lessens : (h h1 : Hand) (k : Kind) → next_turn h k ≡ Ok (RecordDone, h1) → ahead h1 < ahead h
-done_lessens h h1 k e = subst (Lessens (ahead h)) e (find_lessens h.way h.cycle k h.rest (line_of h.way h.mark h.line))
+done_lessens h h1 k e = subst (Lessens (ahead h)) e (find_lessens h.way h.cycle k h.rest (line_in_hand h.way h.mark h.line))
 
 -- a record is done, and fewer edits are ahead of the next one
 pub next_lessens : (h h1 h2 : Hand) (k : Kind) (way : Way) (f f2 : Files) → next_turn h k ≡ Ok (RecordDone, h1) → changed_by way h1 f ≡ Ok (h2, f2) → ahead h2 < ahead h
@@ -104,17 +104,17 @@ Goes (Ok (RecordDone, h)) = is_over h.mark ≡ false
 Goes (Err e) = Unit {0}
 
 find_goes : (way : Way) (cycle : List Step) (k : Kind) (rest : List Step) (line : List ℕ) → Goes (find way cycle k rest line)
-find_goes way cycle k [] line = elim (has_item cycle) as (λ b. Goes (if b then Ok (RecordDone, stands way cycle cycle line Complete) else Err FormatMismatch)) [ true ↦ refl | false ↦ tt ]
-find_goes way cycle k (Takes j w ∷ rest) line = elim (suits k j) as (λ b. Goes (if b then Ok (Ready j, stands way rest cycle line (Due j w)) else Err FormatMismatch)) [ true ↦ refl | false ↦ tt ]
+find_goes way cycle k [] line = elim (has_item cycle) as (λ b. Goes (if b then Ok (RecordDone, hand_at way cycle cycle line Complete) else Err FormatMismatch)) [ true ↦ refl | false ↦ tt ]
+find_goes way cycle k (Takes j w ∷ rest) line = elim (suits k j) as (λ b. Goes (if b then Ok (Ready j, hand_at way rest cycle line (Due j w)) else Err FormatMismatch)) [ true ↦ refl | false ↦ tt ]
 find_goes way cycle k (Blanks n ∷ rest) line = elim (blanked way n line) as (λ r. Goes (r >>= λ l. find way cycle k rest l)) [ Ok l ↦ find_goes way cycle k rest l | Err e ↦ tt ]
 find_goes way cycle k (Chars text ∷ rest) line = elim (lettered way text line) as (λ r. Goes (r >>= λ l. find way cycle k rest l)) [ Ok l ↦ find_goes way cycle k rest l | Err e ↦ tt ]
 find_goes way cycle k (Slash ∷ rest) line = refl
 
 pub ready_goes : (h h1 : Hand) (k : Kind) (j : EditKind) → next_turn h k ≡ Ok (Ready j, h1) → is_over h1.mark ≡ false
-ready_goes h h1 k j e = subst Goes e (find_goes h.way h.cycle k h.rest (line_of h.way h.mark h.line))
+ready_goes h h1 k j e = subst Goes e (find_goes h.way h.cycle k h.rest (line_in_hand h.way h.mark h.line))
 
 pub done_goes : (h h1 : Hand) (k : Kind) → next_turn h k ≡ Ok (RecordDone, h1) → is_over h1.mark ≡ false
-done_goes h h1 k e = subst Goes e (find_goes h.way h.cycle k h.rest (line_of h.way h.mark h.line))
+done_goes h h1 k e = subst Goes e (find_goes h.way h.cycle k h.rest (line_in_hand h.way h.mark h.line))
 
 pub change_goes : (way : Way) (old new : Mark) → is_over old ≡ false → Changes way old new → is_over new ≡ false
 change_goes Writing old new e same = ap is_over same ∙ e

@@ -1,10 +1,10 @@
 -- What comes after the last statement of some DO loops, loop by loop.
 use Rattle.std.proofs.Common.{◌≡◌, ℕ, ◌+◌, ◌<◌, Bool, List, [], ◌∷◌, drop, length, get_or, Result, Err, sym, ◌∙◌, ap, subst}
 use Rattle.ground.specs.declared.place.Place.{Place}
-use Rattle.f66_tree.specs.Forms.{Line}
+use Rattle.f66_tree.specs.Syntax.{Line}
 use Rattle.f66_tree.specs.World.{bind, settle, choose}
 use Rattle.f66_tree.specs.Units.{Setting, notes_of}
-use Rattle.f66_tree.specs.Statements.{Loop, loop_turn}
+use Rattle.f66_tree.specs.Statements.{LoopParameters, loop_turn}
 use Rattle.f66_tree.specs.Execution.{stand}
 use Rattle.unit_walk.specs.declared.do_loop.Pass.{Pass}
 use Rattle.unit_walk.specs.declared.do_loop.Closing.{Closing}
@@ -40,7 +40,7 @@ module _ (passes : List Pass) (closings : List Closing) (next : ℕ) (p : Place)
         (bind (loop_turn s (main_at p) e.variable.now (loop_of pass) w1) (λ goes_on w2. choose goes_on (go (stand (drop (e.index + 1) code) pr) w2) (closing code (drop (k + 1) closings) next p s go pr w2)))
         (turned_to code e (drop (k + 1) closings) r s go pr) (Alters w1 new)
         (ap (λ (es : List Closing). closing code es next p s go pr w1) split
-        ∙ ap (λ (l : Loop). bind (loop_turn s (main_at p) e.variable.now l w1) (λ goes_on w2. choose goes_on (go (stand (drop (e.index + 1) code) pr) w2) (closing code (drop (k + 1) closings) next p s go pr w2))) key)
+        ∙ ap (λ (l : LoopParameters). bind (loop_turn s (main_at p) e.variable.now l w1) (λ goes_on w2. choose goes_on (go (stand (drop (e.index + 1) code) pr) w2) (closing code (drop (k + 1) closings) next p s go pr w2))) key)
         (comes_bound (loop_turn s (main_at p) e.variable.now (loop_of pass) w1) (settle p (tried r)) (λ goes_on w2. choose goes_on (go (stand (drop (e.index + 1) code) pr) w2) (closing code (drop (k + 1) closings) next p s go pr w2)) (Alters w1 new)
         (turns.is code n run p w1 holds1)));
   }

@@ -7,7 +7,7 @@ use Rattle.std.specs.HashMap.{HashMap, get_by}
 use Rattle.std.specs.Borrow.{Bor}
 use Rattle.std.proofs.lemmas.Slice.Eq.{bytes_eq-Decides}
 use Rattle.ground.specs.declared.value.Value.{Value}
-use Rattle.f66_tree.specs.Forms.{Text}
+use Rattle.f66_tree.specs.Syntax.{Text}
 use Rattle.unit_walk.specs.Contents.{Values, Sets, AllInRange, IsSmall, cell_at, values_in}
 
 pub on_ok : {A E P Q : Type 0} (r : Result A E) → (P → Q) → OnOk r P → OnOk r Q

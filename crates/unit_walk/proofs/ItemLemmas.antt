@@ -10,12 +10,12 @@ use Rattle.ground.specs.declared.value.Value.{Value}
 use Rattle.ground.specs.Content.{Content, Whole}
 use Rattle.f66_tree.specs.declared.editing.Way.{Way}
 use Rattle.f66_tree.specs.Fields.{Fields}
-use Rattle.f66_tree.specs.Forms.{Text, Formula, Variable, Applied, Formulas, Par, Constant, Named, Line}
+use Rattle.f66_tree.specs.Syntax.{Text, Formula, Ref, Item, Formulas, Par, Constant, Named, Line}
 use Rattle.f66_tree.specs.World.{Tape, put_in, World, Out, Gives, Halts, bind, Try, Yields, Traps, settle, taping, holding}
 use Rattle.f66_tree.specs.Units.{Frame, Spot, Held, notes_of, kind_of, sizes_of, places_of}
 use Rattle.f66_tree.specs.Evaluation.{pars_in, store_at, moved, sort_of}
 use Rattle.f66_tree.specs.Records.{take}
-use Rattle.f66_tree.specs.Statements.{took, edited, row, extent, times, one_or_row, item}
+use Rattle.f66_tree.specs.Statements.{taken_content, edited, row, extent, times, one_or_row, item}
 use Rattle.f66_tree.specs.Execution.{Stand}
 use Rattle.f66_tree.specs.OneUnit.{list_number, one_unit}
 use Rattle.record_tape.specs.Reels.{seen}
@@ -37,7 +37,7 @@ use Rattle.unit_walk.proofs.TransferLemmas.{inside_shows}
 module _ (code : List Line) (limit : ℕ) (fs : Fields) (p : Place) where
   -- a content came from the record in hand
   pub received : (x : Text) (o : ℕ) (old : Run) (v : Value) (new : Run) → IsTaken (take (seen fs old.tape)) (Ok v) (seen fs new.tape) → Sets (values_in old.places.cells) x o (Some v) (values_in new.places.cells) → new.begun ≡ old.begun
-      → Goes code limit fs (λ s w. bind (took p take w) (λ c w1. store_at s (main_at p) (Held 0 x o) c w1)) old (Ok tt) new
+      → Goes code limit fs (λ s w. bind (taken_content p take w) (λ c w1. store_at s (main_at p) (Held 0 x o) c w1)) old (Ok tt) new
   received x o old v new is sets begun = record {
     rises = omega (arith, begun);
     is = λ n run w few inside. record {
@@ -63,16 +63,16 @@ module _ (code : List Line) (limit : ℕ) (fs : Fields) (p : Place) where
   edited_at n run way x (Err Wrong) w = refl
 
   applied_is : (n : ℕ) (run : Frame → Stand → World → Out ⊤) (way : Way) (values : Values) (x : Text) (es : Formulas) (w : World) → HoldsValues values w.state.store
-      → item (around_main (notes_of code) code n run) (main_at p) way (Applied x es) w
-      ≡ bind (settle p (viewed spot (place (context_of code) values (Applied x es))) w) (λ q w1. edited (around_main (notes_of code) code n run) (main_at p) way (kind_of (context_of code) (named q)) q w1)
+      → item (around_main (notes_of code) code n run) (main_at p) way (Item x es) w
+      ≡ bind (settle p (viewed spot (place (context_of code) values (Item x es))) w) (λ q w1. edited (around_main (notes_of code) code n run) (main_at p) way (kind_of (context_of code) (named q)) q w1)
   applied_is n run way values x es w holds =
-      ap (λ (o : Out Spot). bind o (λ q w1. edited (around_main (notes_of code) code n run) (main_at p) way (kind_of (context_of code) x) q w1)) (located code n run values p w holds (Applied x es))
+      ap (λ (o : Out Spot). bind o (λ q w1. edited (around_main (notes_of code) code n run) (main_at p) way (kind_of (context_of code) x) q w1)) (located code n run values p w holds (Item x es))
       ∙ edited_at n run way x (element (context_of code) values x (sort_of (context_of code) x) (values_of (context_of code) values es)) w
 
   -- an item at a place
   pub item_goes : (way : Way) (e : Formula) (old : Run) (t : Text × ℕ) (r : _) (new : Run) → is_applied e ≡ true → Ok t ≡ place (context_of code) (values_in old.places.cells) e
       → Goes code limit fs (λ s w. edited s (main_at p) way (kind_of (context_of code) t.0) (Held 0 t.0 t.1) w) old r new → Goes code limit fs (λ s w. item s (main_at p) way e w) old r new
-  item_goes way (Applied x es) old t r new applied is goes = record {
+  item_goes way (Item x es) old t r new applied is goes = record {
     rises = goes.rises;
     is = λ n run w few inside.
         let a = goes.is n run w few inside in
@@ -89,7 +89,7 @@ module _ (code : List Line) (limit : ℕ) (fs : Fields) (p : Place) where
 
   -- an item that has no place
   pub item_stuck : (way : Way) (e : Formula) (old : Run) (s : Stuck) → is_applied e ≡ true → Err s ≡ place (context_of code) (values_in old.places.cells) e → Goes code limit fs (λ s w. item s (main_at p) way e w) old (Err (end_of_stuck s p)) old
-  item_stuck way (Applied x es) old s applied is = record {
+  item_stuck way (Item x es) old s applied is = record {
     rises = omega arith;
     is = λ n run w few inside. record {
       after = w;
@@ -133,11 +133,11 @@ module _ (code : List Line) (limit : ℕ) (fs : Fields) (p : Place) where
       ∙ ap (λ (t : Try ℕ). bind (settle p t w) (λ j w2. row (around_main (notes_of code) code n run) (main_at p) way k q j 0 w2)) (extent_is (m ∷ ns) is)
 
   pub variable_is : (n : ℕ) (run : Frame → Stand → World → Out ⊤) (way : Way) (x : Text) (w : World) → sizes_of x (notes_of code) ≡ []
-      → item (around_main (notes_of code) code n run) (main_at p) way (Variable x) w ≡ edited (around_main (notes_of code) code n run) (main_at p) way (kind_of (context_of code) x) (Held 0 x 0) w
+      → item (around_main (notes_of code) code n run) (main_at p) way (Ref x) w ≡ edited (around_main (notes_of code) code n run) (main_at p) way (kind_of (context_of code) x) (Held 0 x 0) w
   variable_is n run way x w none = ap (λ (ns : List Par). one_or_row (around_main (notes_of code) code n run) (main_at p) way (kind_of (context_of code) x) ns (Held 0 x 0) w) none
 
   pub array_is : (n : ℕ) (run : Frame → Stand → World → Out ⊤) (way : Way) (x : Text) (w : World) → 0 < length (sizes_of x (notes_of code)) → are_sizes (sizes_of x (notes_of code)) ≡ true
-      → item (around_main (notes_of code) code n run) (main_at p) way (Variable x) w ≡ row (around_main (notes_of code) code n run) (main_at p) way (kind_of (context_of code) x) (Held 0 x 0) (places_of (sizes_of x (notes_of code))) 0 w
+      → item (around_main (notes_of code) code n run) (main_at p) way (Ref x) w ≡ row (around_main (notes_of code) code n run) (main_at p) way (kind_of (context_of code) x) (Held 0 x 0) (places_of (sizes_of x (notes_of code))) 0 w
   array_is n run way x w full is = row_of_sizes n run way (kind_of (context_of code) x) (sizes_of x (notes_of code)) (Held 0 x 0) w full is
 
   -- one more place of an array

@@ -13,7 +13,7 @@ use Rattle.std.proofs.lemmas.Slice.Eq.{bytes_eq-Decides}
 use Rattle.ground.specs.Arithmetic.{IsInRange}
 use Rattle.ground.specs.declared.value.Value.{Value}
 use Rattle.format_io.specs.Letters.{IsLetter, cell_of}
-use Rattle.f66_tree.specs.Forms.{Text}
+use Rattle.f66_tree.specs.Syntax.{Text}
 use Rattle.unit_walk.specs.Contents.{Values, AllInRange, IsSmall, cell_at, values_in}
 use Rattle.unit_walk.specs.Letters.{letters_over, HoldLetters, SetsLetters}
 

@@ -7,11 +7,11 @@ use Rattle.ground.specs.declared.value.Kind.TheVariants.{Integer as AnInteger}
 use Rattle.ground.specs.declared.value.Value.{Value}
 use Rattle.ground.specs.declared.value.Value.TheVariants.{Int, Log}
 use Rattle.ground.specs.Content.{Content, Nothing, Whole}
-use Rattle.f66_tree.specs.Forms.{Text, Par, Line}
+use Rattle.f66_tree.specs.Syntax.{Text, Par, Line}
 use Rattle.f66_tree.specs.World.{put_in, World, Out, Gives, Try, Yields, Traps, bind, settle, holding}
 use Rattle.f66_tree.specs.Units.{Frame, Held, notes_of}
 use Rattle.f66_tree.specs.Evaluation.{par_in, store_at, asked}
-use Rattle.f66_tree.specs.Statements.{Loop, fit_loop_in, loop_start, turn_of, loop_turn}
+use Rattle.f66_tree.specs.Statements.{LoopParameters, fit_loop_in, loop_start, turn_of, loop_turn}
 use Rattle.f66_tree.specs.Execution.{Stand}
 use Rattle.f66_tree.specs.OneUnit.{list_number}
 use Rattle.unit_walk.specs.declared.do_loop.Pass.{Pass}
@@ -27,19 +27,19 @@ use Rattle.unit_walk.proofs.StatementLemmas.{put_holds}
 use Rattle.unit_walk.proofs.ComesLemmas.{alters_none}
 
 -- the end, or the store of the first value
-abbrev pub started : Place → Text → World → Result (ℤ × Pass) Stuck → Out Loop
+abbrev pub started : Place → Text → World → Result (ℤ × Pass) Stuck → Out LoopParameters
 started p x w (Ok v) = Gives (loop_of v.1) (holding (put_in (list_number (0 ∷ x)) (Whole v.0) w.state.store) w)
 started p x w (Err s) = settle p (tried (Err s)) w
 
 module _ (code : List Line) (n : ℕ) (run : Frame → Stand → World → Out ⊤) (values : Values) (p : Place) (w : World) where
   -- what follows the three parameters
-  abbrev last_part : Text → Content → Content → Content → World → Out Loop
+  abbrev last_part : Text → Content → Content → Content → World → Out LoopParameters
   last_part x va vb vc w4 = bind (settle p (fit_loop_in va vb vc) w4) (λ k w5. bind (store_at (around_main (notes_of code) code n run) (main_at p) (Held 0 x 0) va w5) (λ _ w6. Gives k w6))
 
   fits : (x : Text) (a b c : ℤ) → last_part x (Whole a) (Whole b) (Whole c) w ≡ started p x w (fitted a b c)
   fits x a b c = by_test (int_le (pos 1) a && int_le a b && int_le (pos 1) c)
     where
-      by_test : (t : Bool) → bind (settle p (if t then Yields (let k : Loop = record { limit = b; step = c } in k) else Traps BadDo) w) (λ k w1. bind (store_at (around_main (notes_of code) code n run) (main_at p) (Held 0 x 0) (Whole a) w1) (λ _ w2. Gives k w2))
+      by_test : (t : Bool) → bind (settle p (if t then Yields (let k : LoopParameters = record { limit = b; step = c } in k) else Traps BadDo) w) (λ k w1. bind (store_at (around_main (notes_of code) code n run) (main_at p) (Held 0 x 0) (Whole a) w1) (λ _ w2. Gives k w2))
           ≡ started p x w (if t then Ok (a, (let k : Pass = record { limit = b; step = c } in k)) else Err (Trapped BadDo))
       by_test true = refl
       by_test false = refl
@@ -55,7 +55,7 @@ module _ (code : List Line) (n : ℕ) (run : Frame → Stand → World → Out �
   fits_in x (Log a) (Log b) (Log c) = refl
 
   -- one parameter, and what follows it
-  after_par : (x : Text) (r : Result Value Stuck) (go : Content → World → Out Loop) (next : Value → Result (ℤ × Pass) Stuck) → ((v : Value) → go (content v) w ≡ started p x w (next v))
+  after_par : (x : Text) (r : Result Value Stuck) (go : Content → World → Out LoopParameters) (next : Value → Result (ℤ × Pass) Stuck) → ((v : Value) → go (content v) w ≡ started p x w (next v))
       → bind (settle p (contents r) w) go ≡ started p x w (r then next)
   after_par x (Ok v) go next is = is v
   after_par x (Err (Trapped t)) go next is = refl
@@ -74,21 +74,21 @@ module _ (code : List Line) (n : ℕ) (run : Frame → Stand → World → Out �
 
     -- ---- turns ----
 
-    turns_by : (x : Text) (k : Loop) (r : Result Value Stuck) → bind (settle p (contents r) w) (λ v w1. turn_of (around_main (notes_of code) code n run) (main_at p) (Held 0 x 0) k v w1)
+    turns_by : (x : Text) (k : LoopParameters) (r : Result Value Stuck) → bind (settle p (contents r) w) (λ v w1. turn_of (around_main (notes_of code) code n run) (main_at p) (Held 0 x 0) k v w1)
         ≡ bind (settle p (tried (r then λ v. number_in v)) w) (λ z w1. turn_of (around_main (notes_of code) code n run) (main_at p) (Held 0 x 0) k (Whole z) w1)
     turns_by x k (Ok (Int z)) = refl
     turns_by x k (Ok (Log b)) = refl
     turns_by x k (Err (Trapped t)) = refl
     turns_by x k (Err Wrong) = refl
 
-    turned : (x : Text) (k : Loop) → loop_turn (around_main (notes_of code) code n run) (main_at p) x k w
+    turned : (x : Text) (k : LoopParameters) → loop_turn (around_main (notes_of code) code n run) (main_at p) x k w
         ≡ bind (settle p (tried (counted (values x 0))) w) (λ z w1. turn_of (around_main (notes_of code) code n run) (main_at p) (Held 0 x 0) k (Whole z) w1)
     turned x k =
         ap (λ (c : Content). bind (settle p (asked AnInteger c) w) (λ v w1. turn_of (around_main (notes_of code) code n run) (main_at p) (Held 0 x 0) k v w1)) (holds.at x 0)
         ∙ ap (λ (t : Try Content). bind (settle p t w) (λ v w1. turn_of (around_main (notes_of code) code n run) (main_at p) (Held 0 x 0) k v w1)) (asked_is AnInteger (values x 0))
         ∙ turns_by x k (loaded AnInteger (values x 0))
 
-    turns_to : (x : Text) (k : Loop) (z : ℤ) → turn_of (around_main (notes_of code) code n run) (main_at p) (Held 0 x 0) k (Whole z) w
+    turns_to : (x : Text) (k : LoopParameters) (z : ℤ) → turn_of (around_main (notes_of code) code n run) (main_at p) (Held 0 x 0) k (Whole z) w
         ≡ Gives (is_some (next_value k z)) (holding (put_in (list_number (0 ∷ x)) (content_of (option_map Int (next_value k z))) w.state.store) w)
     turns_to x k z = by_test (int_le (z +ℤ k.step) k.limit)
       where
@@ -111,7 +111,7 @@ begins_stuck code values x a b c s is = record {
   is = λ n run p w holds. record { after = w; is = starts code n run values p w holds x a b c ∙ ap (started p x w) (sym is) ∙ same_end s p w; holds = alters_none w values holds };
 }
   where
-    same_end : (q : Stuck) (p : Place) (w : World) → settle p (tried {A = Loop} (Err q)) w ≡ settle p (tried (begun_with (Err q))) w
+    same_end : (q : Stuck) (p : Place) (w : World) → settle p (tried {A = LoopParameters} (Err q)) w ≡ settle p (tried (begun_with (Err q))) w
     same_end (Trapped t) p w = refl
     same_end Wrong p w = refl
 

@@ -9,7 +9,7 @@ use Rattle.std.specs.Borrow.{Bor}
 use Rattle.ground.specs.declared.value.Kind.TheVariants.{Integer as AnInteger}
 use Rattle.f66_tree.specs.declared.declaration.TypeWord.{TypeWord}
 use Rattle.f66_tree.specs.declared.declaration.TypeWord.TheVariants.{Integer, Other}
-use Rattle.f66_tree.specs.Forms.{Text, Par, Declared, Act, Types, Dimensions, Commons, Line}
+use Rattle.f66_tree.specs.Syntax.{Text, Par, Declared, Act, Typed, Dimension, Common, Line}
 use Rattle.f66_tree.specs.Units.{Note, is_note, notes_of, kind_by, kind_of, by_letter, type_in, typed_by, lists, sizes_of, sizes_by as sizes_given, sizes_in, if_any}
 use Rattle.unit_walk.specs.Declarations.{in_main, type_by, first_type, some_sizes, first_sizes_in, sizes_by, first_sizes, sizes_under, kind_from, sizes_at, AreTypes, AreSizes, AreKinds}
 use Rattle.unit_walk.specs.declared.names.Shape.{Shape}
@@ -36,7 +36,7 @@ first_kind x (s ∷ notes) = by_act s.act (first_kind x notes)
     by_test false t rest = rest
 
     by_act : (a : Act) → kind_from (first_type x notes) ≡ kind_by (type_in x notes (by_letter x)) → kind_from (option_or (type_by x a) (first_type x notes)) ≡ kind_by (typed_by x a (type_in x notes (by_letter x)))
-    by_act (Types t ds) rest = by_test (lists x ds) t rest
+    by_act (Typed t ds) rest = by_test (lists x ds) t rest
     by_act _ rest = rest
 
 pub kinds_named : {S : Type 0} (notes : List Note) (types : HashMap (Bor (List ℕ)) TypeWord S) → AreTypes notes types → (x : Text) → kind_from (get_by (λ k. bytes_eq x k.now) types) ≡ kind_of (in_main notes) x
@@ -64,11 +64,11 @@ in_list x (d ∷ ds) others = from_or (if bytes_eq x d.name then some_sizes d.si
 
 -- only the type statements and DIMENSION give dimensions
 abbrev gives_sizes_rightly : Act → Bool
-gives_sizes_rightly (Commons areas) = false
+gives_sizes_rightly (Common areas) = false
 gives_sizes_rightly _ = true
 
 plain_sizes : (notes : List Note) (a : Act) → is_walked notes a ≡ true → gives_sizes_rightly a ≡ true
-plain_sizes notes (Commons areas) is = cc is
+plain_sizes notes (Common areas) is = cc is
 plain_sizes notes _ is = refl
 
 -- none of the notes is COMMON
@@ -81,9 +81,9 @@ first_from x [] none = refl
 first_from x (s ∷ notes) none = from_or (sizes_by x s.act) (first_sizes x notes) [] ∙ ap (λ (o : List Par). sizes_from (sizes_by x s.act) o) (first_from x notes none.1) ∙ by_act s.act none.0 (sizes_of x notes)
   where
     by_act : (a : Act) → gives_sizes_rightly a ≡ true → (others : List Par) → sizes_from (sizes_by x a) others ≡ sizes_given x a others
-    by_act (Types t ds) is others = in_list x ds others
-    by_act (Dimensions ds) is others = in_list x ds others
-    by_act (Commons areas) is others = cc is
+    by_act (Typed t ds) is others = in_list x ds others
+    by_act (Dimension ds) is others = in_list x ds others
+    by_act (Common areas) is others = cc is
     by_act _ is others = refl
 
 at_under : (o : Option Shape) → sizes_at o ≡ sizes_from (sizes_under o) []
@@ -136,9 +136,9 @@ sizes_fit notes [] walked x = refl
 sizes_fit notes (s ∷ rest) walked x = by_test (is_note s.act) (sizes_fit notes rest (and_parts (is_walked notes s.act) (are_walked notes rest) walked).1 x)
   where
     by_act : (a : Act) → is_walked notes a ≡ true → (others : List Par) → are_dimensions others ≡ true → are_dimensions (sizes_given x a others) ≡ true
-    by_act (Types t ds) is others fit = in_list_fits x ds others is fit
-    by_act (Dimensions ds) is others fit = in_list_fits x ds others is fit
-    by_act (Commons areas) is others fit = cc is
+    by_act (Typed t ds) is others fit = in_list_fits x ds others is fit
+    by_act (Dimension ds) is others fit = in_list_fits x ds others is fit
+    by_act (Common areas) is others fit = cc is
     by_act _ is others fit = fit
 
     by_test : (b : Bool) → are_dimensions (sizes_of x (notes_of rest)) ≡ true → are_dimensions (sizes_of x (if b then (record { label = s.label; act = s.act } ∷ notes_of rest) else notes_of rest)) ≡ true

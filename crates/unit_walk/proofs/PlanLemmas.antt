@@ -11,7 +11,7 @@ use Rattle.std.proofs.lemmas.Bool.Decides.{nat_tests}
 use Rattle.std.proofs.lemmas.List.Elements.{All-nil, All-push}
 use Rattle.std.proofs.lemmas.List.{drop_more, map-append, drop_all, get_or_append_left, get_or_default, get_or_push}
 use Rattle.f66_tree.specs.declared.statement.Stmt.{Stmt}
-use Rattle.f66_tree.specs.Forms.{Line}
+use Rattle.f66_tree.specs.Syntax.{Line}
 use Rattle.f66_tree.specs.Execution.{Closer, closer_of, closers, has_label, from_label}
 use Rattle.f66_tree.specs.Views.{act_of, line_of, lines_of}
 use Rattle.unit_walk.specs.declared.do_loop.Closing.{Closing}

@@ -6,7 +6,7 @@ use Rattle.std.proofs.lemmas.List.{drop_more, drop_all}
 use Rattle.ground.specs.declared.trap.Trap.TheVariants.{Subscript}
 use Rattle.ground.specs.declared.value.Value.{Value}
 use Rattle.ground.specs.declared.value.Value.TheVariants.{Int, Log}
-use Rattle.f66_tree.specs.Forms.{Par}
+use Rattle.f66_tree.specs.Syntax.{Par}
 use Rattle.f66_tree.specs.Units.{places_of}
 use Rattle.unit_walk.specs.declared.stuck.Stuck.{Stuck}
 use Rattle.unit_walk.specs.declared.stuck.Stuck.TheVariants.{Trapped, Wrong}

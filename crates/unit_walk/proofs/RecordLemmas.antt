@@ -10,7 +10,7 @@ use Rattle.ground.specs.Content.{Content}
 use Rattle.f66_tree.specs.declared.editing.Way.{Way}
 use Rattle.f66_tree.specs.declared.editing.Way.TheVariants.{Reading, Writing}
 use Rattle.f66_tree.specs.Fields.{Fields}
-use Rattle.f66_tree.specs.Forms.{Par, Entries, Line}
+use Rattle.f66_tree.specs.Syntax.{Par, Entries, Line}
 use Rattle.f66_tree.specs.World.{files_of, World, Out, Gives, Halts, bind, Try, Yields, Traps, Move, settle, moving, taping}
 use Rattle.f66_tree.specs.Records.{closed}
 use Rattle.f66_tree.specs.Units.{Frame, Setting, notes_of, format_of}
@@ -38,7 +38,7 @@ use Rattle.unit_walk.proofs.TransferLemmas.{same_values, few_left}
 -- ---- the rest of a statement ----
 
 module _ (code : List Line) (limit : ℕ) (fs : Fields) (p : Place) (way : Way) (es : Entries) where
-  ends_so : (r : Result ⊤ Halt) (w : World) → bind (gone r w) (λ _ w1. Gives meant.Next w1) ≡ recorded r w
+  ends_so : (r : Result ⊤ Halt) (w : World) → bind (gone r w) (λ _ w1. Gives meant.Normal w1) ≡ recorded r w
   ends_so (Ok u) w = refl
   ends_so (Err h) w = refl
 
@@ -48,7 +48,7 @@ module _ (code : List Line) (limit : ℕ) (fs : Fields) (p : Place) (way : Way) 
 
   -- what follows the first record
   abbrev behind : Setting → World → Out meant.Exit
-  behind s w = bind (items s (main_at p) way es w) (λ _ w2. bind (taped p closed w2) (λ _ w3. Gives meant.Next w3))
+  behind s w = bind (items s (main_at p) way es w) (λ _ w2. bind (taped p closed w2) (λ _ w3. Gives meant.Normal w3))
 
   module _ (old mid : Run) (is : Opens way old.tape (Ok tt) mid.tape) (places : mid.places ≡ old.places) (begun_same : mid.begun ≡ old.begun) where
     begins_record : (n : ℕ) (run : Frame → Stand → World → Out ⊤) (w : World) → Holds limit old w → Comes (opened_at p way fs es (around_main (notes_of code) code n run) w) (behind (around_main (notes_of code) code n run)) (λ w1. Inside limit fs mid w1 × (w1.left ≡ w.left))
@@ -71,8 +71,8 @@ module _ (code : List Line) (limit : ℕ) (fs : Fields) (p : Place) (way : Way) 
             after = b.after;
             is =
                 first.is
-                ∙ ap (λ (o : Out ⊤). bind o (λ _ w2. bind (taped p closed w2) (λ _ w3. Gives meant.Next w3))) a.is
-                ∙ ap (λ (o : Out ⊤). bind o (λ _ w3. Gives meant.Next w3)) b.is
+                ∙ ap (λ (o : Out ⊤). bind o (λ _ w2. bind (taped p closed w2) (λ _ w3. Gives meant.Normal w3))) a.is
+                ∙ ap (λ (o : Out ⊤). bind o (λ _ w3. Gives meant.Normal w3)) b.is
                 ∙ ends_so r b.after;
             holds = holds_so r new b.after b.holds;
           };
@@ -87,7 +87,7 @@ module _ (code : List Line) (limit : ℕ) (fs : Fields) (p : Place) (way : Way) 
           let a = goes.is n run first.after few1 first.holds.0 in
           record {
             after = a.after;
-            is = first.is ∙ ap (λ (o : Out ⊤). bind o (λ _ w2. bind (taped p closed w2) (λ _ w3. Gives meant.Next w3))) a.is;
+            is = first.is ∙ ap (λ (o : Out ⊤). bind o (λ _ w2. bind (taped p closed w2) (λ _ w3. Gives meant.Normal w3))) a.is;
             holds = a.holds;
           };
     }
@@ -131,7 +131,7 @@ module _ (code : List Line) (limit : ℕ) (p : Place) (way : Way) (u : Par) (l :
 
   -- with the test of the unit, before the first record
   abbrev opens : Setting → Option Fields → World → Out meant.Exit
-  opens s o w = bind (taped p (opened_by way o) w) (λ _ w1. bind (items s (main_at p) way es w1) (λ _ w2. bind (taped p closed w2) (λ _ w3. Gives meant.Next w3)))
+  opens s o w = bind (taped p (opened_by way o) w) (λ _ w1. bind (items s (main_at p) way es w1) (λ _ w2. bind (taped p closed w2) (λ _ w3. Gives meant.Normal w3)))
 
   begins_so : (n : ℕ) (run : Frame → Stand → World → Out ⊤) (w : World) → Holds limit old w → (r : Result ⊤ Stuck) → r ≡ tested
       → recording_at p way u l es (around_main (notes_of code) code n run) w ≡ bind (settle p (tried r) w) (λ _ w1. opens (around_main (notes_of code) code n run) (format_of l (notes_of code)) w1)

@@ -1,7 +1,7 @@
 -- A READ or a WRITE and what comes after it.
 use Rattle.std.proofs.Common.{◌≡◌, ℕ, suc, ◌+◌, List, drop, Option, Ok, Err, sym, ◌∙◌, ap, subst, arith}
 use Rattle.ground.specs.declared.place.Place.{Place}
-use Rattle.f66_tree.specs.Forms.{Act, Line}
+use Rattle.f66_tree.specs.Syntax.{Act, Line}
 use Rattle.f66_tree.specs.World.{Out, bind}
 use Rattle.f66_tree.specs.Units.{notes_of}
 use Rattle.f66_tree.specs.Statements as meant
@@ -22,7 +22,7 @@ use Rattle.unit_walk.proofs.RunLemmas.{lifts}
 module _ (code : List Line) (limit : ℕ) (label : Option ℕ) (index : ℕ) (p : Place) (a : Act) (old : Run) where
   -- for the next line
   pub recorded_on : (mid : Run) → Records code limit (λ s w. meant.does s (main_at p) a w) old (Ok tt) mid → mid.passes.items ≡ old.passes.items → (lead : Lead) (new : Run)
-      → Leads code mid.passes.items (onward code label index p meant.Next) (led_to code lead) (values_in mid.places.cells) (values_in new.places.cells) → new.passes.items ≡ mid.passes.items → new.tape ≡ mid.tape → new.begun ≡ mid.begun
+      → Leads code mid.passes.items (onward code label index p meant.Normal) (led_to code lead) (values_in mid.places.cells) (values_in new.places.cells) → new.passes.items ≡ mid.passes.items → new.tape ≡ mid.tape → new.begun ≡ mid.begun
       → PlainLeads code limit label index p a old lead new
   recorded_on mid records passes lead new leads_on same tape begun n w pr stands =
       let done = records.is (suc n) (exec (one_unit (notes_of code)) (λ u. code) (suc n)) w (omega (arith, stands.enough)) stands.holds in
@@ -31,7 +31,7 @@ module _ (code : List Line) (limit : ℕ) (label : Option ℕ) (index : ℕ) (p 
         enough = omega (arith, stands.enough, stands.holds.left, done.holds.left, records.rises);
         loops = subst (λ (ps : List Pass). LoopsAre code ps pr) (sym passes) stands.loops;
       } in
-      let to : LeadsTo code limit (onward code label index p meant.Next (around_from code n) (main_from code n) pr done.after) lead new = lifts code limit n mid done.after pr standing (onward code label index p meant.Next) lead new leads_on same tape begun in
+      let to : LeadsTo code limit (onward code label index p meant.Normal (around_from code n) (main_from code n) pr done.after) lead new = lifts code limit n mid done.after pr standing (onward code label index p meant.Normal) lead new leads_on same tape begun in
       record {
         fuel = to.fuel;
         after = to.after;

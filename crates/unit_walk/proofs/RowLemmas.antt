@@ -15,7 +15,7 @@ use Rattle.f66_tree.specs.declared.editing.Way.{Way}
 use Rattle.f66_tree.specs.declared.editing.Way.TheVariants.{Reading, Writing}
 use Rattle.f66_tree.specs.Fields.{Fields}
 use Rattle.f66_tree.specs.Turns.{is_over}
-use Rattle.f66_tree.specs.Forms.{Text, Line}
+use Rattle.f66_tree.specs.Syntax.{Text, Line}
 use Rattle.f66_tree.specs.World.{Store, put_in, Tape, World, Out, Gives, bind, Move, Moves, Try, settle, moving, taping, holding}
 use Rattle.f66_tree.specs.Units.{Frame, Held, notes_of, sizes_of, places_of}
 use Rattle.f66_tree.specs.Evaluation.{asked, store_at}

@@ -6,11 +6,11 @@ use Rattle.std.proofs.lemmas.List.{drop_more}
 use Rattle.std.specs.Prelude.{⊤}
 use Rattle.ground.specs.declared.place.Place.{Place}
 use Rattle.f66_tree.specs.declared.statement.Stmt.{Stmt}
-use Rattle.f66_tree.specs.Forms.{Text, Formula, Par, Act, Chooses, Loops, Line}
+use Rattle.f66_tree.specs.Syntax.{Text, Formula, Par, Act, When, Loop, Line}
 use Rattle.f66_tree.specs.World.{files_of, World, Out, Halts, GoesOn, bind, settle, choose, take_from}
 use Rattle.f66_tree.specs.Editing.{Files}
 use Rattle.f66_tree.specs.Units.{Setting, Note, is_note, notes_of}
-use Rattle.f66_tree.specs.Statements.{Next, Loop}
+use Rattle.f66_tree.specs.Statements.{Normal, LoopParameters}
 use Rattle.f66_tree.specs.Execution.{Progress, Onward, stand, runnable, begun, leads, perform, fetch, exec, nowhere}
 use Rattle.f66_tree.specs.OneUnit.{one_unit}
 use Rattle.f66_tree.specs.Views.{act_of, line_of, lines_of}
@@ -121,18 +121,18 @@ module _ (code : List Line) where
 -- a plain statement goes as it does, and then where it leads
 pub performs_plain : (notes : List Note) (s : Setting) (p : Place) (code : List Line) (label : Option ℕ) (index : ℕ) (a : Act) (go : Onward) (pr : Progress) (w : World) → is_plain notes a ≡ true
     → perform s (main_at p) code label a (drop (index + 1) code) go pr w ≡ plainly code label index p a s go pr w
-performs_plain notes s p code label index (Chooses e a) go pr w is = cc is
-performs_plain notes s p code label index (Loops l x a b c) go pr w is = cc is
+performs_plain notes s p code label index (When e a) go pr w is = cc is
+performs_plain notes s p code label index (Loop l x a b c) go pr w is = cc is
 performs_plain notes s p code label index _ go pr w is = refl
 
 -- ---- logical IF ----
 
 pub conditioned : (code : List Line) (n : ℕ) (w : World) (values : Values) → HoldsValues values w.state.store → (label : Option ℕ) (p : Place) (e : Formula) (a : Act) (rest : List Line) (pr : Progress) (r : Result Bool Stuck)
     → r ≡ condition (context_of code) values e
-    → performs code n w (record { label = label; place = p; act = Chooses e a }) rest pr
-    ≡ bind (settle p (tried r) w) (λ holds w1. choose holds (main_from code n (stand (record { label = label; place = p; act = a } ∷ rest) pr) w1) (leads (around_from code n) (main_at p) code label rest (main_from code n) pr Next w1))
+    → performs code n w (record { label = label; place = p; act = When e a }) rest pr
+    ≡ bind (settle p (tried r) w) (λ holds w1. choose holds (main_from code n (stand (record { label = label; place = p; act = a } ∷ rest) pr) w1) (leads (around_from code n) (main_at p) code label rest (main_from code n) pr Normal w1))
 conditioned code n w values holds label p e a rest pr r is =
-    ap (λ (o : Out Bool). bind o (λ holds w1. choose holds (main_from code n (stand (record { label = label; place = p; act = a } ∷ rest) pr) w1) (leads (around_from code n) (main_at p) code label rest (main_from code n) pr Next w1)))
+    ap (λ (o : Out Bool). bind o (λ holds w1. choose holds (main_from code n (stand (record { label = label; place = p; act = a } ∷ rest) pr) w1) (leads (around_from code n) (main_at p) code label rest (main_from code n) pr Normal w1)))
     (condition_is code (suc n) (exec (one_unit (notes_of code)) (λ u. code) (suc n)) values p w holds e ∙ ap (λ (t : Result Bool Stuck). settle p (tried t) w) (sym is))
 
 -- a part that is stuck ends the run
@@ -157,7 +157,7 @@ loops_set code passes pr index k within size loops i q lt here = by_test (nat_eq
 
 module _ (code : List Line) (limit n : ℕ) (run : Run) (w : World) (pr : Progress) (stands : Stands code limit n run w pr) (label : Option ℕ) (p : Place) (l : ℕ) (x : Text) (a b c : Par) (index : ℕ) where
   abbrev loop_line : Line
-  loop_line = record { label = label; place = p; act = Loops l x a b c }
+  loop_line = record { label = label; place = p; act = Loop l x a b c }
 
   pub loop_on : (k : Pass) (after : Run) → index < length code → length code ≡ length run.passes.items → Begins code x a b c (values_in run.places.cells) (Ok k) (values_in after.places.cells) → after.tape ≡ run.tape → after.passes.items ≡ set run.passes.items index k → after.begun ≡ run.begun
       → LeadsTo code limit (performs code n w loop_line (drop (index + 1) code) pr) (At (index + 1)) after
@@ -168,7 +168,7 @@ module _ (code : List Line) (limit n : ℕ) (run : Run) (w : World) (pr : Progre
         fuel = n;
         after = comes.after;
         progress = next;
-        is = ap (λ (o : Out Loop). bind o (λ q w1. main_from code n (stand (drop (index + 1) code) (begun (length (drop (index + 1) code)) q pr)) w1)) comes.is;
+        is = ap (λ (o : Out LoopParameters). bind o (λ q w1. main_from code n (stand (drop (index + 1) code) (begun (length (drop (index + 1) code)) q pr)) w1)) comes.is;
         stands = stands_altered code limit n run w pr next stands after comes.after comes.holds tape count (rw passes (loops_set code run.passes.items pr index k within size stands.loops));
       }
 
@@ -180,7 +180,7 @@ module _ (code : List Line) (limit n : ℕ) (run : Run) (w : World) (pr : Progre
         fuel = n;
         after = comes.after;
         progress = pr;
-        is = ap (λ (o : Out Loop). bind o (λ q w1. main_from code n (stand (drop (index + 1) code) (begun (length (drop (index + 1) code)) q pr)) w1)) comes.is ∙ loop_stuck s comes.after;
+        is = ap (λ (o : Out LoopParameters). bind o (λ q w1. main_from code n (stand (drop (index + 1) code) (begun (length (drop (index + 1) code)) q pr)) w1)) comes.is ∙ loop_stuck s comes.after;
         stands = shows_held code limit after comes.after (stands_altered code limit n run w pr pr stands after comes.after comes.holds tape count (subst (λ (ps : List Pass). LoopsAre code ps pr) (sym passes) stands.loops)).holds;
       }
     where

@@ -10,8 +10,8 @@ use Rattle.ground.specs.declared.value.Value.{Value}
 use Rattle.f66_tree.specs.declared.declaration.Par.{Par}
 use Rattle.f66_tree.specs.declared.expression.Expr.{Expr}
 use Rattle.f66_tree.specs.declared.expression.Expr.TheVariants.{Item}
-use Rattle.f66_tree.specs.Forms as forms
-use Rattle.f66_tree.specs.Forms.{Text, Formulas, Applied, Also}
+use Rattle.f66_tree.specs.Syntax as forms
+use Rattle.f66_tree.specs.Syntax.{Text, Formulas, AndFormula}
 use Rattle.f66_tree.specs.Units.{Note, Context, sizes_of, places_of}
 use Rattle.f66_tree.specs.Evaluation.{Sort, AnArray, AnIntrinsic, AFunction, known, intrinsics, array_or}
 use Rattle.f66_tree.specs.Evaluation as meaning
@@ -30,10 +30,10 @@ use Rattle.unit_walk.specs.Walked.{are_few, is_count, is_formula, are_formulas, 
 
 -- ---- names with arguments ----
 
-pub item_is : (e : Expr) (x : Text) (list : Vec Expr Global) (seen : List Expr) → e ≡ Item x list → seen ≡ list.items → formula_of e ≡ Applied x (formulas_of seen)
-item_is e x list seen is same = ap formula_of is ∙ item_formula x list ∙ ap (λ (l : List Expr). Applied x (formulas_of l)) (sym same)
+pub item_is : (e : Expr) (x : Text) (list : Vec Expr Global) (seen : List Expr) → e ≡ Item x list → seen ≡ list.items → formula_of e ≡ forms.Item x (formulas_of seen)
+item_is e x list seen is same = ap formula_of is ∙ item_formula x list ∙ ap (λ (l : List Expr). forms.Item x (formulas_of l)) (sym same)
 
-pub walked_item : (notes : List Note) (e : Expr) (x : Text) (list : Vec Expr Global) (seen : List Expr) → e ≡ Item x list → seen ≡ list.items → is_formula notes (formula_of e) ≡ true → is_formula notes (Applied x (formulas_of seen)) ≡ true
+pub walked_item : (notes : List Note) (e : Expr) (x : Text) (list : Vec Expr Global) (seen : List Expr) → e ≡ Item x list → seen ≡ list.items → is_formula notes (formula_of e) ≡ true → is_formula notes (forms.Item x (formulas_of seen)) ≡ true
 walked_item notes e x list seen is same walked = subst (λ (f : forms.Formula). is_formula notes f ≡ true) (item_is e x list seen is same) walked
 
 pub array_few : (sizes : List Par) (x : Text) (es : Formulas) → 0 < length sizes → is_count (array_or (map par_of sizes) x) es ≡ true → are_few es ≡ true
@@ -99,7 +99,7 @@ module _ (c : Context) (values : Values) where
   arguments_more all i e v kept within here is inside so_far =
       so_far
       ∙ ap (λ (l : List Expr). values_of c values (formulas_of l) then (λ vs. Ok (take i kept ++ vs))) (drop_more all i e within)
-      ∙ ap (λ (x : Expr). values_of c values (Also (formula_of x) (formulas_of (drop (i + 1) all))) then (λ vs. Ok (take i kept ++ vs))) (sym here)
+      ∙ ap (λ (x : Expr). values_of c values (AndFormula (formula_of x) (formulas_of (drop (i + 1) all))) then (λ vs. Ok (take i kept ++ vs))) (sym here)
       ∙ ap (λ (r : Result Value Stuck). (r then (λ u. values_of c values (formulas_of (drop (i + 1) all)) then (λ vs. Ok (u ∷ vs)))) then (λ vs. Ok (take i kept ++ vs))) (sym is)
       ∙ kept_more (values_of c values (formulas_of (drop (i + 1) all))) i kept v inside
 
@@ -116,7 +116,7 @@ module _ (c : Context) (values : Values) where
 -- ---- arrays ----
 
 -- an element of an array that a unit declares
-pub array_arguments : (notes : List Note) (x : Text) (list : List Expr) (sizes : List Par) → 0 < length sizes → map par_of sizes ≡ sizes_of x notes → is_formula notes (Applied x (formulas_of list)) ≡ true → length list ≤ 3
+pub array_arguments : (notes : List Note) (x : Text) (list : List Expr) (sizes : List Par) → 0 < length sizes → map par_of sizes ≡ sizes_of x notes → is_formula notes (forms.Item x (formulas_of list)) ≡ true → length list ≤ 3
 array_arguments notes x list sizes full same walked =
     let count : is_count (array_or (sizes_of x notes) x) (formulas_of list) ≡ true = (and_parts (is_count (array_or (sizes_of x notes) x) (formulas_of list)) (are_formulas notes (formulas_of list)) walked).0 in
     few_length list (array_few sizes x (formulas_of list) full (subst (λ (ns : List forms.Par). is_count (array_or ns x) (formulas_of list) ≡ true) (sym same) count))

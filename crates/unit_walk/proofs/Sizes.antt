@@ -1,27 +1,27 @@
 -- How large an expression is, or a list of READ and WRITE, for the end of a recursion.
 use Rattle.std.proofs.Common.{◌≡◌, ℕ, zero, suc, ◌+◌, ◌<◌, ◌≤◌, length, List, [], ◌∷◌, get_or, ap, arith}
 use Rattle.f66_tree.specs.declared.expression.Expr.{Expr}
-use Rattle.f66_tree.specs.Forms.{Formula, Number, Fact, Letter, Variable, Applied, Grouped, Positive, Negative, Negated, Joined, Formulas, Nought, Also, One, Many, Entries, NoEntry, AndEntry}
-use Rattle.f66_tree.specs.Forms as forms
+use Rattle.f66_tree.specs.Syntax.{Formula, Int, Truth, Letter, Ref, Item, Group, Plus, Minus, Not, Pair, Formulas, NoFormula, AndFormula, One, Many, Entries, NoEntry, AndEntry}
+use Rattle.f66_tree.specs.Syntax as forms
 use Rattle.f66_tree.specs.declared.statement.Entry.{Entry}
 use Rattle.f66_tree.specs.Views.{formula_of, formulas_of, entry_of, entries_of}
 
 abbrev mutual
   pub formula_size : Formula → ℕ
-  formula_size (Number z) = 1
-  formula_size (Fact b) = 1
+  formula_size (Int z) = 1
+  formula_size (Truth b) = 1
   formula_size (Letter l) = 1
-  formula_size (Variable x) = 1
-  formula_size (Applied x es) = formulas_size es + 4
-  formula_size (Grouped a) = formula_size a + 1
-  formula_size (Positive a) = formula_size a + 1
-  formula_size (Negative a) = formula_size a + 1
-  formula_size (Negated a) = formula_size a + 1
-  formula_size (Joined op a b) = formula_size a + formula_size b + 1
+  formula_size (Ref x) = 1
+  formula_size (Item x es) = formulas_size es + 4
+  formula_size (Group a) = formula_size a + 1
+  formula_size (Plus a) = formula_size a + 1
+  formula_size (Minus a) = formula_size a + 1
+  formula_size (Not a) = formula_size a + 1
+  formula_size (Pair op a b) = formula_size a + formula_size b + 1
 
   pub formulas_size : Formulas → ℕ
-  formulas_size Nought = 0
-  formulas_size (Also e es) = formula_size e + formulas_size es
+  formulas_size NoFormula = 0
+  formulas_size (AndFormula e es) = formula_size e + formulas_size es
 
 pub member_size : (all : List Expr) (i : ℕ) (e : Expr) → i < length all → e ≡ get_or all i e → formula_size (formula_of e) ≤ formulas_size (formulas_of all)
 member_size [] i e within is = absurd (omega (arith, within))

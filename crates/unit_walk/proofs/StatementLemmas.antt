@@ -7,7 +7,7 @@ use Rattle.ground.specs.declared.trap.Trap.TheVariants.{BadBranch}
 use Rattle.ground.specs.declared.value.Value.{Value}
 use Rattle.ground.specs.declared.value.Value.TheVariants.{Int, Log}
 use Rattle.ground.specs.Content.{Content}
-use Rattle.f66_tree.specs.Forms.{Text, Formula, Number, Fact, Letter, Variable, Applied, Grouped, Positive, Negative, Negated, Joined, Act, Assigns, Selects, Signs, Line}
+use Rattle.f66_tree.specs.Syntax.{Text, Formula, Truth, Letter, Ref, Item, Group, Plus, Minus, Not, Pair, Act, Assign, Computed, Sign, Line}
 use Rattle.f66_tree.specs.World.{Store, put_in, World, Out, Gives, Try, bind, settle, holding}
 use Rattle.f66_tree.specs.Units.{Frame, Spot, Held, notes_of}
 use Rattle.f66_tree.specs.Evaluation as meaning
@@ -28,6 +28,7 @@ use Rattle.unit_walk.specs.declared.statement.Exit.TheVariants.{Next, Ends}
 use Rattle.unit_walk.proofs.ComesLemmas.{alters_none}
 use Rattle.unit_walk.proofs.Spots.{same_unit}
 use Rattle.unit_walk.proofs.ValueLemmas.{then_viewed, load_is, element_is, value_is, values_are}
+use Rattle.f66_tree.specs.Syntax as f66
 
 pub put_holds : (values new : Values) (store : Store) (name : Text) (o : ℕ) (v : Option Value) → Sets values name o v new → HoldsValues values store → HoldsValues new (put_in (list_number (o ∷ name)) (content_of v) store)
 put_holds values new store name o v sets holds = record { at = λ q i. put_is q i (nat_eq (list_number (i ∷ q)) (list_number (o ∷ name))) (same_unit i o q name) }
@@ -84,7 +85,7 @@ spot t = Held 0 t.0 t.1
 
 -- what an assignment gives, by its place and its value
 abbrev pub stores : Values → Place → World → Result (Text × ℕ × Value) Stuck → Out meant.Exit
-stores values p w (Ok t) = Gives meant.Next (holding (put_in (list_number (t.1 ∷ t.0)) (content t.2) w.state.store) w)
+stores values p w (Ok t) = Gives meant.Normal (holding (put_in (list_number (t.1 ∷ t.0)) (content t.2) w.state.store) w)
 stores values p w (Err s) = leaves (Ends (end_of_stuck s p)) w
 
 module _ (code : List Line) (n : ℕ) (run : Frame → Stand → World → Out ⊤) (values : Values) (p : Place) (w : World) (holds : HoldsValues values w.state.store) where
@@ -100,17 +101,17 @@ module _ (code : List Line) (n : ℕ) (run : Frame → Stand → World → Out �
   place_sort x AFunction arguments r is = refl
 
   pub located : (e : Formula) → locate (around_main (notes_of code) code n run) (main_at p) e w ≡ settle p (viewed spot (place (context_of code) values e)) w
-  located (Variable x) = refl
-  located (Applied x es) =
+  located (Ref x) = refl
+  located (Item x es) =
       place_sort x (sort_of (context_of code) x) (meaning.values_of (around_main (notes_of code) code n run) (main_at p) es) (values_of (context_of code) values es) (values_are (notes_of code) code n run values p w holds es)
-  located (Number z) = refl
-  located (Fact z) = refl
+  located (f66.Int z) = refl
+  located (Truth z) = refl
   located (Letter z) = refl
-  located (Grouped a) = refl
-  located (Positive a) = refl
-  located (Negative a) = refl
-  located (Negated a) = refl
-  located (Joined op a b) = refl
+  located (Group a) = refl
+  located (Plus a) = refl
+  located (Minus a) = refl
+  located (Not a) = refl
+  located (Pair op a b) = refl
 
   pub condition_is : (e : Formula) → asks (around_main (notes_of code) code n run) (main_at p) e w ≡ settle p (tried (condition (context_of code) values e)) w
   condition_is e =
@@ -132,41 +133,41 @@ module _ (code : List Line) (n : ℕ) (run : Frame → Stand → World → Out �
   label_jumps (Err (Trapped t)) label next is = refl
   label_jumps (Err Wrong) label next is = refl
 
-  pub selects_is : (ls : List ℕ) (x : Text) → does (around_main (notes_of code) code n run) (main_at p) (Selects ls x) w ≡ leaves (jumped (selecting (context_of code) values ls x) p) w
+  pub selects_is : (ls : List ℕ) (x : Text) → does (around_main (notes_of code) code n run) (main_at p) (Computed ls x) w ≡ leaves (jumped (selecting (context_of code) values ls x) p) w
   selects_is ls x =
       ap (λ (o : Out Content). bind o (λ v w1. bind (settle p (meant.label_at ls v) w1) (λ l w2. Gives (meant.To l) w2))) (load_is (notes_of code) code n run values p w holds x 0)
       ∙ label_jumps (read (context_of code) values x 0) (meant.label_at ls) (λ v. number_in v then λ z. label_at ls z) (label_at_is ls)
 
-  pub signs_is : (e : Formula) (a b d : ℕ) → does (around_main (notes_of code) code n run) (main_at p) (Signs e a b d) w ≡ leaves (jumped (selecting_by_sign (context_of code) values e a b d) p) w
+  pub signs_is : (e : Formula) (a b d : ℕ) → does (around_main (notes_of code) code n run) (main_at p) (Sign e a b d) w ≡ leaves (jumped (selecting_by_sign (context_of code) values e a b d) p) w
   signs_is e a b d =
       ap (λ (o : Out Content). bind o (λ v w1. bind (settle p (meant.by_sign_of a b d v) w1) (λ l w2. Gives (meant.To l) w2))) (value_is (notes_of code) code n run values p w holds e)
       ∙ label_jumps (value (context_of code) values e) (meant.by_sign_of a b d) (λ v. number_in v then λ z. Ok (label_by_sign a b d z)) (sign_is a b d)
 
   stored_is : (t : Text × ℕ) (r : Result Value Stuck)
-      → bind (settle p (viewed content r) w) (λ v w1. bind (store_at (around_main (notes_of code) code n run) (main_at p) (spot t) v w1) (λ _ w2. Gives meant.Next w2)) ≡ stores values p w (r then λ v. Ok (t.0, t.1, v))
+      → bind (settle p (viewed content r) w) (λ v w1. bind (store_at (around_main (notes_of code) code n run) (main_at p) (spot t) v w1) (λ _ w2. Gives meant.Normal w2)) ≡ stores values p w (r then λ v. Ok (t.0, t.1, v))
   stored_is t (Ok v) = refl
   stored_is t (Err (Trapped x)) = refl
   stored_is t (Err Wrong) = refl
 
   placed_is : (e : Formula) (r : Result (Text × ℕ) Stuck)
-      → bind (settle p (viewed spot r) w) (λ q w1. bind (meaning.value_of (around_main (notes_of code) code n run) (main_at p) e w1) (λ v w2. bind (store_at (around_main (notes_of code) code n run) (main_at p) q v w2) (λ _ w3. Gives meant.Next w3)))
+      → bind (settle p (viewed spot r) w) (λ q w1. bind (meaning.value_of (around_main (notes_of code) code n run) (main_at p) e w1) (λ v w2. bind (store_at (around_main (notes_of code) code n run) (main_at p) q v w2) (λ _ w3. Gives meant.Normal w3)))
       ≡ stores values p w (r then λ t. value (context_of code) values e then λ v. Ok (t.0, t.1, v))
   placed_is e (Ok t) =
-      ap (λ (o : Out Content). bind o (λ v w2. bind (store_at (around_main (notes_of code) code n run) (main_at p) (spot t) v w2) (λ _ w3. Gives meant.Next w3))) (value_is (notes_of code) code n run values p w holds e)
+      ap (λ (o : Out Content). bind o (λ v w2. bind (store_at (around_main (notes_of code) code n run) (main_at p) (spot t) v w2) (λ _ w3. Gives meant.Normal w3))) (value_is (notes_of code) code n run values p w holds e)
       ∙ stored_is t (value (context_of code) values e)
   placed_is e (Err (Trapped x)) = refl
   placed_is e (Err Wrong) = refl
 
-  pub assigns_is : (x e : Formula) → does (around_main (notes_of code) code n run) (main_at p) (Assigns x e) w ≡ stores values p w (assigning (context_of code) values x e)
+  pub assigns_is : (x e : Formula) → does (around_main (notes_of code) code n run) (main_at p) (Assign x e) w ≡ stores values p w (assigning (context_of code) values x e)
   assigns_is x e =
-      ap (λ (o : Out Spot). bind o (λ q w1. bind (meaning.value_of (around_main (notes_of code) code n run) (main_at p) e w1) (λ v w2. bind (store_at (around_main (notes_of code) code n run) (main_at p) q v w2) (λ _ w3. Gives meant.Next w3)))) (located x)
+      ap (λ (o : Out Spot). bind o (λ q w1. bind (meaning.value_of (around_main (notes_of code) code n run) (main_at p) e w1) (λ v w2. bind (store_at (around_main (notes_of code) code n run) (main_at p) q v w2) (λ _ w3. Gives meant.Normal w3)))) (located x)
       ∙ placed_is e (place (context_of code) values x)
 
 pub jumps : (code : List Line) (p : Place) (a : Act) (values : Values) (r : Result ℕ Stuck)
     → ((n : ℕ) (run : Frame → Stand → World → Out ⊤) (w : World) → HoldsValues values w.state.store → does (around_main (notes_of code) code n run) (main_at p) a w ≡ leaves (jumped r p) w) → Does code p a values (jumped r p) values
 jumps code p a values r is = record { is = λ n run w holds. record { after = w; is = is n run w holds; holds = alters_none w values holds } }
 
-pub assigns : (code : List Line) (p : Place) (x e : Formula) (values new : Values) (t : Text × ℕ × Value) → Ok t ≡ assigning (context_of code) values x e → Sets values t.0 t.1 (Some t.2) new → Does code p (Assigns x e) values Next new
+pub assigns : (code : List Line) (p : Place) (x e : Formula) (values new : Values) (t : Text × ℕ × Value) → Ok t ≡ assigning (context_of code) values x e → Sets values t.0 t.1 (Some t.2) new → Does code p (Assign x e) values Next new
 assigns code p x e values new t is sets = record {
   is = λ n run w holds. record {
     after = holding (put_in (list_number (t.1 ∷ t.0)) (content t.2) w.state.store) w;
@@ -175,7 +176,7 @@ assigns code p x e values new t is sets = record {
   };
 }
 
-pub assign_stuck : (code : List Line) (p : Place) (x e : Formula) (values : Values) (s : Stuck) → Err s ≡ assigning (context_of code) values x e → Does code p (Assigns x e) values (Ends (end_of_stuck s p)) values
+pub assign_stuck : (code : List Line) (p : Place) (x e : Formula) (values : Values) (s : Stuck) → Err s ≡ assigning (context_of code) values x e → Does code p (Assign x e) values (Ends (end_of_stuck s p)) values
 assign_stuck code p x e values s is = record {
   is = λ n run w holds. record { after = w; is = assigns_is code n run values p w holds x e ∙ ap (stores values p w) (sym is); holds = alters_none w values holds };
 }

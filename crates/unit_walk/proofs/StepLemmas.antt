@@ -3,7 +3,7 @@ use Rattle.std.proofs.Common.{◌≡◌, ℕ, zero, suc, ◌+◌, List, [], ◌�
 use Rattle.std.specs.Prelude.{IfOk}
 use Rattle.ground.specs.declared.place.Place.{Place}
 use Rattle.f66_tree.specs.declared.statement.Stmt.{Stmt}
-use Rattle.f66_tree.specs.Forms.{Act, Line}
+use Rattle.f66_tree.specs.Syntax.{Act, Line}
 use Rattle.f66_tree.specs.Units.{Setting, notes_of}
 use Rattle.f66_tree.specs.Statements as meant
 use Rattle.f66_tree.specs.Execution.{Closer, stand, from_label, close, leads}
@@ -33,17 +33,17 @@ drop_lines (s ∷ all) (suc n) = drop_lines all n
 
 module _ (code : List Line) (label : Option ℕ) (index : ℕ) (p : Place) (passes : List Pass) where
   pub closes_onward : (closings : List Closing) (values : Values) (lead : Lead) (new : Values) → ClosesAt code label closings → length code ≡ length passes → Closes passes closings (index + 1) p values lead new
-      → Leads code passes (onward code label index p meant.Next) (led_to code lead) values new
+      → Leads code passes (onward code label index p meant.Normal) (led_to code lead) values new
   closes_onward closings values lead new at size closes =
       subst (λ (es : List Closer). Leads code passes (λ s go pr w. close s (main_at p) es (drop (index + 1) code) go pr w) (led_to code lead) values new) at.same (closes code size)
 
   module _ (a : Act) (values mid : Values) where
     pub plain_next : (lead : Lead) (new : Values) → Does code p a values Next mid
-        → Leads code passes (onward code label index p meant.Next) (led_to code lead) mid new → Leads code passes (plainly code label index p a) (led_to code lead) values new
+        → Leads code passes (onward code label index p meant.Normal) (led_to code lead) mid new → Leads code passes (plainly code label index p a) (led_to code lead) values new
     plain_next lead new does leads_on = record {
       is = λ n run go pr loops w holds.
           let s : Setting = around_main (notes_of code) code n run in
-          comes_on (plainly code label index p a s go pr w) (onward code label index p meant.Next s go pr) (led_to code lead s go pr) w mid new
+          comes_on (plainly code label index p a s go pr w) (onward code label index p meant.Normal s go pr) (led_to code lead s go pr) w mid new
           (comes_bound (meant.does s (main_at p) a w) (leaves Next) (λ y w1. leads s (main_at p) code label (drop (index + 1) code) go pr y w1) (Alters w mid) (does.is n run w holds))
           (λ w1 holds1. leads_on.is n run go pr loops w1 holds1);
     }

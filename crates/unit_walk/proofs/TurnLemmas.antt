@@ -7,10 +7,10 @@ use Rattle.ground.specs.declared.place.Place.{Place}
 use Rattle.f66_tree.specs.declared.statement.Entry.{Entry}
 use Rattle.f66_tree.specs.declared.editing.Way.{Way}
 use Rattle.f66_tree.specs.Fields.{Fields}
-use Rattle.f66_tree.specs.Forms.{Text, Par, Many, Entries, Line}
+use Rattle.f66_tree.specs.Syntax.{Text, Par, Many, Entries, Line}
 use Rattle.f66_tree.specs.World.{World, Out, Gives, Halts, bind, settle, choose, take_from}
 use Rattle.f66_tree.specs.Units.{Frame, Setting, Note, notes_of}
-use Rattle.f66_tree.specs.Statements.{Loop, loop_turn, item_turns, items, entry}
+use Rattle.f66_tree.specs.Statements.{LoopParameters, loop_turn, item_turns, items, entry}
 use Rattle.f66_tree.specs.Execution.{Stand}
 use Rattle.f66_tree.specs.Views.{entry_of, entries_of}
 use Rattle.record_tape.specs.Reels.{Reel, seen}
@@ -61,7 +61,7 @@ altered_inside limit fs old new w w1 inside alters tape begun = record {
 }
 
 module _ (code : List Line) (limit : ℕ) (fs : Fields) (p : Place) (way : Way) (x : Text) (es : Entries) where
-  after_begin : (n : ℕ) (run : Frame → Stand → World → Out ⊤) (k : Loop) (m i j : ℕ) (w : World) → m ≡ suc i → w.left ≡ suc j
+  after_begin : (n : ℕ) (run : Frame → Stand → World → Out ⊤) (k : LoopParameters) (m i j : ℕ) (w : World) → m ≡ suc i → w.left ≡ suc j
       → turns_over p way x k es (around_main (notes_of code) code n run) m w
       ≡ bind (items (around_main (notes_of code) code n run) (main_at p) way es (started j w)) (λ _ w1. bind (loop_turn (around_main (notes_of code) code n run) (main_at p) x k w1) (λ g w2. choose g (turns_over p way x k es (around_main (notes_of code) code n run) i w2) (Gives tt w2)))
   after_begin n run k m i j w most left =
@@ -166,7 +166,7 @@ module _ (code : List Line) (limit : ℕ) (fs : Fields) (p : Place) (way : Way) 
           };
     }
 
-  module _ (k : Loop) (old mid new : Run) (so_far : TurnsOn code limit fs (turns_over p way x k es) old mid) where
+  module _ (k : LoopParameters) (old mid new : Run) (so_far : TurnsOn code limit fs (turns_over p way x k es) old mid) where
     pub turns_more : TurnGoes code limit fs (turns_over p way x k es) mid (Ok true) new → TurnsOn code limit fs (turns_over p way x k es) old new
     turns_more turn = record {
       rises = omega (arith, so_far.rises, turn.rises);
@@ -206,7 +206,7 @@ module _ (code : List Line) (limit : ℕ) (fs : Fields) (p : Place) (way : Way) 
         let e = goes.is n run t.after (omega (arith, t.holds.left, few)) held in
         record {
           after = e.after;
-          is = ap (λ (o : Out Loop). bind o (λ q w1. item_turns n s (main_at p) x q (items s (main_at p) way es) w1)) t.is ∙ e.is;
+          is = ap (λ (o : Out LoopParameters). bind o (λ q w1. item_turns n s (main_at p) x q (items s (main_at p) way es) w1)) t.is ∙ e.is;
           holds = e.holds;
         };
   }

@@ -12,7 +12,7 @@ use Rattle.ground.specs.Content.{Content, Whole}
 use Rattle.ground.specs.Arithmetic.{sum, difference, product, quotient, remainder, power}
 use Rattle.f66_tree.specs.declared.expression.Operator.{Operator}
 use Rattle.f66_tree.specs.declared.expression.Operator.TheVariants.{Add, Sub, Mul, Div, Power, Lt, Le, Eq, Ne, Ge, Gt, And, Or}
-use Rattle.f66_tree.specs.Forms.{Text, Formula, Number, Fact, Letter, Variable, Applied, Grouped, Positive, Negative, Negated, Joined, Formulas, Nought, Also, Par, Constant, Named, Line}
+use Rattle.f66_tree.specs.Syntax.{Text, Formula, Truth, Letter, Ref, Item, Group, Plus, Minus, Not, Pair, Formulas, NoFormula, AndFormula, Par, Constant, Named, Line}
 use Rattle.f66_tree.specs.World.{World, Out, Gives, Try, Yields, Traps, Fails, then_try, bind, settle}
 use Rattle.f66_tree.specs.Units.{Note, Frame, Spot, Held, kind_of, sizes_of, places_of}
 use Rattle.f66_tree.specs.Evaluation as meaning
@@ -26,6 +26,7 @@ use Rattle.unit_walk.specs.Contents.{Values, content, content_of, viewed, tried,
 use Rattle.unit_walk.specs.Meaning.{numbered, on_numbers, on_facts, operated, number_in, fact_in, best_of, excess, called, distance, within, read, par_value, par_values, offset, applied, value, values_of}
 use Rattle.unit_walk.specs.Declarations.{in_main}
 use Rattle.unit_walk.specs.Walking.{HoldsValues, main_at, around_main}
+use Rattle.f66_tree.specs.Syntax as f66
 
 -- ---- one operation ----
 
@@ -234,31 +235,31 @@ module _ (notes : List Note) (code : List Line) (n : ℕ) (run : Frame → Stand
 
   mutual
     pub value_is : (e : Formula) → meaning.value_of (around_main notes code n run) (main_at p) e w ≡ settle p (contents (value (in_main notes) values e)) w
-    value_is (Number z) = refl
-    value_is (Fact b) = refl
+    value_is (f66.Int z) = refl
+    value_is (Truth b) = refl
     value_is (Letter l) = refl
-    value_is (Variable x) = load_is x 0
-    value_is (Applied x es) =
+    value_is (Ref x) = load_is x 0
+    value_is (Item x es) =
         referred_is x (sort_of (in_main notes) x) (meaning.values_of (around_main notes code n run) (main_at p) es) (meaning.spots_of (around_main notes code n run) (main_at p) es) (values_of (in_main notes) values es) (values_are es)
-    value_is (Grouped a) = value_is a
-    value_is (Positive a) =
+    value_is (Group a) = value_is a
+    value_is (Plus a) =
         ap (λ (o : Out Content). bind o (λ v w1. settle p (same_whole v) w1)) (value_is a)
         ∙ then_viewed p w content content (value (in_main notes) values a) (λ v. number_in v then λ z. Ok (Int z)) (λ v w1. settle p (same_whole v) w1) (λ v. ap (λ (t : Try Content). settle p t w) (same_is v))
-    value_is (Negative a) =
+    value_is (Minus a) =
         ap (λ (o : Out Content). bind o (λ v w1. settle p (opposite v) w1)) (value_is a)
         ∙ then_viewed p w content content (value (in_main notes) values a) (λ v. number_in v then λ z. Ok (Int (neg_ℤ z))) (λ v w1. settle p (opposite v) w1) (λ v. ap (λ (t : Try Content). settle p t w) (opposite_is v))
-    value_is (Negated a) =
+    value_is (Not a) =
         ap (λ (o : Out Content). bind o (λ v w1. settle p (denied v) w1)) (value_is a)
         ∙ then_viewed p w content content (value (in_main notes) values a) (λ v. fact_in v then λ b. Ok (Log (not b))) (λ v w1. settle p (denied v) w1) (λ v. ap (λ (t : Try Content). settle p t w) (denied_is v))
-    value_is (Joined op a b) =
+    value_is (Pair op a b) =
         ap (λ (o : Out Content). by_operator (around_main notes code n run) (main_at p) op o (meaning.value_of (around_main notes code n run) (main_at p) b)) (value_is a)
         ∙ then_viewed p w content content (value (in_main notes) values a) (λ x. value (in_main notes) values b then λ y. operated op x y) (λ x w1. bind (meaning.value_of (around_main notes code n run) (main_at p) b w1) (λ y w2. settle p (operate op x y) w2))
         (λ x. ap (λ (o : Out Content). bind o (λ y w2. settle p (operate op (content x) y) w2)) (value_is b)
         ∙ then_viewed p w content content (value (in_main notes) values b) (λ y. operated op x y) (λ y w2. settle p (operate op (content x) y) w2) (λ y. ap (λ (t : Try Content). settle p t w) (operated_is op x y)))
 
     pub values_are : (es : Formulas) → meaning.values_of (around_main notes code n run) (main_at p) es w ≡ settle p (viewed (map content) (values_of (in_main notes) values es)) w
-    values_are Nought = refl
-    values_are (Also e es) =
+    values_are NoFormula = refl
+    values_are (AndFormula e es) =
         ap (λ (o : Out Content). bind o (λ v w1. bind (meaning.values_of (around_main notes code n run) (main_at p) es w1) (λ vs w2. Gives (v ∷ vs) w2))) (value_is e)
         ∙ then_viewed p w content (map content) (value (in_main notes) values e) (λ v. values_of (in_main notes) values es then λ vs. Ok (v ∷ vs)) (λ v w1. bind (meaning.values_of (around_main notes code n run) (main_at p) es w1) (λ vs w2. Gives (v ∷ vs) w2))
         (λ v. ap (λ (o : Out (List Content)). bind o (λ vs w2. Gives (content v ∷ vs) w2)) (values_are es)

@@ -1,13 +1,13 @@
 -- A whole run: how it starts, goes on, and ends.
 use Rattle.std.proofs.Common.{◌≡◌, ◌≢◌, ℕ, Bool, true, false, List, [], ◌∷◌, drop, refl, sym, ◌∙◌, ap, arith, if◌then◌else◌}
 use Rattle.std.specs.Prelude.{⊤}
-use Rattle.f66_tree.specs.Forms.{Line}
+use Rattle.f66_tree.specs.Syntax.{Line}
 use Rattle.f66_tree.specs.World.{Record, World, Out, Shown, shown, Ended, Wrong}
 use Rattle.f66_tree.specs.Units.{is_note, notes_of}
 use Rattle.f66_tree.specs.Editing.{Files}
-use Rattle.f66_tree.specs.Execution.{Progress, runnable, fetch, exec, nowhere, start, no_loops}
+use Rattle.f66_tree.specs.Execution.{Progress, runnable, fetch, exec, nowhere, first_state, no_loops}
 use Rattle.f66_tree.specs.OneUnit.{one_unit, executed}
-use Rattle.f66_sound.specs.SoundUnits.{RunsRightly}
+use Rattle.f66_soundness.specs.SoundUnits.{RunsRightly}
 use Rattle.unit_walk.specs.declared.statement.Halt.{Halt}
 use Rattle.unit_walk.specs.declared.statement.Halt.TheVariants.{Right}
 use Rattle.unit_walk.specs.declared.statement.RunEnd.TheVariants as ends
@@ -69,7 +69,7 @@ module _ (code : List Line) (limit : ℕ) where
   pub starts_there : (input : List Record) (run : Run) → IsFirst code input run → LeadsTo code limit (whole_run code input limit) (At 0) run
   starts_there input run first = record {
     fuel = limit;
-    after = record { state = start (one_unit (notes_of code)) input; left = limit; count = 0 };
+    after = record { state = first_state (one_unit (notes_of code)) input; left = limit; count = 0 };
     progress = no_loops;
     is = refl;
     stands = record {

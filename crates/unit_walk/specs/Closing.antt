@@ -1,7 +1,7 @@
 -- What comes after the last statement of some DO loops.
 use Rattle.std.specs.Prelude.{◌≡◌, ℕ, List, drop, length, map}
 use Rattle.ground.specs.declared.place.Place.{Place}
-use Rattle.f66_tree.specs.Forms.{Line}
+use Rattle.f66_tree.specs.Syntax.{Line}
 use Rattle.f66_tree.specs.Execution.{close}
 use Rattle.unit_walk.specs.declared.do_loop.Pass.{Pass}
 use Rattle.unit_walk.specs.declared.do_loop.Closing.{Closing}

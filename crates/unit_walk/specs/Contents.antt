@@ -10,7 +10,7 @@ use Rattle.ground.specs.declared.value.Value.{Value}
 use Rattle.ground.specs.declared.value.Value.TheVariants.{Int, Log}
 use Rattle.ground.specs.Content.{Content, Nothing}
 use Rattle.record_tape.specs.Reels as reels
-use Rattle.f66_tree.specs.Forms.{Text}
+use Rattle.f66_tree.specs.Syntax.{Text}
 use Rattle.f66_tree.specs.World.{Try, Yields, Traps, Fails}
 use Rattle.unit_walk.specs.declared.stuck.Stuck.{Stuck}
 use Rattle.unit_walk.specs.declared.stuck.Stuck.TheVariants as stuck

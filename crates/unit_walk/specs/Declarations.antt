@@ -7,7 +7,7 @@ use Rattle.std.specs.Borrow.{Bor}
 use Rattle.ground.specs.declared.value.Kind.{Kind}
 use Rattle.ground.specs.declared.value.Kind.TheVariants.{Integer}
 use Rattle.f66_tree.specs.declared.declaration.TypeWord.{TypeWord}
-use Rattle.f66_tree.specs.Forms.{Text, Par, Declared, MainUnit, Act, Types, Dimensions, Line}
+use Rattle.f66_tree.specs.Syntax.{Text, Par, Declared, MainUnit, Act, Typed, Dimension, Line}
 use Rattle.f66_tree.specs.Units.{Note, Context, notes_of, lists, kind_by, kind_of, sizes_of}
 use Rattle.f66_tree.specs.Views.{par_of}
 use Rattle.unit_walk.specs.declared.names.Names.{Names}
@@ -22,7 +22,7 @@ context_of code = in_main (notes_of code)
 -- ---- types ----
 
 abbrev pub type_by : Text → Act → Option TypeWord
-type_by x (Types t ds) = if lists x ds then Some t else None
+type_by x (Typed t ds) = if lists x ds then Some t else None
 type_by x _ = None
 
 abbrev pub first_type : Text → List Note → Option TypeWord
@@ -43,8 +43,8 @@ first_sizes_in x [] = None
 first_sizes_in x (d ∷ ds) = option_or (if bytes_eq x d.name then some_sizes d.sizes else None) (first_sizes_in x ds)
 
 abbrev pub sizes_by : Text → Act → Option (List Par)
-sizes_by x (Types t ds) = first_sizes_in x ds
-sizes_by x (Dimensions ds) = first_sizes_in x ds
+sizes_by x (Typed t ds) = first_sizes_in x ds
+sizes_by x (Dimension ds) = first_sizes_in x ds
 sizes_by x _ = None
 
 abbrev pub first_sizes : Text → List Note → Option (List Par)

@@ -1,7 +1,7 @@
 -- How statements are left, and how runs end.
 use Rattle.std.specs.Prelude.{ℕ, List, Result, Ok, Err, ⊤}
 use Rattle.ground.specs.declared.place.Place.{Place}
-use Rattle.f66_tree.specs.Forms.{Act, Line}
+use Rattle.f66_tree.specs.Syntax.{Act, Line}
 use Rattle.f66_tree.specs.World.{World, Done, Stopped, Trapped, Wrong, End, Ended, GoesOn, Out, Gives, Halts}
 use Rattle.f66_tree.specs.Units.{Frame, notes_of}
 use Rattle.f66_tree.specs.Statements as meant
@@ -40,7 +40,7 @@ jumped (Err s) p = Ends (end_of_stuck s p)
 
 -- what a plain statement gives that is left so
 abbrev pub leaves : Exit → World → Out meant.Exit
-leaves Next w = Gives meant.Next w
+leaves Next w = Gives meant.Normal w
 leaves (To l) w = Gives (meant.To l) w
 leaves (Ends h) w = Halts (halted h) w
 

@@ -10,7 +10,7 @@ use Rattle.record_tape.specs.Reels.{seen}
 use Rattle.f66_tree.specs.declared.editing.Way.{Way}
 use Rattle.f66_tree.specs.declared.editing.Way.TheVariants.{Reading, Writing}
 use Rattle.f66_tree.specs.Fields.{Fields}
-use Rattle.f66_tree.specs.Forms.{Text}
+use Rattle.f66_tree.specs.Syntax.{Text}
 use Rattle.unit_walk.specs.declared.run.Run.{Run}
 use Rattle.unit_walk.specs.Contents.{Values, values_in}
 

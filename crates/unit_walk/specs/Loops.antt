@@ -5,10 +5,10 @@ use Rattle.ground.specs.declared.place.Place.{Place}
 use Rattle.ground.specs.declared.value.Kind.TheVariants.{Integer}
 use Rattle.ground.specs.declared.value.Value.{Value}
 use Rattle.ground.specs.Arithmetic.{IsInRange}
-use Rattle.f66_tree.specs.Forms.{Text, Par, Line}
+use Rattle.f66_tree.specs.Syntax.{Text, Par, Line}
 use Rattle.f66_tree.specs.World.{World, Out, settle}
 use Rattle.f66_tree.specs.Units.{Context, Frame, notes_of}
-use Rattle.f66_tree.specs.Statements.{Loop, loop_start, loop_turn}
+use Rattle.f66_tree.specs.Statements.{LoopParameters, loop_start, loop_turn}
 use Rattle.f66_tree.specs.Execution.{Stand}
 use Rattle.unit_walk.specs.declared.do_loop.Pass.{Pass}
 use Rattle.unit_walk.specs.declared.stuck.Stuck.{Stuck}
@@ -17,7 +17,7 @@ use Rattle.unit_walk.specs.Contents.{Values, loaded, tried, ◌then◌}
 use Rattle.unit_walk.specs.Meaning.{number_in, par_value}
 use Rattle.unit_walk.specs.Walking.{HoldsValues, main_at, around_main, Comes, Alters}
 
-abbrev pub loop_of : Pass → Loop
+abbrev pub loop_of : Pass → LoopParameters
 loop_of k = record { limit = k.limit; step = k.step }
 
 abbrev pub fitted : ℤ → ℤ → ℤ → Result (ℤ × Pass) Stuck
@@ -31,7 +31,7 @@ abbrev pub begun_loop : Context → Values → Par → Par → Par → Result (�
 begun_loop k vs a b c = par_value k vs a then λ x. par_value k vs b then λ y. par_value k vs c then λ z. fitted_in x y z
 
 -- the value of the variable after a turn, where the loop goes on
-abbrev pub next_value : Loop → ℤ → Option ℤ
+abbrev pub next_value : LoopParameters → ℤ → Option ℤ
 next_value k z = if int_le (z +ℤ k.step) k.limit then Some (z +ℤ k.step) else None
 
 -- the value of a variable that counts
@@ -47,7 +47,7 @@ pub record FitsPass (k : Pass) : Type 0 where
 abbrev pub PassesFit : List Pass → Type 0
 PassesFit passes = (i : ℕ) (k : Pass) → i < length passes → k ≡ get_or passes i k → FitsPass k
 
-abbrev pub begun_with : Result Pass Stuck → Result Loop Stuck
+abbrev pub begun_with : Result Pass Stuck → Result LoopParameters Stuck
 begun_with (Ok k) = Ok (loop_of k)
 begun_with (Err s) = Err s
 

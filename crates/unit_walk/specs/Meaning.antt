@@ -8,7 +8,7 @@ use Rattle.ground.specs.declared.value.Value.TheVariants.{Int, Log}
 use Rattle.ground.specs.Arithmetic.{IsInRange, sum, difference, product, quotient, remainder, power}
 use Rattle.f66_tree.specs.declared.expression.Operator.{Operator}
 use Rattle.f66_tree.specs.declared.expression.Operator.TheVariants.{Add, Sub, Mul, Div, Power, Lt, Le, Eq, Ne, Ge, Gt, And, Or}
-use Rattle.f66_tree.specs.Forms.{Text, Formula, Number, Fact, Letter, Variable, Applied, Grouped, Positive, Negative, Negated, Joined, Formulas, Nought, Also, Par, Constant, Named}
+use Rattle.f66_tree.specs.Syntax.{Text, Formula, Truth, Letter, Ref, Item, Group, Plus, Minus, Not, Pair, Formulas, NoFormula, AndFormula, Par, Constant, Named}
 use Rattle.f66_tree.specs.Units.{Context, kind_of, sizes_of, places_of}
 use Rattle.f66_tree.specs.Evaluation.{Intrinsic, Iabs, Mod, Isign, Idim, Max0, Min0, Sort, AnArray, AnIntrinsic, AFunction, sort_of, with_sign}
 use Rattle.unit_walk.specs.declared.stuck.Stuck.{Stuck}
@@ -16,6 +16,7 @@ use Rattle.unit_walk.specs.declared.stuck.Stuck.TheVariants.{Trapped, Wrong}
 use Rattle.unit_walk.specs.declared.operate.Best.{Best}
 use Rattle.unit_walk.specs.declared.operate.Best.TheVariants.{Nothing, Of, Mixed}
 use Rattle.unit_walk.specs.Contents.{Values, loaded, ◌then◌}
+use Rattle.f66_tree.specs.Syntax as f66
 
 -- ---- operators ----
 
@@ -138,17 +139,17 @@ module _ (c : Context) (values : Values) where
 
   abbrev mutual
     pub value : Formula → Result Value Stuck
-    value (Number z) = Ok (Int z)
-    value (Fact b) = Ok (Log b)
+    value (f66.Int z) = Ok (Int z)
+    value (Truth b) = Ok (Log b)
     value (Letter l) = Ok (Int (pos l))
-    value (Variable x) = read x 0
-    value (Applied x es) = applied x (sort_of c x) (values_of es)
-    value (Grouped a) = value a
-    value (Positive a) = value a then λ v. number_in v then λ z. Ok (Int z)
-    value (Negative a) = value a then λ v. number_in v then λ z. Ok (Int (neg_ℤ z))
-    value (Negated a) = value a then λ v. fact_in v then λ b. Ok (Log (not b))
-    value (Joined op a b) = value a then λ x. value b then λ y. operated op x y
+    value (Ref x) = read x 0
+    value (Item x es) = applied x (sort_of c x) (values_of es)
+    value (Group a) = value a
+    value (Plus a) = value a then λ v. number_in v then λ z. Ok (Int z)
+    value (Minus a) = value a then λ v. number_in v then λ z. Ok (Int (neg_ℤ z))
+    value (Not a) = value a then λ v. fact_in v then λ b. Ok (Log (not b))
+    value (Pair op a b) = value a then λ x. value b then λ y. operated op x y
 
     pub values_of : Formulas → Result (List Value) Stuck
-    values_of Nought = Ok []
-    values_of (Also e es) = value e then λ v. values_of es then λ vs. Ok (v ∷ vs)
+    values_of NoFormula = Ok []
+    values_of (AndFormula e es) = value e then λ v. values_of es then λ vs. Ok (v ∷ vs)

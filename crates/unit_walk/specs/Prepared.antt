@@ -4,7 +4,7 @@ use Rattle.std.specs.HashMap.{HashMap, get}
 use Rattle.std.specs.declared.alloc.Global.{Global}
 use Rattle.std.specs.Borrow.{Bor}
 use Rattle.f66_tree.specs.declared.statement.Stmt.{Stmt}
-use Rattle.f66_tree.specs.Forms.{Line}
+use Rattle.f66_tree.specs.Syntax.{Line}
 use Rattle.f66_tree.specs.Execution.{Closer, closers}
 use Rattle.f66_tree.specs.Views.{lines_of}
 use Rattle.unit_walk.specs.declared.do_loop.Closing.{Closing}

@@ -1,6 +1,6 @@
 -- Where a run of a main unit stands, by an index, and where a statement leads.
 use Rattle.std.specs.Prelude.{◌≡◌, ℕ, ◌+◌, ◌<◌, List, drop, length, slice_index_or as get_or, ⊤}
-use Rattle.f66_tree.specs.Forms.{Line}
+use Rattle.f66_tree.specs.Syntax.{Line}
 use Rattle.f66_tree.specs.World.{World, Out, Halts}
 use Rattle.f66_tree.specs.Units.{Frame, Setting, notes_of}
 use Rattle.f66_tree.specs.Execution.{Progress, Stand, stand, Closer, Onward}

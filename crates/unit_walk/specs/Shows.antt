@@ -1,6 +1,6 @@
 -- What a walk shows.
 use Rattle.std.specs.Prelude.{◌≡◌, ℕ, List, [], None}
-use Rattle.f66_tree.specs.Forms.{Line, Text}
+use Rattle.f66_tree.specs.Syntax.{Line, Text}
 use Rattle.f66_tree.specs.World.{Record, Shown}
 use Rattle.f66_tree.specs.Execution.{no_loops}
 use Rattle.unit_walk.specs.declared.run.Run.{Run}

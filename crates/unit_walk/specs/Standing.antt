@@ -5,12 +5,12 @@ use Rattle.std.specs.Ordering.{nat_cmp}
 use Rattle.std.specs.declared.alloc.Global.{Global}
 use Rattle.ground.specs.declared.place.Place.{Place}
 use Rattle.f66_tree.specs.declared.statement.Stmt.{Stmt}
-use Rattle.f66_tree.specs.Forms.{Act, Line}
+use Rattle.f66_tree.specs.Syntax.{Act, Line}
 use Rattle.f66_tree.specs.World.{Record, World, Out, Halts, bind}
 use Rattle.f66_tree.specs.Units.{Setting, notes_of}
 use Rattle.f66_tree.specs.Views.{lines_of}
 use Rattle.f66_tree.specs.Statements.{Exit, does}
-use Rattle.f66_tree.specs.Execution.{Progress, Onward, stand, closers_at, nowhere, from_label, leads, perform, exec, start, no_loops}
+use Rattle.f66_tree.specs.Execution.{Progress, Onward, stand, closers_at, nowhere, from_label, leads, perform, exec, first_state, no_loops}
 use Rattle.f66_tree.specs.OneUnit.{one_unit}
 use Rattle.unit_walk.specs.declared.do_loop.Closing.{Closing}
 use Rattle.unit_walk.specs.declared.do_loop.Lead.{Lead}
@@ -117,4 +117,4 @@ branch_line s a = record { label = s.label; place = s.place; act = a }
 -- a whole run
 abbrev pub whole_run : List Line → List Record → ℕ → Out ⊤
 whole_run code input limit =
-    exec (one_unit (notes_of code)) (λ u. code) (suc limit) (main_at nowhere) (stand code no_loops) (record { state = start (one_unit (notes_of code)) input; left = limit; count = 0 })
+    exec (one_unit (notes_of code)) (λ u. code) (suc limit) (main_at nowhere) (stand code no_loops) (record { state = first_state (one_unit (notes_of code)) input; left = limit; count = 0 })

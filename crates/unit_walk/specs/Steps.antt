@@ -2,7 +2,7 @@
 use Rattle.std.specs.Prelude.{ℕ, zero, suc, ℤ, pos, negsuc, int_le, ◌&&◌, ⊤, if◌then◌else◌, Bool, true, false, List, [], ◌∷◌, Result, Ok, Err}
 use Rattle.ground.specs.declared.trap.Trap.TheVariants.{BadBranch, BadUnit}
 use Rattle.ground.specs.declared.value.Value.{Value}
-use Rattle.f66_tree.specs.Forms.{Text, Formula, Variable, Applied, Act, Reads, Writes}
+use Rattle.f66_tree.specs.Syntax.{Text, Formula, Ref, Item, Act, Read, Write}
 use Rattle.f66_tree.specs.declared.editing.Way.{Way}
 use Rattle.f66_tree.specs.Statements.{unit_for}
 use Rattle.f66_tree.specs.Units.{Context}
@@ -14,8 +14,8 @@ use Rattle.unit_walk.specs.Meaning.{number_in, fact_in, offset, read, value, val
 
 -- a statement that reads and writes no records
 abbrev pub is_still : Act → Bool
-is_still (Reads u l es) = false
-is_still (Writes u l es) = false
+is_still (Read u l es) = false
+is_still (Write u l es) = false
 is_still _ = true
 
 -- READ is on unit 5, WRITE on unit 6
@@ -46,8 +46,8 @@ module _ (c : Context) (values : Values) where
 
   -- the place that an expression names
   abbrev pub place : Formula → Result (Text × ℕ) Stuck
-  place (Variable x) = Ok (x, 0)
-  place (Applied x es) = element x (sort_of c x) (values_of c values es) then λ o. Ok (x, o)
+  place (Ref x) = Ok (x, 0)
+  place (Item x es) = element x (sort_of c x) (values_of c values es) then λ o. Ok (x, o)
   place _ = Err Wrong
 
   -- of an assignment the place comes first

@@ -4,13 +4,13 @@ use Rattle.ground.specs.declared.place.Place.{Place}
 use Rattle.f66_tree.specs.declared.editing.Way.{Way}
 use Rattle.f66_tree.specs.declared.editing.Way.TheVariants.{Reading, Writing}
 use Rattle.f66_tree.specs.Fields.{Fields}
-use Rattle.f66_tree.specs.Forms.{Text, Par, Entries, Act, Reads, Writes, Line}
+use Rattle.f66_tree.specs.Syntax.{Text, Par, Entries, Act, Read, Write, Line}
 use Rattle.f66_tree.specs.Turns.{is_over}
 use Rattle.f66_tree.specs.World.{World, Out, Gives, Halts, bind}
 use Rattle.f66_tree.specs.Records.{opened, closed}
 use Rattle.f66_tree.specs.Units.{Frame, Setting, notes_of}
 use Rattle.f66_tree.specs.Statements as meant
-use Rattle.f66_tree.specs.Statements.{Loop, taped, items, item_turns}
+use Rattle.f66_tree.specs.Statements.{LoopParameters, taped, items, item_turns}
 use Rattle.f66_tree.specs.Execution.{Stand}
 use Rattle.record_tape.specs.Reels.{Reel}
 use Rattle.record_tape.specs.declared.tape.Break.{Break}
@@ -81,10 +81,10 @@ SomeGo code limit fs part from old (Err h) new = Goes code limit fs (part from) 
 -- ---- implied DO ----
 
 -- at most m turns over these entries
-abbrev pub turns_over : Place → Way → Text → Loop → Entries → Setting → ℕ → World → Out ⊤
+abbrev pub turns_over : Place → Way → Text → LoopParameters → Entries → Setting → ℕ → World → Out ⊤
 turns_over p way x k es s m w = item_turns m s (main_at p) x k (items s (main_at p) way es) w
 
-abbrev pub all_turns : Place → Way → Text → Loop → Entries → Doing
+abbrev pub all_turns : Place → Way → Text → LoopParameters → Entries → Doing
 all_turns p way x k es s w = turns_over p way x k es s s.most w
 
 -- it goes on with at most so many turns, or is over
@@ -119,12 +119,12 @@ pub record TurnsOn (code : List Line) (limit : ℕ) (fs : Fields) (turns : Setti
 -- ---- whole statements ----
 
 abbrev pub recording : Way → Par → ℕ → Entries → Act
-recording Reading u l es = Reads u l es
-recording Writing u l es = Writes u l es
+recording Reading u l es = Read u l es
+recording Writing u l es = Write u l es
 
 -- the statement is left for the next one, or the run is over
 abbrev pub recorded : Result ⊤ Halt → World → Out meant.Exit
-recorded (Ok u) w = Gives meant.Next w
+recorded (Ok u) w = Gives meant.Normal w
 recorded (Err h) w = Halts (halted h) w
 
 abbrev pub RecordedTo : ℕ → Result ⊤ Halt → Run → World → Type 0
@@ -142,4 +142,4 @@ recording_at p way u l es s w = meant.does s (main_at p) (recording way u l es) 
 
 -- all behind the test of the unit
 abbrev pub opened_at : Place → Way → Fields → Entries → Setting → World → Out meant.Exit
-opened_at p way fs es s w = bind (taped p (opened way fs) w) (λ _ w1. bind (items s (main_at p) way es w1) (λ _ w2. bind (taped p closed w2) (λ _ w3. Gives meant.Next w3)))
+opened_at p way fs es s w = bind (taped p (opened way fs) w) (λ _ w1. bind (items s (main_at p) way es w1) (λ _ w2. bind (taped p closed w2) (λ _ w3. Gives meant.Normal w3)))

@@ -1,14 +1,15 @@
 -- Which main units are walked, by the forms of their statements alone.
 use Rattle.std.specs.Prelude.{ℕ, pos, zero, suc, Bool, true, false, nat_le, int_le, ◌&&◌, List, [], ◌∷◌, length}
-use Rattle.f66_tree.specs.Forms.{Formula, Number, Fact, Letter, Variable, Applied, Grouped, Positive, Negative, Negated, Joined, Formulas, Nought, Also, Par, Constant, Named, Declared, Entry, One, Many, Entries, NoEntry, AndEntry, Act, Assigns, Goes, Selects, Signs, Chooses, Loops, Invokes, Passes, Stops, Returns, Reads, Writes, Formats, Types, Dimensions, Line}
+use Rattle.f66_tree.specs.Syntax.{Formula, Int, Truth, Letter, Ref, Item, Plus, Minus, Not, Pair, Formulas, NoFormula, AndFormula, Par, Constant, Named, Declared, Entry, One, Many, Entries, NoEntry, AndEntry, Act, Assign, Goto, Computed, Sign, When, Loop, Invoke, Continue, Stop, Return, Read, Write, Format, Typed, Dimension, Line}
 use Rattle.f66_tree.specs.Units.{Note, sizes_of, places_of, notes_of}
 use Rattle.f66_tree.specs.Evaluation.{Sort, AnArray, AnIntrinsic, AFunction, Max0, Min0, array_or}
 use Rattle.f66_tree.specs.Fields.{Fields, NoField, Single, Group}
 use Rattle.f66_tree.specs.Built.{is_constant, is_par}
+use Rattle.f66_tree.specs.Syntax as f66
 
 -- at most three
 abbrev pub are_few : Formulas → Bool
-are_few (Also a (Also b (Also d (Also e es)))) = false
+are_few (AndFormula a (AndFormula b (AndFormula d (AndFormula e es)))) = false
 are_few _ = true
 
 -- an array has at most three subscripts, and a function as many arguments as it may take
@@ -49,26 +50,26 @@ are_declared [] = true
 are_declared (d ∷ ds) = are_dimensions d.sizes && are_declared ds
 
 abbrev pub is_applied : Formula → Bool
-is_applied (Applied x es) = true
+is_applied (Item x es) = true
 is_applied _ = false
 
 module _ (notes : List Note) where
   abbrev mutual
     pub is_formula : Formula → Bool
-    is_formula (Number z) = is_constant z
-    is_formula (Fact b) = true
+    is_formula (Int z) = is_constant z
+    is_formula (Truth b) = true
     is_formula (Letter l) = true
-    is_formula (Variable x) = true
-    is_formula (Applied x es) = is_count (array_or (sizes_of x notes) x) es && are_formulas es
-    is_formula (Grouped a) = is_formula a
-    is_formula (Positive a) = is_formula a
-    is_formula (Negative a) = is_formula a
-    is_formula (Negated a) = is_formula a
-    is_formula (Joined op a b) = is_formula a && is_formula b
+    is_formula (Ref x) = true
+    is_formula (Item x es) = is_count (array_or (sizes_of x notes) x) es && are_formulas es
+    is_formula (f66.Group a) = is_formula a
+    is_formula (Plus a) = is_formula a
+    is_formula (Minus a) = is_formula a
+    is_formula (Not a) = is_formula a
+    is_formula (Pair op a b) = is_formula a && is_formula b
 
     pub are_formulas : Formulas → Bool
-    are_formulas Nought = true
-    are_formulas (Also e es) = is_formula e && are_formulas es
+    are_formulas NoFormula = true
+    are_formulas (AndFormula e es) = is_formula e && are_formulas es
 
   -- what READ and WRITE go over
   abbrev mutual
@@ -81,24 +82,24 @@ module _ (notes : List Note) where
     are_entries (AndEntry e es) = is_entry e && are_entries es
 
   abbrev pub is_plain : Act → Bool
-  is_plain (Assigns x e) = is_formula x && is_formula e
-  is_plain (Goes l) = true
-  is_plain (Selects ls x) = true
-  is_plain (Signs e l m n) = is_formula e
-  is_plain (Invokes x es) = true
-  is_plain Passes = true
-  is_plain (Stops n) = true
-  is_plain Returns = true
-  is_plain (Reads u l es) = is_par u && are_entries es
-  is_plain (Writes u l es) = is_par u && are_entries es
-  is_plain (Formats f) = is_shallow 2 f
-  is_plain (Types t ds) = are_declared ds
-  is_plain (Dimensions ds) = are_declared ds
+  is_plain (Assign x e) = is_formula x && is_formula e
+  is_plain (Goto l) = true
+  is_plain (Computed ls x) = true
+  is_plain (Sign e l m n) = is_formula e
+  is_plain (Invoke x es) = true
+  is_plain Continue = true
+  is_plain (Stop n) = true
+  is_plain Return = true
+  is_plain (Read u l es) = is_par u && are_entries es
+  is_plain (Write u l es) = is_par u && are_entries es
+  is_plain (Format f) = is_shallow 2 f
+  is_plain (Typed t ds) = are_declared ds
+  is_plain (Dimension ds) = are_declared ds
   is_plain _ = false
 
   abbrev pub is_walked : Act → Bool
-  is_walked (Chooses e a) = is_formula e && is_plain a
-  is_walked (Loops l x a b c) = is_par a && (is_par b && is_par c)
+  is_walked (When e a) = is_formula e && is_plain a
+  is_walked (Loop l x a b c) = is_par a && (is_par b && is_par c)
   is_walked a = is_plain a
 
   abbrev pub are_walked : List Line → Bool

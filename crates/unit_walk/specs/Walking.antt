@@ -1,7 +1,7 @@
 -- What a walk keeps of a run: what the places hold, the records, and where the run stands.
 use Rattle.std.specs.Prelude.{◌≡◌, ◌+◌, ℕ, List, [], ◌∷◌, ⊤}
 use Rattle.ground.specs.declared.place.Place.{Place}
-use Rattle.f66_tree.specs.Forms.{Text, Line}
+use Rattle.f66_tree.specs.Syntax.{Text, Line}
 use Rattle.f66_tree.specs.Fields.{Fields}
 use Rattle.f66_tree.specs.World.{Store, files_of, World, Out}
 use Rattle.f66_tree.specs.Editing.{Files}

@@ -1,7 +1,7 @@
 // DO loops: how one begins, and what comes after its last statement (X3.9-1966, section 7.1.2.8).
 ghost use Rattle.std.specs.Prelude.{◌≡◌, ℕ, ◌<◌, List, length, true, IfOk, IfSome, All, slice_index_or};
 ghost use Rattle.ground.specs.Arithmetic.{IsInRange};
-ghost use Rattle.f66_tree.specs.Forms.{Line};
+ghost use Rattle.f66_tree.specs.Syntax.{Line};
 ghost use Rattle.f66_tree.specs.Views.{par_of, lines_of};
 ghost use Rattle.f66_tree.specs.Built.{is_par};
 ghost use Rattle.unit_walk.specs.Contents.{values_in, AllInRange};

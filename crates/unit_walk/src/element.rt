@@ -3,7 +3,7 @@ ghost use Rattle.std.specs.Prelude.{◌≡◌, ℕ, true, ◌≤◌, List, ◌�
 ghost use Rattle.f66_tree.specs.Units.{places_of as places_in};
 ghost use Rattle.ground.specs.Arithmetic.{IsInRange};
 ghost use Rattle.ground.specs.declared.value.Value.TheVariants.{Int};
-ghost use Rattle.f66_tree.specs.Forms as forms;
+ghost use Rattle.f66_tree.specs.Syntax as forms;
 ghost use Rattle.f66_tree.specs.Built.{is_par};
 ghost use Rattle.f66_tree.specs.Views.{par_of};
 ghost use Rattle.unit_walk.specs.Contents.{IsSmall, ◌then◌};

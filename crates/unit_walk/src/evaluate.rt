@@ -1,6 +1,6 @@
 // Values of expressions (X3.9-1966, sections 5.1.3, 6 and 8.2).
 ghost use Rattle.std.specs.Prelude.{◌≡◌, ◌≤◌, true, Ok, [], length, take, map, IfOk, All};
-ghost use Rattle.f66_tree.specs.Forms.{Applied};
+ghost use Rattle.f66_tree.specs.Syntax.{Item};
 ghost use Rattle.f66_tree.specs.Units.{notes_of, sizes_of as sizes_in, places_of as places_in};
 ghost use Rattle.f66_tree.specs.Views.{formula_of, formulas_of, par_of, lines_of};
 ghost use Rattle.f66_tree.specs.Built.{is_par};
@@ -63,9 +63,9 @@ pub(crate) fn evaluate(plan: &Plan<'_>, places: &Places<'_>, e: &Expr) -> Result
 #[cycle(evaluate)]
 fn applied(plan: &Plan<'_>, places: &Places<'_>, name: &Name, list: &[Expr]) -> Result<Value, Stuck>
     requires plan { IsPlan plan.now }
-    requires walked { is_formula (notes_of (lines_of plan.now.code.now)) (Applied name.now (formulas_of list.now)) ≡ true }
+    requires walked { is_formula (notes_of (lines_of plan.now.code.now)) (Item name.now (formulas_of list.now)) ≡ true }
     requires range { AllInRange (values_in places.now.cells) }
-    ensures is { result ≡ value (context_of (lines_of plan.now.code.now)) (values_in places.now.cells) (Applied name.now (formulas_of list.now)) }
+    ensures is { result ≡ value (context_of (lines_of plan.now.code.now)) (values_in places.now.cells) (Item name.now (formulas_of list.now)) }
     ensures range { IfOk result IsSmall }
 {
     let shape = plan.names.shape_of(name);
@@ -82,9 +82,9 @@ fn applied(plan: &Plan<'_>, places: &Places<'_>, name: &Name, list: &[Expr]) -> 
 fn refer(plan: &Plan<'_>, places: &Places<'_>, name: &Name, list: &[Expr]) -> Result<Value, Stuck>
     requires plan { IsPlan plan.now }
     requires none { sizes_in name.now (notes_of (lines_of plan.now.code.now)) ≡ [] }
-    requires walked { is_formula (notes_of (lines_of plan.now.code.now)) (Applied name.now (formulas_of list.now)) ≡ true }
+    requires walked { is_formula (notes_of (lines_of plan.now.code.now)) (Item name.now (formulas_of list.now)) ≡ true }
     requires range { AllInRange (values_in places.now.cells) }
-    ensures is { result ≡ value (context_of (lines_of plan.now.code.now)) (values_in places.now.cells) (Applied name.now (formulas_of list.now)) }
+    ensures is { result ≡ value (context_of (lines_of plan.now.code.now)) (values_in places.now.cells) (Item name.now (formulas_of list.now)) }
     ensures range { IfOk result IsSmall }
 {
     match intrinsic_named(name) {

@@ -1,11 +1,11 @@
 // What READ and WRITE do with their items (X3.9-1966, sections 7.1.3 and 7.2.3).
 ghost use Rattle.std.specs.Prelude.{◌≡◌, ◌≤◌, ◌<◌, ◌+◌, ◌-◌, ℕ, true, false, map, IfOk};
-ghost use Rattle.f66_tree.specs.Forms.{Variable};
+ghost use Rattle.f66_tree.specs.Syntax.{Ref};
 ghost use Rattle.f66_tree.specs.Units.{Held, notes_of, kind_of, sizes_of as sizes_in, places_of as places_in};
 ghost use Rattle.f66_tree.specs.Views.{formula_of, entry_of, entries_of, lines_of};
 ghost use Rattle.f66_tree.specs.Records.{put, take, closed as closed_tape};
 ghost use Rattle.f66_tree.specs.Evaluation.{load, store_at};
-ghost use Rattle.f66_tree.specs.Statements.{taped, took, items as all_items, entry as one_of, item as item_of, row as row_of, edited};
+ghost use Rattle.f66_tree.specs.Statements.{taped, taken_content, items as all_items, entry as one_of, item as item_of, row as row_of, edited};
 ghost use Rattle.f66_tree.specs.Turns.{is_over};
 ghost use Rattle.f66_tree.specs.World.{bind};
 ghost use Rattle.f66_tree.specs.declared.editing.Way.TheVariants.{Reading, Writing};
@@ -195,7 +195,7 @@ fn named<'a>(
 ) -> Result<Result<(), Halt>, AllocError>
     requires plan { IsPlan plan.now }
     requires ready { Ready (lines_of plan.now.code.now) plan.now.limit editing.now.way run.old }
-    ensures goes { IfOk result (λ done. Goes (lines_of plan.now.code.now) plan.now.limit editing.now.format.now (λ s w. item_of s (main_at editing.now.place) editing.now.way (Variable name.now) w) run.old done run.new) }
+    ensures goes { IfOk result (λ done. Goes (lines_of plan.now.code.now) plan.now.limit editing.now.format.now (λ s w. item_of s (main_at editing.now.place) editing.now.way (Ref name.now) w) run.old done run.new) }
     ensures kept { IfOk result (λ done. Kept (lines_of plan.now.code.now) plan.now.limit editing.now.way run.old done run.new) }
 {
     let shape = plan.names.shape_of(name);
@@ -360,7 +360,7 @@ fn received<'a>(
     requires reads { editing.now.way ≡ Reading }
     requires plan { IsPlan plan.now }
     requires ready { Ready (lines_of plan.now.code.now) plan.now.limit editing.now.way run.old }
-    ensures goes { IfOk result (λ done. Goes (lines_of plan.now.code.now) plan.now.limit editing.now.format.now (λ s w. bind (took editing.now.place take w) (λ c w1. store_at s (main_at editing.now.place) (Held 0 target.entry.name.now target.entry.offset) c w1)) run.old done run.new) }
+    ensures goes { IfOk result (λ done. Goes (lines_of plan.now.code.now) plan.now.limit editing.now.format.now (λ s w. bind (taken_content editing.now.place take w) (λ c w1. store_at s (main_at editing.now.place) (Held 0 target.entry.name.now target.entry.offset) c w1)) run.old done run.new) }
     ensures kept { IfOk result (λ done. Kept (lines_of plan.now.code.now) plan.now.limit editing.now.way run.old done run.new) }
 {
     match run.tape.take() {

@@ -4,7 +4,7 @@ ghost use Rattle.std.specs.HashMap.{get_by};
 ghost use Rattle.std.specs.Option.{option_or};
 ghost use Rattle.std.specs.Str.{bytes_eq};
 ghost use Rattle.f66_tree.specs.Views.{par_of, declared_of, line_of, lines_of};
-ghost use Rattle.f66_tree.specs.Forms.{Line};
+ghost use Rattle.f66_tree.specs.Syntax.{Line};
 ghost use Rattle.f66_tree.specs.Units.{Note, notes_of, kind_of as kind_of_name, kind_by as kind_of_word, sizes_of as sizes_in, lists};
 ghost use Rattle.unit_walk.specs.Declarations.{AreNames, AreTypes, AreSizes, AreKinds, first_sizes, first_sizes_in, sizes_under, kind_from, in_main};
 ghost use Rattle.unit_walk.specs.Walked.{is_walked_unit};

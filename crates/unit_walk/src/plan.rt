@@ -2,7 +2,7 @@
 ghost use Rattle.std.specs.Prelude.{◌≡◌, ℕ, nat_eq, ◌<◌, if◌then◌else◌, List, [], ◌∷◌, ◌++◌, IfOk, OnOk, length, drop, true, false, not, IfSome, MatchOption, slice_index_or};
 ghost use Rattle.f66_tree.specs.declared.statement.Stmt.{Stmt};
 ghost use Rattle.f66_tree.specs.Units.{is_note as notes};
-ghost use Rattle.f66_tree.specs.Forms.{Line};
+ghost use Rattle.f66_tree.specs.Syntax.{Line};
 ghost use Rattle.f66_tree.specs.Execution.{Closer, closer_of, from_label, runnable};
 ghost use Rattle.f66_tree.specs.Views.{act_of, lines_of};
 ghost use Rattle.unit_walk.specs.Walked.{is_walked_unit};

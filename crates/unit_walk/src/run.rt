@@ -1,11 +1,11 @@
 // A run of a unit, line by line.
 ghost use Rattle.std.specs.Prelude.{◌≡◌, ℕ, ◌+◌, ◌<◌, ◌≤◌, ◌∷◌, List, length, drop, true, false, IfOk, slice_index_or};
 ghost use Rattle.f66_tree.specs.declared.statement.Stmt.{Stmt};
-ghost use Rattle.f66_tree.specs.Forms.{Line};
+ghost use Rattle.f66_tree.specs.Syntax.{Line};
 ghost use Rattle.f66_tree.specs.World.{World};
 ghost use Rattle.f66_tree.specs.Units.{is_note, notes_of};
 ghost use Rattle.f66_tree.specs.Execution.{Progress};
-ghost use Rattle.f66_tree.specs.Statements.{Next};
+ghost use Rattle.f66_tree.specs.Statements.{Normal};
 ghost use Rattle.f66_tree.specs.Views.{formula_of, par_of, entries_of, act_of, line_of, lines_of};
 ghost use Rattle.f66_tree.specs.Built.{is_par};
 ghost use Rattle.unit_walk.specs.Walked.{is_formula, are_entries, is_plain, is_walked};
@@ -272,7 +272,7 @@ fn next_line<'a>(
     requires here { statement.now ≡ slice_index_or plan.now.code.now index statement.now }
     requires plan { IsPlan plan.now }
     requires sound { IsSound (lines_of plan.now.code.now) run.old }
-    ensures leads { IfOk result (λ lead. let code = lines_of plan.now.code.now in Leads code run.old.passes.items (onward code statement.now.label index statement.now.place Next) (led_to code lead) (values_in run.old.places.cells) (values_in run.new.places.cells)) }
+    ensures leads { IfOk result (λ lead. let code = lines_of plan.now.code.now in Leads code run.old.passes.items (onward code statement.now.label index statement.now.place Normal) (led_to code lead) (values_in run.old.places.cells) (values_in run.new.places.cells)) }
     ensures sound { IfOk result (λ lead. IsSound (lines_of plan.now.code.now) run.new) }
     ensures passes { run.new.passes.items ≡ run.old.passes.items }
     ensures tape { run.new.tape ≡ run.old.tape }

@@ -1,7 +1,7 @@
 // Plain statements that read and write no records: assignments, jumps and STOP (X3.9-1966, section 7.1).
 ghost use Rattle.std.specs.Prelude.{◌≡◌, true, false, Ok, IfOk};
 ghost use Rattle.ground.specs.Arithmetic.{IsInRange};
-ghost use Rattle.f66_tree.specs.Forms.{Assigns, Selects, Signs};
+ghost use Rattle.f66_tree.specs.Syntax.{Assign, Computed, Sign};
 ghost use Rattle.f66_tree.specs.Units.{is_note, notes_of};
 ghost use Rattle.f66_tree.specs.Views.{formula_of, act_of, lines_of};
 ghost use Rattle.unit_walk.specs.Contents.{values_in, AllInRange, IsSmall, ◌then◌};
@@ -109,7 +109,7 @@ fn assign<'a>(
     requires left { is_formula (notes_of (lines_of plan.now.code.now)) (formula_of left.now) ≡ true }
     requires right { is_formula (notes_of (lines_of plan.now.code.now)) (formula_of right.now) ≡ true }
     requires range { AllInRange (values_in places.old.cells) }
-    ensures does { IfOk result (λ exit. Does (lines_of plan.now.code.now) place (Assigns (formula_of left.now) (formula_of right.now)) (values_in places.old.cells) exit (values_in places.new.cells)) }
+    ensures does { IfOk result (λ exit. Does (lines_of plan.now.code.now) place (Assign (formula_of left.now) (formula_of right.now)) (values_in places.old.cells) exit (values_in places.new.cells)) }
     ensures range { IfOk result (λ exit. AllInRange (values_in places.new.cells)) }
 {
     match assigned(plan, places, left, right) {
@@ -144,7 +144,7 @@ fn assigned<'a>(
 fn select(plan: &Plan<'_>, places: &Places<'_>, labels: &[u32], index: &Name, place: Place) -> Exit
     requires plan { IsPlan plan.now }
     requires range { AllInRange (values_in places.now.cells) }
-    ensures { Does (lines_of plan.now.code.now) place (Selects labels.now index.now) (values_in places.now.cells) result (values_in places.now.cells) }
+    ensures { Does (lines_of plan.now.code.now) place (Computed labels.now index.now) (values_in places.now.cells) result (values_in places.now.cells) }
 {
     jump(selected(plan, places, labels, index), place)
 }
@@ -162,7 +162,7 @@ fn select_by_sign(
     requires plan { IsPlan plan.now }
     requires walked { is_formula (notes_of (lines_of plan.now.code.now)) (formula_of e.now) ≡ true }
     requires range { AllInRange (values_in places.now.cells) }
-    ensures { Does (lines_of plan.now.code.now) place (Signs (formula_of e.now) below zero above) (values_in places.now.cells) result (values_in places.now.cells) }
+    ensures { Does (lines_of plan.now.code.now) place (Sign (formula_of e.now) below zero above) (values_in places.now.cells) result (values_in places.now.cells) }
 {
     jump(selected_by_sign(plan, places, e, below, zero, above), place)
 }

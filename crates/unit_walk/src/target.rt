@@ -3,7 +3,7 @@ ghost use Rattle.std.specs.Prelude.{◌≡◌, true, Ok};
 ghost use Rattle.f66_tree.specs.Units.{notes_of};
 ghost use Rattle.f66_tree.specs.Views.{formula_of, formulas_of, lines_of};
 ghost use Rattle.f66_tree.specs.Evaluation.{sort_of};
-ghost use Rattle.f66_tree.specs.Forms.{Applied};
+ghost use Rattle.f66_tree.specs.Syntax.{Item};
 ghost use Rattle.unit_walk.specs.Contents.{values_in, AllInRange, ◌then◌};
 ghost use Rattle.unit_walk.specs.Declarations.{context_of};
 ghost use Rattle.unit_walk.specs.Steps.{place, element as element_in};
@@ -53,7 +53,7 @@ fn element_of(
     list: &[Expr],
 ) -> Result<usize, Stuck>
     requires plan { IsPlan plan.now }
-    requires walked { is_formula (notes_of (lines_of plan.now.code.now)) (Applied name.now (formulas_of list.now)) ≡ true }
+    requires walked { is_formula (notes_of (lines_of plan.now.code.now)) (Item name.now (formulas_of list.now)) ≡ true }
     requires range { AllInRange (values_in places.now.cells) }
     ensures { result ≡ element_in (context_of (lines_of plan.now.code.now)) (values_in places.now.cells) name.now (sort_of (context_of (lines_of plan.now.code.now)) name.now) (values_of (context_of (lines_of plan.now.code.now)) (values_in places.now.cells) (formulas_of list.now)) }
 {

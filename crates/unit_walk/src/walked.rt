@@ -3,7 +3,7 @@ ghost use Rattle.std.specs.Prelude.{◌≡◌, ◌≢◌, ◌≤◌, List, true,
 ghost use Rattle.f66_tree.specs.World.{Record, Ended, Wrong};
 ghost use Rattle.f66_tree.specs.Views.{lines_of};
 ghost use Rattle.f66_tree.specs.OneUnit.{executed};
-ghost use Rattle.f66_sound.specs.SoundUnits.{RunsRightly};
+ghost use Rattle.f66_soundness.specs.SoundUnits.{RunsRightly};
 ghost use Rattle.unit_walk.specs.declared.do_loop.Lead.TheVariants.{Over};
 ghost use Rattle.unit_walk.specs.Walked.{is_walked_unit};
 ghost use Rattle.unit_walk.specs.Leaving.{halted};

@@ -3,7 +3,7 @@ use Rattle.std.proofs.Common.{◌≡◌, ◌==◌, ◌-◌, ◌≤◌, ℕ, List
 use Rattle.std.specs.Prelude.{Result}
 use Rattle.ground.specs.declared.token.Token.{Token}
 use Rattle.macro_define.specs.declared.defines.FirstWord.{FirstWord}
-use Rattle.macro_define.specs.Expansion.{Stop, World, fetched_file, file_made, from_tokens, include_made, part}
+use Rattle.macro_define.specs.Expansion.{Stop, GatherState, fetched_file, file_made, from_tokens, include_made, part}
 use Rattle.macro_define.specs.Gathered.{Fetches, Gathers, world}
 use Rattle.macro_define.proofs.ThroughLemmas.{through-map, through-none, through-same, through-then}
 use Rattle.macro_define.proofs.FileLemmas.{file-begins, gathers-failed, gathers-memory, include-failed, include-goes, include-none, include-part, plain-part, tokens-end, tokens-step, tokens-stop}
@@ -110,7 +110,7 @@ pub add_file-returns-in_err-scanned-clause-made : goal.add_file-returns-in_err-s
 add_file-returns-in_err-scanned-clause-made g t c =
     let d = c.args.dialect in
     let old = c.args.gathering.now in
-    let whole : World → Result World Stop = λ w. file_made d (include_made d c.args.depth c.args.name.now) c.args.outermost c.args.name.now c.args.text.now w in
+    let whole : GatherState → Result GatherState Stop = λ w. file_made d (include_made d c.args.depth c.args.name.now) c.args.outermost c.args.name.now c.args.text.now w in
     through-none (g.L.Library.files c.args.library.now) (λ names. g.L.Library.fetches c.args.library.now names c.args.library.now)
     (λ before after. Gathers (whole (world old before)) c.from_residual.result (Ok (world old after)) after)
     (g.met.L.Library.nothing c.args.library.now)
@@ -160,7 +160,7 @@ add_file-loop-token-preserved g t c =
     let split : all ≡ token ∷ ts = c.in-Some.ensures.token in
     let fits : length (token ∷ ts) ≤ inv.0 = subst (λ (l : List Token). length l ≤ inv.0) split inv.1.0 in
     let fewer : length rest ≤ length ts = c.add_part.ensures.fewer in
-    let whole : World → Result World Stop = λ w. file_made d include outermost name c.args.text.now w in
+    let whole : GatherState → Result GatherState Stop = λ w. file_made d include outermost name c.args.text.now w in
     let files = g.L.Library.files c.args.library.now in (
       inv.0 - 1,
       (
@@ -205,7 +205,7 @@ add_file-returns-in_err-add_part-clause-made g t c =
     let split : all ≡ token ∷ ts = c.in-Some.ensures.token in
     let e = c.in_err-add_part.field-0.0 in
     let r = c.from_residual-in_err-add_part.result in
-    let whole : World → Result World Stop = λ w. file_made d include outermost name c.args.text.now w in
+    let whole : GatherState → Result GatherState Stop = λ w. file_made d include outermost name c.args.text.now w in
     let files = g.L.Library.files c.args.library.now in
     through-then files (λ names. g.L.Library.fetches c.args.library.now names c.loop-token.library)
     (λ names. g.L.Library.fetches c.loop-token.library names c.add_part.new.library)
@@ -232,12 +232,12 @@ add_file-returns-clause-made g t c =
     let inv = c.loop-token.invariant in
     let none : c.loop-token.tokens.items ≡ [] = search rules in
     let r = c.end_file.result in
-    let whole : World → Result World Stop = λ w. file_made d include c.args.outermost name c.args.text.now w in
+    let whole : GatherState → Result GatherState Stop = λ w. file_made d include c.args.outermost name c.args.text.now w in
     through-map (g.L.Library.files c.args.library.now) (λ names. g.L.Library.fetches c.args.library.now names c.loop-token.library)
     (λ before after. whole (world old before) ≡ from_tokens include d c.args.outermost name inv.0 c.loop-token.begins c.loop-token.tokens.items fault (world new after))
     (λ before after. Gathers (whole (world old before)) r (Ok (world new after)) after)
     inv.1.1
-    (λ a b h. subst (λ (x : Result World Stop). Gathers x r (Ok (world new b)) b)
+    (λ a b h. subst (λ (x : Result GatherState Stop). Gathers x r (Ok (world new b)) b)
     (sym (h ∙ ap (λ (ts : List Token). from_tokens include d c.args.outermost name inv.0 c.loop-token.begins ts fault (world new b)) none
     ∙ tokens-end include d c.args.outermost name inv.0 c.loop-token.begins fault (world new b)))
     (c.end_file.ensures.made (world new b)))

@@ -7,8 +7,8 @@ use Rattle.rat_tree.specs.Views.{commands}
 use Rattle.rat_check.specs.Parts.{no_label, unit_parts}
 use Rattle.rat_check.specs.Said.{said_in}
 use Rattle.rat_check.specs.Rules.{nothing_before}
-use Rattle.rat_check.specs.FirstFault.{Tells, first_unbuilt, with_formats, first_broken}
-use Rattle.rat_check.specs.PartViews.{parts_seen, whole_in}
+use Rattle.rat_check.specs.FirstFault.{Tells, first_unbuilt_part, with_formats, first_broken}
+use Rattle.rat_check.specs.PartViews.{parts_seen, whole_by}
 use Rattle.rat_check.specs.Survey.{is_among}
 use Rattle.rat_check.proofs.RuleLemmas.{context_told, whole_told, unbuilt_told, rules_told}
 use Rattle.rat_check.proofs.unit_check.check_body.Goals as goal
@@ -20,7 +20,7 @@ returns-in-Some-clause-fault c =
     let said : acts_in names.declarations ≡ said_in vs =
     ap acts_of (c.in_ok-names.ensures.sayings ∙ c.deref-2.ensures.value) ∙ c.in_ok-sayings.ensures ∙ ap (λ ps. said_in (parts_seen ps)) c.deref.ensures.value ∙ ap said_in c.in_ok-parts.ensures in
     unbuilt_told vs (context_in names.declarations) c.in-Some.place c.fault_at.result (context_told vs names.declarations (ap header_of c.in_ok-names.ensures.header) said)
-    (sym c.in-Some.is ∙ c.in_ok-unbuilt.ensures ∙ ap (λ ps. first_unbuilt (context_in names.declarations) (parts_seen ps)) c.deref-3.ensures.value ∙ ap (first_unbuilt (context_in names.declarations)) c.in_ok-parts.ensures)
+    (sym c.in-Some.is ∙ c.in_ok-unbuilt.ensures ∙ ap (λ ps. first_unbuilt_part (context_in names.declarations) (parts_seen ps)) c.deref-3.ensures.value ∙ ap (first_unbuilt_part (context_in names.declarations)) c.in_ok-parts.ensures)
     c.fault_at.ensures
 
 pub check_parts-requires : goal.check_parts-requires
@@ -38,8 +38,8 @@ returns-clause-fault c =
     let has : is_among formats ≡ with_formats vs no_label =
     c.in_ok-formats.ensures ∙ ap (λ ps. with_formats (parts_seen ps) no_label) c.deref-4.ensures.value ∙ ap (λ ps. with_formats ps no_label) c.in_ok-parts.ensures in
     let same = whole_told vs names formats (ap header_of c.in_ok-names.ensures.header) said has in
-    let built = sym c.in_default.is ∙ c.in_ok-unbuilt.ensures ∙ ap (λ ps. first_unbuilt (context_in names.declarations) (parts_seen ps)) c.deref-3.ensures.value ∙ ap (first_unbuilt (context_in names.declarations)) c.in_ok-parts.ensures in
+    let built = sym c.in_default.is ∙ c.in_ok-unbuilt.ensures ∙ ap (λ ps. first_unbuilt_part (context_in names.declarations) (parts_seen ps)) c.deref-3.ensures.value ∙ ap (first_unbuilt_part (context_in names.declarations)) c.in_ok-parts.ensures in
     subst (Tells c.check_parts.result)
-    (ap (λ ps. first_broken (whole_in names formats) nothing_before (parts_seen ps)) c.deref-5.ensures.value ∙ ap (first_broken (whole_in names formats) nothing_before) c.in_ok-parts.ensures
-    ∙ rules_told vs (whole_in names formats) same built)
+    (ap (λ ps. first_broken (whole_by names formats) nothing_before (parts_seen ps)) c.deref-5.ensures.value ∙ ap (first_broken (whole_by names formats) nothing_before) c.in_ok-parts.ensures
+    ∙ rules_told vs (whole_by names formats) same built)
     c.check_parts.ensures.fault

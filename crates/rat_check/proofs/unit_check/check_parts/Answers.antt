@@ -4,7 +4,7 @@ use Rattle.std.proofs.lemmas.List.{length-map}
 use Rattle.f66_names.specs.ActViews.{act_said}
 use Rattle.rat_check.specs.Said.{said_in}
 use Rattle.rat_check.specs.FirstFault.{first_broken}
-use Rattle.rat_check.specs.PartViews.{part_of, parts_seen, before_of, whole_in}
+use Rattle.rat_check.specs.PartViews.{part_of, parts_seen, before_of, whole_by}
 use Rattle.rat_check.specs.Survey.{own_labels}
 use Rattle.rat_check.proofs.RuleLemmas.{next_part, said_on, rule_passed, rule_broken}
 use Rattle.rat_check.proofs.unit_check.check_parts.Goals as goal
@@ -24,7 +24,7 @@ add-requires-clause-within c =
 pub returns-in-Some-clause-fault : goal.returns-in-Some-clause-fault
 returns-in-Some-clause-fault c =
     let l = c.loop-part in
-    let u = whole_in c.args.names.now c.args.formats.now in
+    let u = whole_by c.args.names.now c.args.formats.now in
     let rest = parts_seen (drop (l.part-index + 1) c.args.parts.now) in
     sym l.invariant.fault
     ∙ ap (first_broken u (before_of l.before)) (next_part c.args.parts.now l.part-index c.part-item.result c.loop-part-test.true c.part-item.is)
@@ -33,7 +33,7 @@ returns-in-Some-clause-fault c =
 pub loop-part-preserved : goal.loop-part-preserved
 loop-part-preserved c =
     let l = c.loop-part in
-    let u = whole_in c.args.names.now c.args.formats.now in
+    let u = whole_by c.args.names.now c.args.formats.now in
     let rest = parts_seen (drop (l.part-index + 1) c.args.parts.now) in
     let next = next_part c.args.parts.now l.part-index c.part-item.result c.loop-part-test.true c.part-item.is in
     let on = said_on c.args.parts.now l.part-index c.part-item.result l.before.said _ c.loop-part-test.true c.part-item.is l.invariant.said in

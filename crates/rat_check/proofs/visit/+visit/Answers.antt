@@ -2,7 +2,7 @@
 use Rattle.std.proofs.Common.{suc, ◌∷◌, ◌++◌, [], None, false, ap, ◌∙◌}
 use Rattle.f66_tree.specs.Views.{formula_of}
 use Rattle.rat_tree.specs.Views.{command, commands, clauses}
-use Rattle.rat_check.specs.Parts.{Repeating, Asks, part, parts_of, parts_in, clause_parts, with_labels}
+use Rattle.rat_check.specs.Parts.{RepeatHead, Condition, part, parts_of, parts_in, clause_parts, with_labels}
 use Rattle.rat_check.specs.FormViews.{depth_of, other_parts, until_parts}
 use Rattle.rat_check.specs.PartViews.{survey_of}
 use Rattle.rat_check.specs.Survey.{is_among}
@@ -31,7 +31,7 @@ visit-returns-in_ok-visit-in-If t c =
     let s = survey_of c.args.survey.now in
     let r = is_among s.reach in
     let body = c.deref-in-If.result.now in
-    let head = part k r c.args.statement.now.label c.args.statement.now.place (Asks (formula_of c.in-If.test)) in
+    let head = part k r c.args.statement.now.label c.args.statement.now.place (Condition (formula_of c.in-If.test)) in
     let first = behind s (survey_of c.note-in-If.new.self) (survey_of c.visit.new.survey) (head ∷ []) (λ q. parts_of k q None (command body)) c.in_ok-note-in-If.ensures c.in_ok-visit-in-If.ensures in
     then_noted c.visit_other.result s (survey_of c.visit.new.survey) (survey_of c.visit_other.new.survey) (head ∷ parts_of k r None (command body)) (parts_of k r None (command c.args.statement.now))
     (λ q. other_parts k q c.in-If.other) first
@@ -44,7 +44,7 @@ visit-returns-in_ok-visit-in-Repeat t c =
     let s = survey_of c.args.survey.now in
     let r = is_among s.reach in
     let body = c.deref-in-Repeat.result.now in
-    let head = part k r c.args.statement.now.label c.args.statement.now.place Repeating in
+    let head = part k r c.args.statement.now.label c.args.statement.now.place RepeatHead in
     let first = behind s (survey_of c.note-in-Repeat.new.self) (survey_of c.visit-in-Repeat.new.survey) (head ∷ []) (λ q. parts_of (suc k) q None (command body)) c.in_ok-note-in-Repeat.ensures c.in_ok-visit-in-Repeat.ensures in
     then_noted c.note_until.result s (survey_of c.visit-in-Repeat.new.survey) (survey_of c.note_until.new.survey) (head ∷ parts_of (suc k) r None (command body)) (parts_of k r None (command c.args.statement.now))
     (λ q. until_parts k q c.in-Repeat.until) first

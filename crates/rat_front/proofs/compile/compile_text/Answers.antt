@@ -2,7 +2,7 @@
 use Rattle.std.proofs.Common.{rules, ◌≡◌, ℕ, List, sym, subst}
 use Rattle.ground.specs.declared.fault.Fault.{Fault}
 use Rattle.ground.specs.declared.token.Token.{Token}
-use Rattle.rat_front.specs.Verdict.{Faulty, Refuses, name_of, IsParsed, Becomes}
+use Rattle.rat_front.specs.Verdict.{Faulty, Refuses, file_name, IsParsed, Becomes}
 use Rattle.rat_front.proofs.Answered.{becomes_of}
 use Rattle.rat_front.proofs.compile.compile_text.Goals as goal
 
@@ -15,7 +15,7 @@ returns-in-Err-Fault-clause-text g c =
     let tokens_are : ts ≡ text.by.0.made.tokens = search rules in
     let files_are : files ≡ text.by.0.files = search rules in
     let parsed : IsParsed ts (Faulty fault) = rw c.in-Err-Fault.field-0-is at c.in-Err-Fault.ensures in
-    let name_is : c.in_ok-name-in-Err-Fault.name ≡ name_of files fault.place.file = search rules in
+    let name_is : c.in_ok-name-in-Err-Fault.name ≡ file_name files fault.place.file = search rules in
     record {
       known = text.known;
       of = text.of;

@@ -1,6 +1,6 @@
 -- So far the tests of the expressions before are put.
 use Rattle.std.proofs.Common.{◌≡◌, List, ◌++◌, drop}
-use Rattle.f66_tree.specs.Forms.{Line}
+use Rattle.f66_tree.specs.Syntax.{Line}
 use Rattle.f66_tree.specs.Views.{formulas_of, lines_of}
 use Rattle.rat_lower.specs.Code.{each_test}
 use Rattle.rat_lower.proofs.lines.put_cases.Given as goal

@@ -2,7 +2,7 @@
 use Rattle.std.proofs.Common.{rules, arith, ◌≡◌, ◌+◌, ◌<◌, ℕ, List, [], ◌∷◌, ◌++◌, length, get_or, take, map, sym, ◌∙◌, subst}
 use Rattle.f66_tree.specs.declared.unit.Unit.{Unit as AUnit}
 use Rattle.rat_tree.specs.declared.program.RatUnit.{RatUnit}
-use Rattle.rat_tree.specs.Views.{routine_of}
+use Rattle.rat_tree.specs.Views.{rat_routine_of}
 use Rattle.rat_lower.specs.Served.{AllServe}
 use Rattle.rat_lower.proofs.Serving.{fault_after, serves_after}
 use Rattle.rat_lower.proofs.program.lower.Goals as goal
@@ -18,5 +18,5 @@ loop-unit-preserved c =
     let pushed : c.push.new.self.items ≡ c.loop-unit.made.items ++ unit ∷ [] = search rules in
     record {
       fault = c.loop-unit.invariant.fault ∙ fault_after all i u within here c.in_ok-unit.ensures.fault;
-      serves = subst (λ (made : List AUnit). AllServe (map routine_of (take (i + 1) all)) made) (sym pushed) (serves_after all c.loop-unit.made.items i u unit within here c.loop-unit.invariant.serves c.in_ok-unit.ensures.serves);
+      serves = subst (λ (made : List AUnit). AllServe (map rat_routine_of (take (i + 1) all)) made) (sym pushed) (serves_after all c.loop-unit.made.items i u unit within here c.loop-unit.invariant.serves c.in_ok-unit.ensures.serves);
     }

@@ -4,7 +4,7 @@ use Rattle.std.proofs.lemmas.Bool.{and_parts}
 use Rattle.std.proofs.lemmas.Grind.{common_steps}
 use Rattle.std.proofs.lemmas.List.Elements.{All-set}
 use Rattle.f66_tree.specs.declared.expression.Expr.{Expr}
-use Rattle.f66_tree.specs.Forms.{Par, Applied}
+use Rattle.f66_tree.specs.Syntax.{Par, Item}
 use Rattle.f66_tree.specs.Units.{Note, notes_of, sizes_of}
 use Rattle.f66_tree.specs.Evaluation.{array_or}
 use Rattle.f66_tree.specs.Views.{par_of, formula_of, formulas_of, lines_of}
@@ -19,7 +19,7 @@ use Rattle.unit_walk.proofs.evaluate.+evaluate.Goals as goal
 
 pub evaluate-applied-requires : goal.evaluate-applied-requires
 evaluate-applied-requires t c =
-    let is : formula_of c.args.e.now ≡ Applied c.in-Item.name (formulas_of c.deref.result.now) = item_is c.args.e.now c.in-Item.name c.in-Item.list c.deref.result.now c.in-Item.is c.deref.ensures.value in
+    let is : formula_of c.args.e.now ≡ Item c.in-Item.name (formulas_of c.deref.result.now) = item_is c.args.e.now c.in-Item.name c.in-Item.list c.deref.result.now c.in-Item.is c.deref.ensures.value in
     (omega (arith, ap formula_size is), (c.requires.plan, (walked_item (notes_of (lines_of c.args.plan.now.code.now)) c.args.e.now c.in-Item.name c.in-Item.list c.deref.result.now c.in-Item.is c.deref.ensures.value c.requires.walked, c.requires.range)))
 
 pub arguments-evaluate-requires : goal.arguments-evaluate-requires
@@ -34,7 +34,7 @@ extreme-evaluate-requires t c =
 
 pub evaluate-returns-in-Item-clause-is : goal.evaluate-returns-in-Item-clause-is
 evaluate-returns-in-Item-clause-is t c =
-    let is : formula_of c.args.e.now ≡ Applied c.in-Item.name (formulas_of c.deref.result.now) = item_is c.args.e.now c.in-Item.name c.in-Item.list c.deref.result.now c.in-Item.is c.deref.ensures.value in
+    let is : formula_of c.args.e.now ≡ Item c.in-Item.name (formulas_of c.deref.result.now) = item_is c.args.e.now c.in-Item.name c.in-Item.list c.deref.result.now c.in-Item.is c.deref.ensures.value in
     c.applied.ensures.is ∙ ap (value (context_of (lines_of c.args.plan.now.code.now)) (values_in c.args.places.now.cells)) (sym is)
 
 pub applied-element-requires : goal.applied-element-requires

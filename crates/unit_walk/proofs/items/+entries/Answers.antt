@@ -3,8 +3,8 @@ use Rattle.std.proofs.Common.{rules, ◌≡◌, ◌+◌, ◌<◌, ℕ, true, fal
 use Rattle.std.specs.Prelude.{⊤}
 use Rattle.std.proofs.lemmas.Bool.{and_parts}
 use Rattle.f66_tree.specs.declared.statement.Entry.{Entry}
-use Rattle.f66_tree.specs.Forms as forms
-use Rattle.f66_tree.specs.Forms.{Many, Entries, Line}
+use Rattle.f66_tree.specs.Syntax as forms
+use Rattle.f66_tree.specs.Syntax.{Many, Entries, Line}
 use Rattle.f66_tree.specs.Units.{notes_of}
 use Rattle.f66_tree.specs.Statements.{items, entry}
 use Rattle.f66_tree.specs.Views.{par_of, entry_of, entries_of, lines_of}

@@ -7,7 +7,7 @@ use Rattle.ground.specs.declared.value.Kind.{Kind}
 use Rattle.f66_tree.specs.declared.editing.Way.{Way}
 use Rattle.f66_tree.specs.declared.editing.Way.TheVariants.{Reading, Writing}
 use Rattle.f66_tree.specs.Fields.{Fields}
-use Rattle.f66_tree.specs.Forms.{Line}
+use Rattle.f66_tree.specs.Syntax.{Line}
 use Rattle.f66_tree.specs.Units.{Held, kind_of}
 use Rattle.f66_tree.specs.Records.{due}
 use Rattle.f66_tree.specs.Statements.{taped, transfer, edited}

@@ -1,7 +1,7 @@
 -- Why `named` keeps its clauses.
 use Rattle.std.proofs.Common.{rules, ◌≡◌, ◌<◌, ℕ, true, List, length, map, sym, ◌∙◌, ap, subst, arith}
 use Rattle.std.proofs.lemmas.List.{length-map}
-use Rattle.f66_tree.specs.Forms.{Par, Line, Variable}
+use Rattle.f66_tree.specs.Syntax.{Par, Line, Ref}
 use Rattle.f66_tree.specs.Units.{Note, Held, notes_of, kind_of, sizes_of, places_of}
 use Rattle.f66_tree.specs.Statements.{item, row}
 use Rattle.f66_tree.specs.Views.{par_of, lines_of}
@@ -45,5 +45,5 @@ returns-else-is_empty-clause-goes c =
     let some : 0 < length (sizes_of x notes) = omega (arith, long, full) in
     let constants : are_sizes (sizes_of x notes) ≡ true = subst (λ (ns : List Par). are_sizes ns ≡ true) same fit.constants in
     let many : c.places_of-places.result ≡ places_of (sizes_of x notes) = c.places_of-places.ensures ∙ ap places_of same in
-    if_ok _ _ c.row.result (λ done goes. goes_as code limit fs (λ s w. item s (main_at p) way (Variable x) w) (λ s w. row s (main_at p) way (kind_of (context_of code) x) (Held 0 x 0) c.places_of-places.result 0 w) c.args.run.now done c.row.new.run
+    if_ok _ _ c.row.result (λ done goes. goes_as code limit fs (λ s w. item s (main_at p) way (Ref x) w) (λ s w. row s (main_at p) way (kind_of (context_of code) x) (Held 0 x 0) c.places_of-places.result 0 w) c.args.run.now done c.row.new.run
     (λ n run w. array_is code limit fs p n run way x w some constants ∙ sym (ap (λ (m : ℕ). row (around_main notes code n run) (main_at p) way (kind_of (context_of code) x) (Held 0 x 0) m 0 w) many)) goes) c.row.ensures.goes

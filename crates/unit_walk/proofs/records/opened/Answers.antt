@@ -2,7 +2,7 @@
 use Rattle.std.proofs.Common.{Ok, Err, Result, refl, sym, subst}
 use Rattle.std.specs.Prelude.{⊤}
 use Rattle.ground.specs.declared.trap.Trap.{Trap}
-use Rattle.f66_tree.specs.Forms.{Entries}
+use Rattle.f66_tree.specs.Syntax.{Entries}
 use Rattle.f66_tree.specs.Statements.{items}
 use Rattle.f66_tree.specs.Views.{entries_of, lines_of}
 use Rattle.record_tape.specs.Moves.{Opens}

@@ -1,7 +1,7 @@
 -- Why `transfer_by` keeps its clauses.
 use Rattle.std.proofs.Common.{rules, ◌≡◌, ◌∙◌, nat_eq, Ok, Err, Some, sym, subst}
 use Rattle.std.specs.HashMap.{get}
-use Rattle.f66_tree.specs.Forms.{Entries, Par}
+use Rattle.f66_tree.specs.Syntax.{Entries, Par}
 use Rattle.f66_tree.specs.Units.{notes_of, format_of}
 use Rattle.f66_tree.specs.Views.{par_of, entries_of, lines_of}
 use Rattle.unit_walk.specs.declared.run.Run.{Run}

@@ -1,6 +1,6 @@
 -- Why `branch` keeps its clauses.
 use Rattle.std.proofs.Common.{rules, ◌≡◌, ℕ, suc, ◌+◌, ◌-◌, ◌∷◌, List, drop, false, ◌∙◌, refl, arith}
-use Rattle.f66_tree.specs.Forms.{Act, Line}
+use Rattle.f66_tree.specs.Syntax.{Act, Line}
 use Rattle.f66_tree.specs.Units.{is_note, notes_of}
 use Rattle.f66_tree.specs.Views.{act_of, lines_of}
 use Rattle.unit_walk.specs.declared.run.Run.{Run}

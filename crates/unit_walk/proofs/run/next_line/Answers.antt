@@ -1,6 +1,6 @@
 -- Why `next_line` keeps its clauses.
 use Rattle.std.proofs.Common.{◌≡◌, List}
-use Rattle.f66_tree.specs.Forms.{Line}
+use Rattle.f66_tree.specs.Syntax.{Line}
 use Rattle.f66_tree.specs.Views.{lines_of}
 use Rattle.unit_walk.specs.Contents.{values_in}
 use Rattle.unit_walk.specs.Standing.{ClosesAt}

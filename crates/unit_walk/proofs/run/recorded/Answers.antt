@@ -1,7 +1,7 @@
 -- Why `recorded` keeps its clauses.
 use Rattle.std.proofs.Common.{List, Ok, Err, Result, subst}
 use Rattle.std.specs.Prelude.{⊤}
-use Rattle.f66_tree.specs.Forms.{Line}
+use Rattle.f66_tree.specs.Syntax.{Line}
 use Rattle.f66_tree.specs.Views.{par_of, entries_of, lines_of}
 use Rattle.unit_walk.specs.declared.run.Run.{Run}
 use Rattle.unit_walk.specs.declared.statement.Halt.{Halt}

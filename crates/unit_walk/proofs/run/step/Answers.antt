@@ -1,7 +1,7 @@
 -- Why `step` keeps its clauses.
 use Rattle.std.proofs.Common.{rules, ◌≡◌, ℕ, suc, ◌+◌, ◌-◌, ◌∷◌, List, drop, get_or, ◌∙◌, ap, refl, arith}
 use Rattle.f66_tree.specs.declared.statement.Stmt.{Stmt}
-use Rattle.f66_tree.specs.Forms.{Line}
+use Rattle.f66_tree.specs.Syntax.{Line}
 use Rattle.f66_tree.specs.Units.{notes_of}
 use Rattle.f66_tree.specs.Views.{line_of, lines_of}
 use Rattle.unit_walk.specs.declared.statement.RunEnd.TheVariants.{GoesOn}

@@ -1,6 +1,6 @@
 -- Why `still` keeps its clauses.
 use Rattle.std.proofs.Common.{List, ◌∙◌, subst}
-use Rattle.f66_tree.specs.Forms.{Line}
+use Rattle.f66_tree.specs.Syntax.{Line}
 use Rattle.f66_tree.specs.Views.{act_of, lines_of}
 use Rattle.unit_walk.specs.declared.statement.Exit.{Exit}
 use Rattle.unit_walk.specs.declared.statement.Exit.TheVariants.{Next, To, Ends}

@@ -1,6 +1,6 @@
 -- Why `select` keeps its clauses.
 use Rattle.std.proofs.Common.{ℕ, List, Result, sym, ◌∙◌, ap, subst}
-use Rattle.f66_tree.specs.Forms.{Selects, Line}
+use Rattle.f66_tree.specs.Syntax.{Computed, Line}
 use Rattle.f66_tree.specs.Views.{lines_of}
 use Rattle.unit_walk.specs.declared.stuck.Stuck.{Stuck}
 use Rattle.unit_walk.specs.declared.statement.Exit.{Exit}
@@ -14,7 +14,7 @@ use Rattle.unit_walk.proofs.statement.select.Goals as goal
 pub returns : goal.returns
 returns c =
     let code : List Line = lines_of c.args.plan.now.code.now in
-    subst (λ (y : Exit). Does code c.args.place (Selects c.args.labels.now c.args.index.now) (values_in c.args.places.now.cells) y (values_in c.args.places.now.cells))
+    subst (λ (y : Exit). Does code c.args.place (Computed c.args.labels.now c.args.index.now) (values_in c.args.places.now.cells) y (values_in c.args.places.now.cells))
     (sym (c.jump.ensures ∙ ap (λ (r : Result ℕ Stuck). jumped r c.args.place) c.selected.ensures))
-    (jumps code c.args.place (Selects c.args.labels.now c.args.index.now) (values_in c.args.places.now.cells) (selecting (context_of code) (values_in c.args.places.now.cells) c.args.labels.now c.args.index.now)
+    (jumps code c.args.place (Computed c.args.labels.now c.args.index.now) (values_in c.args.places.now.cells) (selecting (context_of code) (values_in c.args.places.now.cells) c.args.labels.now c.args.index.now)
     (λ n run w holds. selects_is code n run (values_in c.args.places.now.cells) c.args.place w holds c.args.labels.now c.args.index.now))

@@ -1,6 +1,6 @@
 -- Why `element_of` keeps its clauses.
 use Rattle.std.proofs.Common.{rules, ◌≡◌, ◌<◌, true, List, length, map, sym, subst}
-use Rattle.f66_tree.specs.Forms.{Par}
+use Rattle.f66_tree.specs.Syntax.{Par}
 use Rattle.f66_tree.specs.Units.{Note, notes_of, sizes_of}
 use Rattle.f66_tree.specs.Views.{par_of, lines_of}
 use Rattle.unit_walk.specs.Contents.{values_in}

@@ -3,7 +3,7 @@ use Rattle.std.proofs.Common.{rules, IfOk, ◌≡◌, true, List, sym, subst}
 use Rattle.f66_tree.specs.declared.statement.Stmt.{Stmt}
 use Rattle.f66_tree.specs.Views.{lines_of, routine_of}
 use Rattle.f66_tree.specs.OneUnit.{executed}
-use Rattle.f66_sound.specs.SoundUnits.{RunsRightly}
+use Rattle.f66_soundness.specs.SoundUnits.{RunsRightly}
 use Rattle.f66_check.proofs.SoundLemmas.{sound_never_wrong}
 use Rattle.unit_walk.specs.declared.walked.Walked.{Walked}
 use Rattle.unit_walk.specs.Walked.{is_walked_unit}

@@ -1,7 +1,7 @@
 -- Why `walk_on` keeps its clauses.
 use Rattle.std.proofs.Common.{rules, ℕ, List, drop, ◌∙◌, sym, subst}
 use Rattle.f66_tree.specs.declared.statement.Stmt.{Stmt}
-use Rattle.f66_tree.specs.Forms.{Line}
+use Rattle.f66_tree.specs.Syntax.{Line}
 use Rattle.f66_tree.specs.World.{World}
 use Rattle.f66_tree.specs.Execution.{Progress}
 use Rattle.f66_tree.specs.Views.{lines_of}

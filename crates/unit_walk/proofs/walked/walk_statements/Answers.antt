@@ -1,12 +1,12 @@
 -- Why `walk_statements` keeps its clauses.
 use Rattle.std.proofs.Common.{◌≡◌, ℕ, List, length, sym, ◌∙◌, ap, subst, arith}
 use Rattle.f66_tree.specs.declared.statement.Stmt.{Stmt}
-use Rattle.f66_tree.specs.Forms.{Line}
+use Rattle.f66_tree.specs.Syntax.{Line}
 use Rattle.f66_tree.specs.World.{Record}
 use Rattle.f66_tree.specs.Views.{lines_of}
 use Rattle.f66_tree.specs.OneUnit.{executed}
 use Rattle.unit_walk.specs.declared.run.Run.{Run}
-use Rattle.f66_sound.specs.SoundUnits.{RunsRightly}
+use Rattle.f66_soundness.specs.SoundUnits.{RunsRightly}
 use Rattle.unit_walk.specs.Shows.{IsFirst}
 use Rattle.unit_walk.proofs.RunLemmas.{as_many}
 use Rattle.unit_walk.proofs.WholeLemmas.{shows, ends_rightly}

@@ -1,6 +1,0 @@
--- A sound main unit never goes wrong.
-use Rattle.f66_sound.proofs.SoundLemmas as sound
-use Rattle.f66_sound.proofs.laws.sound_never_wrong.Goals as goal
-
-pub returns : goal.returns
-returns c = sound.never_wrong

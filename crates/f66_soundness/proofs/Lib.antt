@@ -1,0 +1,11 @@
+-- The lemmas of f66_soundness.
+pub mod RightlyLemmas
+pub mod KindLemmas
+pub mod ContentLemmas
+pub mod ValueLemmas
+pub mod StatementLemmas
+pub mod EditLemmas
+pub mod RecordLemmas
+pub mod RunLemmas
+pub mod SoundLemmas
+mod Examples

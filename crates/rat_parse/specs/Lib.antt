@@ -1,0 +1,3 @@
+-- The definitions that the contracts of rat_parse cite.
+pub mod Build
+pub mod Ratfor

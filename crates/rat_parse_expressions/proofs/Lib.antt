@@ -1,0 +1,2 @@
+-- The lemmas of rat_parse_expressions.
+pub mod FieldLemmas

@@ -1,0 +1,2 @@
+-- The definitions that the contracts of rat_parse_plain cite.
+pub mod Plain

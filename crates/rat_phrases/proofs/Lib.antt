@@ -1,2 +1,0 @@
--- The lemmas of rat_phrases.
-pub mod FieldLemmas

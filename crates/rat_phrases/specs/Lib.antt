@@ -1,2 +1,0 @@
--- The definitions that the contracts of rat_phrases cite.
-pub mod Phrases

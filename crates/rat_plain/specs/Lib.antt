@@ -1,2 +1,0 @@
--- The definitions that the contracts of rat_plain cite.
-pub mod Plain

@@ -1,8 +1,0 @@
--- The definitions that the contracts of rat_table cite.
-pub mod Table
-pub mod ParseTable
-pub mod LookaheadTables
-pub mod Words
-pub mod Limits
-pub mod Ratfor
-pub mod RatforSound
