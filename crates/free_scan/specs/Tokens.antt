@@ -1,6 +1,7 @@
 -- The tokens of a text, up to its first fault.
 use Rattle.std.specs.Prelude.{◌≡◌, ℕ, zero, suc, ◌+◌, ◌-◌, ⊤, Bool, true, false, not, ◌==◌, ◌||◌, ◌&&◌, List, [], ◌∷◌, ◌++◌, length, drop, Option, Some, None, codes, nat_lt, if◌then◌else◌}
 use Rattle.std.specs.List.{list_any, list_all}
+use Rattle.ground.specs.Faults.{fault_at}
 use Rattle.ground.specs.declared.fault.Fault.{Fault}
 use Rattle.ground.specs.declared.fault.FaultKind.TheVariants.{BadByte, PercentLine}
 use Rattle.ground.specs.declared.token.Dialect.{Dialect}
@@ -84,7 +85,7 @@ include_line text file word first last =
     let before = token_at file first.line (Word word) ∷ [] in
     if list_all is_printable (file_name rest)
     then Goes (before ++ token_at file last.line (Quoted (file_name rest)) ∷ token_at file last.line LineEnd ∷ []) (line_after last rest)
-    else Stops before (record { kind = BadByte; place = record { file = file; line = last.line }; number = 0 })
+    else Stops before (fault_at (record { file = file; line = last.line }) BadByte)
 
 abbrev pub tokens_in : LineReading → List Token
 tokens_in (Goes tokens after) = tokens
@@ -106,7 +107,7 @@ line_of d text file s l = line_by_word d text file s l (if s.continues then None
 abbrev pub line_reading : Dialect → List ℕ → ℕ → LineStart → LineReading
 line_reading d text file s =
     if begins_with 37 (drop s.next text)
-    then Stops [] (record { kind = PercentLine; place = record { file = file; line = s.number }; number = 0 })
+    then Stops [] (fault_at (record { file = file; line = s.number }) PercentLine)
     else line_of d text file s (line d 0 s.next s.number (drop s.next text))
 
 -- the tokens of the lines from s on, where `bs` is the text from there on but for its first `gone` bytes

@@ -10,6 +10,3 @@ mod scanner;
 mod spellings;
 
 pub use scanner::{Scanned, scan};
-
-#[cfg(test)]
-mod tests;

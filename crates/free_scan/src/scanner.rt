@@ -111,14 +111,11 @@ fn scan_line(
     ensures few_open { IfOk result (λ o. IfGoes o (λ after. after.opened ≤ length tokens.new.items)) }
 {
     if begins_with(b'%', &text[start.next..]) {
-        return Ok(Outcome::Stops(Fault {
-            kind: FaultKind::PercentLine,
-            place: Place {
-                file,
-                line: start.number,
-            },
-            number: 0,
-        }));
+        let place = Place {
+            file,
+            line: start.number,
+        };
+        return Ok(Outcome::Stops(Fault::new(place, FaultKind::PercentLine)));
     }
     let ending = read_line(dialect, text, start.next, start.number, characters)?;
     add_line(
@@ -191,14 +188,11 @@ fn include_line(
     let rest = &text[last.next..];
     let name = file_name(rest);
     if !are_printable(name) {
-        return Ok(Outcome::Stops(Fault {
-            kind: FaultKind::BadByte,
-            place: Place {
-                file,
-                line: last.line,
-            },
-            number: 0,
-        }));
+        let place = Place {
+            file,
+            line: last.line,
+        };
+        return Ok(Outcome::Stops(Fault::new(place, FaultKind::BadByte)));
     }
     let name = Text::new(Vec::from_slice(alloc, name)?);
     tokens.push(token_at(file, last.line, TokenKind::Quoted(name)))?;

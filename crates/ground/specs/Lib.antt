@@ -2,4 +2,5 @@
 pub mod Arithmetic
 pub mod Content
 pub mod FaultNames
+pub mod Faults
 pub mod TrapNames

@@ -1,6 +1,7 @@
 // What a text is refused for.
 ghost use Rattle.std.specs.Prelude.{◌≡◌};
 ghost use Rattle.ground.specs.FaultNames.{fault_number, fault_word};
+ghost use Rattle.ground.specs.Faults.{fault_at, limit_at};
 ghost use Rattle.ground.specs.declared.fault.Refusal.TheVariants.{Memory as WantOfMemory};
 
 use crate::Place;
@@ -160,6 +161,30 @@ pub struct Fault {
     pub kind: FaultKind,
     pub place: Place,
     pub number: u64,
+}
+
+impl Fault {
+    /// The fault of this kind at a place. That of a limit is made by `limit`.
+    pub fn new(place: Place, kind: FaultKind) -> Self
+        ensures { result ≡ fault_at place kind }
+    {
+        Fault {
+            kind,
+            place,
+            number: 0,
+        }
+    }
+
+    /// The fault of passing the limit of this number at a place.
+    pub fn limit(place: Place, number: u64) -> Self
+        ensures { result ≡ limit_at place number }
+    {
+        Fault {
+            kind: FaultKind::Limit,
+            place,
+            number,
+        }
+    }
 }
 
 /// Want of memory.

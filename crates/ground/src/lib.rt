@@ -12,7 +12,7 @@ mod value;
 pub use arithmetic::{add, div, modulo, mul, power, sub};
 pub use fault::{Fault, FaultKind, Memory, Refusal};
 pub use place::Place;
-pub use text::{List, Text};
+pub use text::{List, Text, is_spelled};
 pub use token::{Dialect, Sign, Token, TokenKind};
 pub use trap::Trap;
 pub use value::{Kind, Value};

@@ -1,5 +1,6 @@
 // Texts and lists.
 ghost use Rattle.std.specs.Prelude.{◌≡◌};
+ghost use Rattle.std.specs.Str.{str_eq_ignore_ascii_case};
 
 use std::marker::Model;
 
@@ -40,4 +41,11 @@ impl Text {
     {
         self.bytes
     }
+}
+
+/// Whether a name is this word in whatever case.
+pub fn is_spelled(word: &[u8], name: &[u8]) -> bool
+    ensures { result ≡ str_eq_ignore_ascii_case word.now name.now }
+{
+    word.eq_ignore_ascii_case(name)
 }

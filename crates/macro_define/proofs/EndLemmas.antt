@@ -19,7 +19,8 @@ use Rattle.macro_define.specs.Defines.{Broken, Closed, CutOff, Defined, Enclosed
 use Rattle.macro_define.specs.Expansion.{Left, Stop, GatherState, behind_name, fetched_file, file_made, file_number, from_tokens, gathered, in_file, include_made, include_token, is_quoted, is_text_end, part, plain_token, quoted_next, first_gathering, with_made}
 use Rattle.macro_define.specs.GatherAnswers.{EndsText, IsAnswer}
 use Rattle.macro_define.specs.Macros.{Macros, key}
-use Rattle.macro_define.specs.Made.{Made, and_then, fault_at, put}
+use Rattle.macro_define.specs.Made.{Made, and_then, put}
+use Rattle.ground.specs.Faults.{fault_at, limit_at}
 use Rattle.macro_define.proofs.FileLemmas.{tokens-end}
 
 -- the last token is a TextEnd
@@ -119,7 +120,7 @@ module _ (m : ℕ) where
   enclosed-define-ends : (place : Place) (macros : Macros) (name : List ℕ) (ts : List Token) → RestEnds ts → DefinedEnds (enclosed_define place macros name ts)
   enclosed-define-ends place macros name [] r = none-finished r.0
   enclosed-define-ends place macros name (t ∷ ts) r =
-      chosen DefinedEnds (is_comma t.kind) (with_enclosed place macros name (enclosed_text 0 [] ts)) (Err (fault_at place BadDefine 0))
+      chosen DefinedEnds (is_comma t.kind) (with_enclosed place macros name (enclosed_text 0 [] ts)) (Err (fault_at place BadDefine))
       (λ c. with-enclosed-ends place macros name (enclosed_text 0 [] ts) (enclosed-ends ts 0 [] (rest-behind is_comma t ts refl c r)))
       (λ c. Prim.tt)
 
@@ -131,11 +132,11 @@ module _ (m : ℕ) where
       → DefinedEnds (named_define d place enclosed macros at o ts)
   named-ends d place at enclosed macros t ts None e r = Prim.tt
   named-ends d place at enclosed macros t ts (Some name) e r =
-      chosen DefinedEnds (is_reserved name) (Err (fault_at place BadDefine 0))
-      (if is_full macros (key d name) then Err (fault_at at Limit 4) else define_of_name place enclosed macros (key d name) ts)
+      chosen DefinedEnds (is_reserved name) (Err (fault_at place BadDefine))
+      (if is_full macros (key d name) then Err (limit_at at 4) else define_of_name place enclosed macros (key d name) ts)
       (λ c. Prim.tt)
       (λ c.
-      chosen DefinedEnds (is_full macros (key d name)) (Err (fault_at at Limit 4)) (define_of_name place enclosed macros (key d name) ts)
+      chosen DefinedEnds (is_full macros (key d name)) (Err (limit_at at 4)) (define_of_name place enclosed macros (key d name) ts)
       (λ f. Prim.tt)
       (λ f. of-name-ends place enclosed macros (key d name) ts (rest-behind (λ k. is_some (name_in k)) t ts refl (ap is_some e) r)))
 
@@ -192,7 +193,7 @@ MadeEnds (Err fault) = ⊤
 
 put-ends : (t : Token) (m : Made) → is_text_end t.kind ≡ true → MadeEnds (put t m)
 put-ends t m h =
-    chosen MadeEnds (m.left == 0) (Err (fault_at t.place Limit 2)) (Ok (record { tokens = m.tokens ++ t ∷ []; left = m.left - 1 }))
+    chosen MadeEnds (m.left == 0) (Err (limit_at t.place 2)) (Ok (record { tokens = m.tokens ++ t ∷ []; left = m.left - 1 }))
     (λ c. Prim.tt)
     (λ c. finished-append m.tokens (t ∷ []) h)
 

@@ -3,6 +3,7 @@ mod Examples
 mod ListLemmas
 mod FileLemmas
 mod GoesLemmas
+mod PlacedLemmas
 mod TableLemmas
 mod ThroughLemmas
 mod UseLemmas

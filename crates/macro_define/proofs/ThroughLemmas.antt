@@ -15,7 +15,7 @@ use Rattle.macro_define.specs.Answers.{Answers, Holds, InTurn, Through, after_fe
 use Rattle.macro_define.specs.Expansion.{GatherState, can_hold, fetched_file, held_under, in_file, stop_in, wanting, with_text}
 use Rattle.macro_define.specs.declared.refusal.TextRefusal.{TextRefusal}
 use Rattle.macro_define.specs.Gathered.{Asks, Fetches, IsInFile, world}
-use Rattle.macro_define.specs.Made.{fault_at}
+use Rattle.ground.specs.Faults.{fault_at}
 
 abbrev Files : Type 0
 Files = Option (List ℕ → Option (List ℕ))
@@ -132,12 +132,12 @@ through-empty files F name none empty = through-not_held files F name none (no_t
 
 -- a file that is not there
 pub fetched-missing : (includer : List ℕ) (place : Place) (too_deep too_long : Bool) (name : List ℕ) (g h : Gathering) (fault : Fault) (e : TextRefusal)
-    → IsInFile includer (Faulty fault) e → fault ≡ fault_at place IncludeMissing 0
+    → IsInFile includer (Faulty fault) e → fault ≡ fault_at place IncludeMissing
     → (a b : Answers) → Asks name (Ok None) a b → Fetches (fetched_file place too_deep too_long includer name (world g a)) (Err e) (world h b)
 fetched-missing includer place too_deep too_long name g h fault e (inl is) missing a b asks =
     subst (λ (q : TextRefusal). Fetches (fetched_file place too_deep too_long includer name (world g a)) (Err q) (world h b)) (sym is)
     (ap (λ o. in_file includer (wanting name a) (with_text place too_deep too_long name (record (world g a) { answers = wanting name a }) o)) asks.0
-    ∙ ap (λ x. Err (stop_in includer x (fault_at place IncludeMissing 0))) (sym asks.1)
+    ∙ ap (λ x. Err (stop_in includer x (fault_at place IncludeMissing))) (sym asks.1)
     ∙ ap (λ f. Err (stop_in includer b f)) (sym missing))
 fetched-missing includer place too_deep too_long name g h fault e (inr is) missing a b asks =
     subst (λ (q : TextRefusal). Fetches (fetched_file place too_deep too_long includer name (world g a)) (Err q) (world h b)) (sym is) Prim.tt

@@ -6,8 +6,9 @@ use Rattle.ground.specs.declared.fault.FaultKind.TheVariants.{MacroLoop}
 use Rattle.ground.specs.declared.place.Place.{Place}
 use Rattle.ground.specs.declared.token.Dialect.{Dialect}
 use Rattle.ground.specs.declared.token.TokenKind.{TokenKind}
-use Rattle.macro_define.specs.declared.macros.Use.{Use}
-use Rattle.macro_define.specs.Made.{Made, and_then, counted, fault_at}
+use Rattle.macro_define.specs.declared.uses.Use.{Use}
+use Rattle.ground.specs.Faults.{fault_at}
+use Rattle.macro_define.specs.Made.{Made, and_then, counted}
 use Rattle.macro_define.specs.Macros.{Macros, kind_made, replaced, text_made, text_of}
 use Rattle.macro_define.specs.Uses.{free, in_progress, rest_made, still_made, used}
 use Rattle.macro_define.proofs.ListLemmas.{and_then-assoc, and_then-ok, and_then-same, drop-at_none, drop-at_some}
@@ -87,16 +88,16 @@ module _ (d : Dialect) (macros : Macros) (place : Place) where
 
   -- a name in progress is the fault
   used-loop : (free_now : ℕ) (progress : List ℕ) (n : ℕ) (m : Made) → is_in n progress ≡ true
-      → replaced d macros place free_now progress n m ≡ Err (fault_at place MacroLoop 0)
+      → replaced d macros place free_now progress n m ≡ Err (fault_at place MacroLoop)
   used-loop zero progress n m h = refl
-  used-loop (suc k) progress n m h = ap (λ b. if b then Err (fault_at place MacroLoop 0) else and_then (counted place m) (text_made d macros place (replaced d macros place k (n ∷ progress)) (text_of macros n))) h
+  used-loop (suc k) progress n m h = ap (λ b. if b then Err (fault_at place MacroLoop) else and_then (counted place m) (text_made d macros place (replaced d macros place k (n ∷ progress)) (text_of macros n))) h
 
   used-new : (free_now : ℕ) (progress : List ℕ) (n : ℕ) (m : Made) → n < length macros → is_in n progress ≡ false → free (length macros) progress ≡ free_now
       → replaced d macros place free_now progress n m ≡ and_then (counted place m) (text_made d macros place (used d macros place (n ∷ progress)) (text_of macros n))
   used-new zero progress n m h new e = absurd (true≢false (sym (free-zero (length macros) n progress h e) ∙ new))
   used-new (suc k) progress n m h new e =
       let less : k ≡ free (length macros) (n ∷ progress) = omega (arith, free-begun (length macros) n progress h new) in
-      ap (λ b. if b then Err (fault_at place MacroLoop 0) else and_then (counted place m) (text_made d macros place (replaced d macros place k (n ∷ progress)) (text_of macros n))) new
+      ap (λ b. if b then Err (fault_at place MacroLoop) else and_then (counted place m) (text_made d macros place (replaced d macros place k (n ∷ progress)) (text_of macros n))) new
       ∙ ap (λ f. and_then (counted place m) (text_made d macros place (replaced d macros place f (n ∷ progress)) (text_of macros n))) less
 
   numbers-in : (us : List Use) (n : ℕ) (b : Bool) → list_any (λ u. u.number == n) us ≡ b → is_in n (in_progress [] us) ≡ b
@@ -107,7 +108,7 @@ module _ (d : Dialect) (macros : Macros) (place : Place) where
   begun_by us n m = and_then (used d macros place (in_progress [] us) n m) (still_made d macros place [] us)
 
   -- the text of a macro in progress is not begun again
-  pub begun-loop : (us : List Use) (n : ℕ) (m : Made) → list_any (λ u. u.number == n) us ≡ true → begun_by us n m ≡ Err (fault_at place MacroLoop 0)
+  pub begun-loop : (us : List Use) (n : ℕ) (m : Made) → list_any (λ u. u.number == n) us ≡ true → begun_by us n m ≡ Err (fault_at place MacroLoop)
   begun-loop us n m h = ap (λ r. and_then r (still_made d macros place [] us)) (used-loop (free (length macros) (in_progress [] us)) (in_progress [] us) n m (numbers-in us n true h))
 
   begun-new : (us : List Use) (n : ℕ) (m : Made) (r : Result Made Fault) → n < length macros → list_any (λ u. u.number == n) us ≡ false → counted place m ≡ r

@@ -1,10 +1,10 @@
 -- The words `define` and `include` at the beginning of a line, and the macro that a define makes.
 use Rattle.std.specs.Prelude.{ℕ, ◌==◌, ◌&&◌, ◌||◌, Bool, true, false, not, List, [], ◌∷◌, ◌++◌, length, Option, Some, None, Result, Ok, Err, codes, is_some, nat_le, if◌then◌else◌}
-use Rattle.std.specs.Char.{to_ascii_lowercase}
-use Rattle.std.specs.Str.{bytes_eq}
+use Rattle.std.specs.Str.{bytes_eq, str_eq_ignore_ascii_case}
 use Rattle.indexmap.specs.IndexMap.{insert_entry}
 use Rattle.ground.specs.declared.fault.Fault.{Fault}
-use Rattle.ground.specs.declared.fault.FaultKind.TheVariants.{BadDefine, Limit}
+use Rattle.ground.specs.Faults.{fault_at, limit_at}
+use Rattle.ground.specs.declared.fault.FaultKind.TheVariants.{BadDefine}
 use Rattle.ground.specs.declared.place.Place.{Place}
 use Rattle.ground.specs.declared.token.Dialect.{Dialect}
 use Rattle.ground.specs.declared.token.Token.{Token}
@@ -14,22 +14,18 @@ use Rattle.ground.specs.declared.token.Sign.TheVariants.{Open, Close, Comma}
 use Rattle.macro_define.specs.declared.defines.FirstWord.{FirstWord}
 use Rattle.macro_define.specs.declared.defines.FirstWord.TheVariants.{Define, Include, Other}
 use Rattle.free_scan.specs.Tokens.{open_after}
-use Rattle.macro_define.specs.Made.{fault_at}
 use Rattle.macro_define.specs.Macros.{Macros, key, number_of}
 
--- whether a name is this word in whatever case
-abbrev pub is_spelled : List ℕ → List ℕ → Bool
-is_spelled [] [] = true
-is_spelled [] (b ∷ bs) = false
-is_spelled (letter ∷ letters) [] = false
-is_spelled (letter ∷ letters) (b ∷ bs) = to_ascii_lowercase b == letter && is_spelled letters bs
-
+-- the words that no macro is named as, in whatever case
 abbrev pub is_reserved : List ℕ → Bool
-is_reserved name = is_spelled (codes "define") name || is_spelled (codes "include") name
+is_reserved name = str_eq_ignore_ascii_case (codes "define") name || str_eq_ignore_ascii_case (codes "include") name
 
 -- what a word at the beginning of a line begins
 abbrev pub word_begins : List ℕ → FirstWord
-word_begins name = if is_spelled (codes "define") name then Define else (if is_spelled (codes "include") name then Include else Other)
+word_begins name =
+    if str_eq_ignore_ascii_case (codes "define") name then Define
+    else (if str_eq_ignore_ascii_case (codes "include") name then Include
+    else Other)
 
 -- only the first word of a line that continues no other begins a define or an include
 abbrev pub first_word : Bool → TokenKind → FirstWord
@@ -100,14 +96,14 @@ line_define macros name ts = let p = line_text [] ts in Ok (p.1, with_macro macr
 
 abbrev pub with_enclosed : Place → Macros → List ℕ → Enclosed → Defined
 with_enclosed place macros name (Closed text rest) = Ok (rest, with_macro macros name text)
-with_enclosed place macros name Broken = Err (fault_at place BadDefine 0)
+with_enclosed place macros name Broken = Err (fault_at place BadDefine)
 with_enclosed place macros name CutOff = Ok ([], macros)
 
 -- `define(name, text)`: the text goes to the matching parenthesis
 abbrev pub enclosed_define : Place → Macros → List ℕ → List Token → Defined
 enclosed_define place macros name [] = Ok ([], macros)
 enclosed_define place macros name (t ∷ ts) =
-    if is_comma (t.kind) then with_enclosed place macros name (enclosed_text 0 [] ts) else Err (fault_at place BadDefine 0)
+    if is_comma (t.kind) then with_enclosed place macros name (enclosed_text 0 [] ts) else Err (fault_at place BadDefine)
 
 abbrev pub define_of_name : Place → Bool → Macros → List ℕ → List Token → Defined
 define_of_name place true macros name ts = enclosed_define place macros name ts
@@ -115,10 +111,10 @@ define_of_name place false macros name ts = line_define macros name ts
 
 -- a define whose name stands at a place
 abbrev pub named_define : Dialect → Place → Bool → Macros → Place → Option (List ℕ) → List Token → Defined
-named_define d place enclosed macros at None ts = Err (fault_at place BadDefine 0)
+named_define d place enclosed macros at None ts = Err (fault_at place BadDefine)
 named_define d place enclosed macros at (Some name) ts =
-    if is_reserved name then Err (fault_at place BadDefine 0)
-    else (if is_full macros (key d name) then Err (fault_at at Limit 4)
+    if is_reserved name then Err (fault_at place BadDefine)
+    else (if is_full macros (key d name) then Err (limit_at at 4)
     else define_of_name place enclosed macros (key d name) ts)
 
 abbrev pub define_from : Dialect → Place → Bool → Macros → List Token → Defined

@@ -8,7 +8,8 @@ use Rattle.std.specs.Option.{option_map_or}
 use Rattle.std.specs.Str.{bytes_eq, is_utf8}
 use Rattle.indexmap.specs.IndexSet.{insert_key}
 use Rattle.ground.specs.declared.fault.Fault.{Fault}
-use Rattle.ground.specs.declared.fault.FaultKind.TheVariants.{IncludeMissing, IncludeDepth, Limit}
+use Rattle.ground.specs.Faults.{fault_at, limit_at}
+use Rattle.ground.specs.declared.fault.FaultKind.TheVariants.{IncludeMissing, IncludeDepth}
 use Rattle.ground.specs.declared.place.Place.{Place}
 use Rattle.ground.specs.declared.token.Dialect.{Dialect}
 use Rattle.ground.specs.declared.token.Token.{Token}
@@ -19,7 +20,7 @@ use Rattle.macro_define.specs.declared.defines.FirstWord.{FirstWord}
 use Rattle.macro_define.specs.declared.defines.FirstWord.TheVariants.{Define, Include, Other}
 use Rattle.macro_define.specs.Answers.{Answers, Known, after_fetch, answer, knows}
 use Rattle.macro_define.specs.Defines.{define_of, ends_line, first_word}
-use Rattle.macro_define.specs.Made.{Made, and_then, fault_at}
+use Rattle.macro_define.specs.Made.{Made, and_then}
 use Rattle.macro_define.specs.Macros.{Macros, token_made}
 
 -- What goes from one token to the next: the tokens made, the macros so far, the different names of files in the order
@@ -61,11 +62,11 @@ abbrev pub wanting : List ℕ → Answers → Answers
 wanting name answers = if can_hold name then after_fetch name answers else answers
 
 abbrev pub with_text : Place → Bool → Bool → List ℕ → GatherState → Option (List ℕ) → Result (List ℕ × GatherState) Fault
-with_text place too_deep too_long name w None = Err (fault_at place IncludeMissing 0)
+with_text place too_deep too_long name w None = Err (fault_at place IncludeMissing)
 with_text place too_deep too_long name w (Some text) =
-    if too_deep then Err (fault_at place IncludeDepth 0)
-    else (if nat_lt (w.room) (length text) then Err (fault_at place Limit 1)
-    else (if too_long then Err (fault_at place Limit 11)
+    if too_deep then Err (fault_at place IncludeDepth)
+    else (if nat_lt (w.room) (length text) then Err (limit_at place 1)
+    else (if too_long then Err (limit_at place 11)
     else Ok (text, record w { files = insert_key bytes_eq w.files name; room = w.room - length text })))
 
 -- the text of the file of this name, for an include at a place or for the whole text at line 0

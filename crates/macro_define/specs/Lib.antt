@@ -2,6 +2,7 @@
 pub mod Made
 pub mod Macros
 pub mod Defines
+pub mod Placed
 pub mod Uses
 pub mod Ends
 pub mod Answers

@@ -10,6 +10,7 @@ use Rattle.std.specs.Option.{option_map_or}
 use Rattle.std.specs.Char.{to_ascii_lowercase}
 use Rattle.std.specs.Str.{bytes_eq}
 use Rattle.ground.specs.declared.fault.Fault.{Fault}
+use Rattle.ground.specs.Faults.{fault_at}
 use Rattle.ground.specs.declared.fault.FaultKind.TheVariants.{MacroLoop}
 use Rattle.ground.specs.declared.place.Place.{Place}
 use Rattle.ground.specs.declared.token.Dialect.{Dialect}
@@ -17,7 +18,7 @@ use Rattle.ground.specs.declared.token.Dialect.TheVariants.{Ratfor, Efl}
 use Rattle.ground.specs.declared.token.Token.{Token}
 use Rattle.ground.specs.declared.token.TokenKind.{TokenKind}
 use Rattle.ground.specs.declared.token.TokenKind.TheVariants.{Word}
-use Rattle.macro_define.specs.Made.{Made, and_then, fault_at, counted, put}
+use Rattle.macro_define.specs.Made.{Made, and_then, counted, put}
 
 -- names and texts, in the order of the first define of each name
 abbrev pub Macros : Type 0
@@ -50,10 +51,10 @@ module _ (d : Dialect) (macros : Macros) (place : Place) where
 
   -- what the macro of a number makes, where these are in progress and so many may still be begun
   abbrev pub replaced : ℕ → List ℕ → ℕ → Made → Result Made Fault
-  replaced zero progress n m = Err (fault_at place MacroLoop 0)
+  replaced zero progress n m = Err (fault_at place MacroLoop)
   replaced (suc free) progress n m =
       if list_any (λ i. i == n) progress
-      then Err (fault_at place MacroLoop 0)
+      then Err (fault_at place MacroLoop)
       else and_then (counted place m) (text_made (replaced free (n ∷ progress)) (text_of macros n))
 
 -- what a token of a text makes

@@ -1,8 +1,7 @@
 -- The tokens that have been made, and how many more may be counted.
 use Rattle.std.specs.Prelude.{◌≡◌, ℕ, ◌-◌, ◌==◌, ⊤, List, [], ◌∷◌, ◌++◌, Result, Ok, Err, if◌then◌else◌}
 use Rattle.ground.specs.declared.fault.Fault.{Fault}
-use Rattle.ground.specs.declared.fault.FaultKind.{FaultKind}
-use Rattle.ground.specs.declared.fault.FaultKind.TheVariants.{Limit}
+use Rattle.ground.specs.Faults.{limit_at}
 use Rattle.ground.specs.declared.fault.Refusal.{Refusal}
 use Rattle.ground.specs.declared.fault.Refusal.TheVariants.{Fault as Faulty, Memory as WantOfMemory}
 use Rattle.ground.specs.declared.place.Place.{Place}
@@ -21,16 +20,13 @@ abbrev pub and_then : {A B E : Type 0} → Result A E → (A → Result B E) →
 and_then (Ok a) f = f a
 and_then (Err e) f = Err e
 
-abbrev pub fault_at : Place → FaultKind → ℕ → Fault
-fault_at place kind number = record { kind = kind; place = place; number = number }
-
 -- a token, or the name of a macro, is counted
 abbrev pub counted : Place → Made → Result Made Fault
-counted place m = if m.left == 0 then Err (fault_at place Limit 2) else Ok (record { tokens = m.tokens; left = m.left - 1 })
+counted place m = if m.left == 0 then Err (limit_at place 2) else Ok (record { tokens = m.tokens; left = m.left - 1 })
 
 -- a token is counted and added
 abbrev pub put : Token → Made → Result Made Fault
-put t m = if m.left == 0 then Err (fault_at (t.place) Limit 2) else Ok (record { tokens = m.tokens ++ t ∷ []; left = m.left - 1 })
+put t m = if m.left == 0 then Err (limit_at (t.place) 2) else Ok (record { tokens = m.tokens ++ t ∷ []; left = m.left - 1 })
 
 -- A call goes from what is told to what it leaves to be done, or to the fault that is told; want of memory says nothing.
 abbrev pub Goes : {A B : Type 0} → Result A Fault → Result B Refusal → Result A Fault → Type 0

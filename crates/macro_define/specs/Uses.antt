@@ -7,7 +7,7 @@ use Rattle.ground.specs.declared.fault.Fault.{Fault}
 use Rattle.ground.specs.declared.place.Place.{Place}
 use Rattle.ground.specs.declared.token.Dialect.{Dialect}
 use Rattle.ground.specs.declared.token.TokenKind.{TokenKind}
-use Rattle.macro_define.specs.declared.macros.Use.{Use}
+use Rattle.macro_define.specs.declared.uses.Use.{Use}
 use Rattle.macro_define.specs.Made.{Made, and_then}
 use Rattle.macro_define.specs.Macros.{Macros, text_of, text_made, replaced}
 

@@ -2,15 +2,16 @@
 ghost use Rattle.std.specs.Prelude.{◌≡◌, ◌==◌, ◌&&◌, ◌≤◌, ◌<◌, ◌^◌, ◌+◌, ⊤, [], ◌∷◌, ◌++◌, false, length, IfOk, IfSome, MatchOption, OnOk};
 ghost use Rattle.std.specs.Option.{option_map};
 ghost use Rattle.free_scan.specs.Tokens.{open_after as open_after_of};
+ghost use Rattle.ground.specs.Faults.{fault_at};
 ghost use Rattle.ground.specs.declared.fault.FaultKind.TheVariants.{BadDefine};
 ghost use Rattle.ground.specs.declared.fault.Refusal.TheVariants.{Fault as Faulty};
-ghost use Rattle.macro_define.specs.Made.{Came, fault_at};
+ghost use Rattle.macro_define.specs.Made.{Came};
 ghost use Rattle.macro_define.specs.Uses.{table};
-ghost use Rattle.macro_define.specs.Defines.{define_of, enclosed_define as enclosed_define_of, enclosed_text as enclosed_text_of, ends_line as ends_line_of, ends_text as ends_text_of, first_word as first_word_of, is_close as is_close_of, is_comma as is_comma_of, is_full as is_full_of, is_open as is_open_of, is_reserved as is_reserved_of, is_spelled as is_spelled_of, line_define as line_define_of, line_text as line_text_of, named_define, name_in, with_macro, word_begins as word_begins_of};
+ghost use Rattle.macro_define.specs.Defines.{define_of, enclosed_define as enclosed_define_of, enclosed_text as enclosed_text_of, ends_line as ends_line_of, ends_text as ends_text_of, first_word as first_word_of, is_close as is_close_of, is_comma as is_comma_of, is_full as is_full_of, is_open as is_open_of, is_reserved as is_reserved_of, line_define as line_define_of, line_text as line_text_of, named_define, name_in, with_macro, word_begins as word_begins_of};
 ghost use Rattle.macro_define.specs.Ends.{IsEnd, IsAtEnd};
 
 use crate::macros::{Macros, key, number_of};
-use ground::{Dialect, Fault, FaultKind, Place, Refusal, Sign, Token, TokenKind};
+use ground::{Dialect, Fault, FaultKind, Place, Refusal, Sign, Token, TokenKind, is_spelled};
 use std::alloc::{AllocError, Global};
 use std::collections::VecDeque;
 
@@ -57,19 +58,6 @@ fn word_begins(name: &[u8]) -> FirstWord
     } else {
         FirstWord::Other
     }
-}
-
-/// Whether a name is this word in whatever case.
-fn is_spelled(word: &[u8], name: &[u8]) -> bool
-    ensures { result ≡ is_spelled_of word.now name.now }
-{
-    let Some((letter, letters)) = word.split_first() else {
-        return name.is_empty();
-    };
-    let Some((byte, bytes)) = name.split_first() else {
-        return false;
-    };
-    byte.to_ascii_lowercase() == *letter && is_spelled(letters, bytes)
 }
 
 fn is_reserved(name: &[u8]) -> bool
@@ -130,11 +118,7 @@ fn define_named(
     }
     let name = key(alloc, dialect, name.as_bytes())?;
     if is_full(macros, &name) {
-        return Err(Refusal::Fault(Fault {
-            kind: FaultKind::Limit,
-            place: at,
-            number: MACRO_LIMIT_NUMBER,
-        }));
+        return Err(Refusal::Fault(Fault::limit(at, MACRO_LIMIT_NUMBER)));
     }
     if enclosed {
         define_enclosed(alloc, place, name, macros, tokens)
@@ -284,11 +268,7 @@ fn ends_text(kind: &TokenKind) -> bool
 }
 
 fn bad_define(place: Place) -> Refusal
-    ensures { result ≡ Faulty (fault_at place BadDefine 0) }
+    ensures { result ≡ Faulty (fault_at place BadDefine) }
 {
-    Refusal::Fault(Fault {
-        kind: FaultKind::BadDefine,
-        place,
-        number: 0,
-    })
+    Refusal::Fault(Fault::new(place, FaultKind::BadDefine))
 }

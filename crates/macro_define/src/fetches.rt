@@ -3,7 +3,6 @@ ghost use Rattle.std.specs.Prelude.{◌≡◌, ◌≤◌, Some, false, length, I
 ghost use Rattle.std.specs.Str.{bytes_eq};
 ghost use Rattle.indexmap.specs.IndexSet.{insert_key};
 ghost use Rattle.ground.specs.declared.fault.Refusal.TheVariants.{Fault as Faulty};
-ghost use Rattle.macro_define.specs.Made.{fault_at as fault_of};
 ghost use Rattle.macro_define.specs.Answers.{Answers, Through};
 ghost use Rattle.macro_define.specs.Expansion.{fetched_file, file_number as file_number_of, in_file, with_text};
 ghost use Rattle.macro_define.specs.Gathered.{Asks, Fetches, HasCause, IsInFile, IsNoFault, IsUnasked, world};
@@ -49,7 +48,7 @@ pub fn fetch_file<L: Library>(
         None => Err(fault_in(
             alloc,
             includer,
-            fault_at(place, FaultKind::IncludeMissing, 0),
+            Fault::new(place, FaultKind::IncludeMissing),
         )),
     }
 }
@@ -98,11 +97,11 @@ fn count_file(
     ensures unasked { IsUnasked result }
 {
     let fault = if too_deep {
-        fault_at(place, FaultKind::IncludeDepth, 0)
+        Fault::new(place, FaultKind::IncludeDepth)
     } else if gathering.room < text.len() {
-        fault_at(place, FaultKind::Limit, BYTE_LIMIT_NUMBER)
+        Fault::limit(place, BYTE_LIMIT_NUMBER)
     } else if too_long {
-        fault_at(place, FaultKind::Limit, TEXT_LIMIT_NUMBER)
+        Fault::limit(place, TEXT_LIMIT_NUMBER)
     } else {
         note_file(alloc, &mut gathering.files, name)?;
         gathering.room -= text.len();
@@ -117,16 +116,6 @@ fn note_file(alloc: Global, files: &mut IndexSet<Vec<u8>>, name: &[u8]) -> Resul
 {
     files.insert_full(Vec::from_slice(alloc, name)?)?;
     Ok(())
-}
-
-fn fault_at(place: Place, kind: FaultKind, number: u64) -> Fault
-    ensures { result ≡ fault_of place kind number }
-{
-    Fault {
-        kind,
-        place,
-        number,
-    }
 }
 
 /// The number of the file of this name: that of its first use, at most 65,535.

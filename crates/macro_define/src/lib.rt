@@ -8,10 +8,8 @@ mod gathering;
 mod macros;
 mod output;
 mod refusal;
+mod uses;
 mod whole_text;
 
 pub use refusal::TextRefusal;
 pub use whole_text::{Gathered, gather};
-
-#[cfg(test)]
-mod tests;

@@ -1,5 +1,5 @@
 // The table of macros, and the replacement of their names.
-ghost use Rattle.std.specs.Prelude.{◌≡◌, ◌+◌, ◌-◌, ◌*◌, ◌^◌, ◌<◌, ◌==◌, [], ◌++◌, ◌∷◌, length, slice_get, IfOk, IfSome, OnOk, option_map};
+ghost use Rattle.std.specs.Prelude.{◌≡◌, ◌+◌, ◌-◌, ◌*◌, ◌^◌, ◌<◌, ◌==◌, false, [], ◌++◌, ◌∷◌, length, slice_get, IfOk, IfSome, OnOk, option_map};
 ghost use Rattle.std.specs.List.{list_any};
 ghost use Rattle.std.specs.Option.{option_copied};
 ghost use Rattle.macro_define.specs.Made.{Came, Goes, and_then, made};
@@ -7,19 +7,13 @@ ghost use Rattle.macro_define.specs.Macros.{key as key_of, kind_made, macro_of a
 ghost use Rattle.macro_define.specs.Uses.{in_progress, still_made, table, used};
 
 use crate::output::Output;
+use crate::uses::{Use, Uses};
 use ground::{Dialect, Fault, FaultKind, Place, Refusal, Token, TokenKind};
 use indexmap::IndexMap;
 use std::alloc::{AllocError, Global};
 
 /// The texts of macros by their names, in the order of the first define of each. A name is as it is compared.
 pub type Macros = IndexMap<Vec<u8>, Vec<TokenKind>>;
-
-/// A text that is under way: the number of its macro, and the place of its next token.
-#[derive(Clone, Copy, Debug)]
-pub struct Use {
-    pub number: usize,
-    pub next: usize,
-}
 
 /// Adds what a token makes: itself, or what the macro that it names stands for (Kernighan's and Feldman's macros).
 pub fn add_token(
@@ -89,7 +83,7 @@ fn replace(
     requires { number < length (table macros.now) }
     ensures { Came (replaced dialect (table macros.now) place (length (table macros.now)) [] number (made output.old)) result (made output.new) }
 {
-    let mut uses = Vec::new(alloc);
+    let mut uses = Uses::new(alloc);
     begin(dialect, macros, number, place, &mut uses, output)?;
     while let Some(innermost) = uses.pop() {
         go_on(alloc, dialect, macros, innermost, place, &mut uses, output)?;
@@ -104,19 +98,19 @@ fn go_on(
     macros: &Macros,
     innermost: Use,
     place: Place,
-    uses: &mut Vec<Use>,
+    uses: &mut Uses,
     output: &mut Output,
 ) -> Result<(), Refusal>
-    ensures made { Goes (still_made dialect (table macros.now) place [] (uses.old.items ++ innermost ∷ []) (made output.old)) result
-        (still_made dialect (table macros.now) place [] uses.new.items (made output.new)) }
-    ensures nearer { OnOk result (2 * output.new.left + length uses.new.items < 2 * output.old.left + length uses.old.items + 1) }
+    requires { list_any (λ u. u.number == innermost.number) uses.old ≡ false }
+    ensures made { Goes (still_made dialect (table macros.now) place [] (uses.old ++ innermost ∷ []) (made output.old)) result
+        (still_made dialect (table macros.now) place [] uses.new (made output.new)) }
+    ensures nearer { OnOk result (2 * output.new.left + length uses.new < 2 * output.old.left + length uses.old + 1) }
 {
     let Some(kind) = next_kind(macros, innermost) else {
         return Ok(());
     };
     let next = innermost.next + 1;
-    uses.push(Use { next, ..innermost })
-        .map_err(AllocError::from)?;
+    uses.push(Use { next, ..innermost })?;
     add_kind(alloc, dialect, macros, kind, place, uses, output)
 }
 
@@ -126,33 +120,21 @@ fn begin(
     macros: &Macros,
     number: usize,
     place: Place,
-    uses: &mut Vec<Use>,
+    uses: &mut Uses,
     output: &mut Output,
 ) -> Result<(), Refusal>
     requires { number < length (table macros.now) }
-    ensures made { Goes (and_then (used dialect (table macros.now) place (in_progress [] uses.old.items) number (made output.old))
-        (still_made dialect (table macros.now) place [] uses.old.items)) result
-        (still_made dialect (table macros.now) place [] uses.new.items (made output.new)) }
-    ensures nearer { OnOk result (2 * output.new.left + length uses.new.items < 2 * output.old.left + length uses.old.items) }
+    ensures made { Goes (and_then (used dialect (table macros.now) place (in_progress [] uses.old) number (made output.old))
+        (still_made dialect (table macros.now) place [] uses.old)) result
+        (still_made dialect (table macros.now) place [] uses.new (made output.new)) }
+    ensures nearer { OnOk result (2 * output.new.left + length uses.new < 2 * output.old.left + length uses.old) }
 {
-    if is_used(uses, number) {
-        return Err(Refusal::Fault(Fault {
-            kind: FaultKind::MacroLoop,
-            place,
-            number: 0,
-        }));
+    if uses.has(number) {
+        return Err(Refusal::Fault(Fault::new(place, FaultKind::MacroLoop)));
     }
     output.count(place)?;
-    uses.push(Use { number, next: 0 })
-        .map_err(AllocError::from)?;
+    uses.push(Use { number, next: 0 })?;
     Ok(())
-}
-
-/// Whether the text of this macro is under way.
-fn is_used(uses: &[Use], number: usize) -> bool
-    ensures { result ≡ list_any (λ u. u.number == number) uses.now }
-{
-    uses.iter().any(|other| other.number == number)
 }
 
 /// The next token of a text that is under way.
@@ -175,14 +157,14 @@ fn add_kind(
     macros: &Macros,
     kind: &TokenKind,
     place: Place,
-    uses: &mut Vec<Use>,
+    uses: &mut Uses,
     output: &mut Output,
 ) -> Result<(), Refusal>
     ensures made { Goes (and_then (kind_made dialect (table macros.now) place
-        (used dialect (table macros.now) place (in_progress [] uses.old.items)) kind.now (made output.old))
-        (still_made dialect (table macros.now) place [] uses.old.items)) result
-        (still_made dialect (table macros.now) place [] uses.new.items (made output.new)) }
-    ensures nearer { OnOk result (2 * output.new.left + length uses.new.items < 2 * output.old.left + length uses.old.items) }
+        (used dialect (table macros.now) place (in_progress [] uses.old)) kind.now (made output.old))
+        (still_made dialect (table macros.now) place [] uses.old)) result
+        (still_made dialect (table macros.now) place [] uses.new (made output.new)) }
+    ensures nearer { OnOk result (2 * output.new.left + length uses.new < 2 * output.old.left + length uses.old) }
 {
     match macro_of(alloc, dialect, macros, kind)? {
         Some(number) => begin(dialect, macros, number, place, uses, output),

@@ -2,7 +2,7 @@
 ghost use Rattle.std.specs.Prelude.{◌≡◌, []};
 ghost use Rattle.macro_define.specs.Made.{Came, counted, made, put as put_token};
 
-use ground::{Fault, FaultKind, Place, Refusal, Token};
+use ground::{Fault, Place, Refusal, Token};
 use std::alloc::{AllocError, Global};
 
 /// The number of tokens of a text after expansion, each replaced name counted as one.
@@ -33,11 +33,7 @@ impl Output {
         ensures { Came (counted place (made self.old)) result (made self.new) }
     {
         if self.left == 0 {
-            return Err(Refusal::Fault(Fault {
-                kind: FaultKind::Limit,
-                place,
-                number: TOKEN_LIMIT_NUMBER,
-            }));
+            return Err(Refusal::Fault(Fault::limit(place, TOKEN_LIMIT_NUMBER)));
         }
         self.left -= 1;
         Ok(())

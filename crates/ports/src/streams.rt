@@ -11,8 +11,9 @@ use std::rt::Files;
 // One byte more than the longest deck has, so that a longer file is seen to be too long.
 const MOST: u64 = 134_217_729;
 
-/// The files of the system, under their paths. A file that is not there is None, and of a longer file only the first
-/// 134,217,729 bytes are read.
+/// The files of the system, under their paths. A file that is not there is None, and so is one whose name can name no
+/// file: a part is too long, or one before the last is no folder. Of a longer file only the first 134,217,729 bytes are
+/// read.
 #[derive(Drop)]
 pub struct FileLibrary<'a, R: Files> {
     rt: &'a R,
@@ -59,7 +60,7 @@ impl<'a, R: Files> Library for FileLibrary<'a, R> {
             Err(error) => error.kind(),
         };
         match kind {
-            ErrorKind::NotFound => Ok(None),
+            ErrorKind::NotFound | ErrorKind::NotADirectory | ErrorKind::InvalidFilename => Ok(None),
             ErrorKind::OutOfMemory => Err(FetchFault::Memory),
             _ => {
                 self.faults = self.faults.saturating_add(1);
@@ -142,79 +143,5 @@ impl<W: Write> Sink for StreamSink<W> {
                 Err(Failed)
             }
         }
-    }
-}
-
-#[cfg(test)]
-mod tests {
-    use super::*;
-    use std::io;
-    use std::test::Fail;
-
-    // A stream whose reads fail, and which takes nothing.
-    #[derive(Drop)]
-    struct Broken;
-
-    impl Read for Broken {
-        fn read(&mut self, _buf: &mut [u8]) -> io::Result<usize> {
-            Err(io::Error::from(ErrorKind::BrokenPipe))
-        }
-    }
-
-    impl Write for Broken {
-        fn write(&mut self, _buf: &[u8]) -> io::Result<usize> {
-            Ok(0)
-        }
-
-        fn flush(&mut self) -> io::Result<()> {
-            Ok(())
-        }
-    }
-
-    // A file that is there gives its bytes, a missing one is None, and a folder is a fault.
-    #[test]
-    fn files(rt: HostRuntime) -> Result<(), Fail> {
-        fs::write(&rt, "p.r", b"stop\nend\n")?;
-        fs::create_dir(&rt, "folder")?;
-        let mut library = FileLibrary::new(&rt);
-        let held = library.fetch(rt.alloc(), "p.r")?;
-        assert!(rt; held.is_some_and(|bytes| bytes.as_slice() == b"stop\nend\n".as_slice()));
-        assert!(rt; library.fetch(rt.alloc(), "q.r")?.is_none());
-        assert_eq!(rt; library.faults(), 0);
-        assert_eq!(rt;
-            library.fetch(rt.alloc(), "folder").err(),
-            Some(FetchFault::Failed)
-        );
-        assert_eq!(rt; library.faults(), 1);
-        Ok(())
-    }
-
-    // A read that fails is counted.
-    #[test]
-    fn reads(rt: HostRuntime) -> Result<(), Fail> {
-        let mut buffer = [0u8; 4];
-        let mut good = StreamSource::new(b"ab".as_slice());
-        assert_eq!(rt; good.read(&mut buffer).ok(), Some(2));
-        assert!(rt; buffer.starts_with(b"ab"));
-        assert_eq!(rt; good.read(&mut buffer).ok(), Some(0));
-        assert_eq!(rt; good.faults(), 0);
-        let mut bad = StreamSource::new(Broken);
-        assert!(rt; bad.read(&mut buffer).is_err());
-        assert_eq!(rt; bad.faults(), 1);
-        Ok(())
-    }
-
-    // A stream that takes nothing has failed, unless nothing was to be put.
-    #[test]
-    fn puts(rt: HostRuntime) -> Result<(), Fail> {
-        let mut bad = StreamSink::new(Broken);
-        assert!(rt; bad.put(b"").is_ok());
-        assert!(rt; bad.put(b"a").is_err());
-        assert_eq!(rt; bad.faults(), 1);
-        let mut good = StreamSink::new(Vec::new(rt.alloc()));
-        assert!(rt; good.put(b"ab").is_ok());
-        assert_eq!(rt; good.faults(), 0);
-        assert!(rt; good.writer.as_slice() == b"ab".as_slice());
-        Ok(())
     }
 }

@@ -19,7 +19,7 @@ returns-in-None-clause-text g c =
     through-map files F (λ before after. Asks name (Ok None) before after)
     (λ before after. Fetches (fetched_file c.args.place c.args.too_deep c.args.too_long c.args.includer.now name (world old before)) (Err c.fault_in.result) (world old after))
     told
-    (fetched-missing c.args.includer.now c.args.place c.args.too_deep c.args.too_long name old old c.fault_at.result c.fault_in.result c.fault_in.ensures c.fault_at.ensures)
+    (fetched-missing c.args.includer.now c.args.place c.args.too_deep c.args.too_long name old old c.new.result c.fault_in.result c.fault_in.ensures c.new.ensures)
 
 pub returns-in-Some-clause-text : goal.returns-in-Some-clause-text
 returns-in-Some-clause-text g c =

@@ -14,10 +14,10 @@ returns-clause-made c =
     let m = made c.args.output.now in
     let u = c.args.innermost in
     let kind = c.in-Some.kind.now in
-    let pushed : c.push.new.self.items ≡ c.args.uses.now.items ++ record { number = u.number; next = u.next + 1 } ∷ [] = search rules in
-    let e = still-next d macros place c.args.uses.now.items u m kind (sym c.in-Some.ensures.kind) c.push.new.self.items pushed in
-    subst (λ (x : Result Made Fault). Goes x c.add_kind.result (still_made d macros place [] c.add_kind.new.uses.items (made c.add_kind.new.output))) (sym e) c.add_kind.ensures.made
+    let pushed : c.push.new.self ≡ c.args.uses.now ++ record { number = u.number; next = u.next + 1 } ∷ [] = search rules in
+    let e = still-next d macros place c.args.uses.now u m kind (sym c.in-Some.ensures.kind) c.push.new.self pushed in
+    subst (λ (x : Result Made Fault). Goes x c.add_kind.result (still_made d macros place [] c.add_kind.new.uses (made c.add_kind.new.output))) (sym e) c.add_kind.ensures.made
 
 pub returns-in_default-clause-made : goal.returns-in_default-clause-made
 returns-in_default-clause-made c =
-    still-ended c.args.dialect (table c.args.macros.now) c.args.place c.args.uses.now.items c.args.innermost (made c.args.output.now) (sym c.in_default.ensures.kind)
+    still-ended c.args.dialect (table c.args.macros.now) c.args.place c.args.uses.now c.args.innermost (made c.args.output.now) (sym c.in_default.ensures.kind)

@@ -1,6 +1,6 @@
 -- What is made in place of a word that a macro names.
 use Rattle.std.proofs.Common.{◌≡◌, sym, ◌∙◌, ap, [], ◌++◌, ◌∷◌, length, Ok, rules, List}
-use Rattle.macro_define.specs.declared.macros.Use.{Use}
+use Rattle.macro_define.specs.declared.uses.Use.{Use}
 use Rattle.macro_define.specs.Made.{made}
 use Rattle.macro_define.specs.Macros.{replaced}
 use Rattle.macro_define.specs.Uses.{still_made, table}
@@ -13,11 +13,11 @@ returns-in_err-begin c =
     let d = c.args.dialect in
     let macros = table c.args.macros.now in
     let place = c.args.place in
-    let us = c.new-uses.result.items in
+    let us = c.new-uses.result in
     let m = made c.args.output.now in
     let whole : replaced d macros place (length macros) [] c.args.number m ≡ begun_by d macros place us c.args.number m =
-    sym (replaced-all d macros place c.args.number m) ∙ ap (λ (xs : List Use). begun_by d macros place xs c.args.number m) (sym c.new-uses.ensures.items) in
-    goes-failed (Unit {0}) (Unit {0}) (begun_by d macros place us c.args.number m) (still_made d macros place [] c.begin.new.uses.items (made c.begin.new.output))
+    sym (replaced-all d macros place c.args.number m) ∙ ap (λ (xs : List Use). begun_by d macros place xs c.args.number m) (sym c.new-uses.ensures) in
+    goes-failed (Unit {0}) (Unit {0}) (begun_by d macros place us c.args.number m) (still_made d macros place [] c.begin.new.uses (made c.begin.new.output))
     (replaced d macros place (length macros) [] c.args.number m) (Ok (made c.begin.new.output)) c.in_err-begin.field-0.0 c.from_residual.result
     c.in_err-begin.ensures.made (λ fault told. whole ∙ told) c.from_residual.ensures
 
@@ -28,7 +28,7 @@ loop-innermost-init c =
     let place = c.args.place in
     let m = made c.args.output.now in
     sym (replaced-all d macros place c.args.number m)
-    ∙ ap (λ (xs : List Use). begun_by d macros place xs c.args.number m) (sym c.new-uses.ensures.items)
+    ∙ ap (λ (xs : List Use). begun_by d macros place xs c.args.number m) (sym c.new-uses.ensures)
     ∙ c.in_ok-begin.ensures.made
 
 pub loop-innermost-preserved : goal.loop-innermost-preserved
@@ -38,7 +38,7 @@ loop-innermost-preserved c =
     let place = c.args.place in
     let m = made c.loop-innermost.output in
     c.loop-innermost.invariant
-    ∙ ap (λ (us : List Use). still_made d macros place [] us m) c.in-Some.ensures.items
+    ∙ ap (λ (us : List Use). still_made d macros place [] us m) c.in-Some.ensures.text
     ∙ c.in_ok-go_on.ensures.made
 
 pub returns-in_err-go_on : goal.returns-in_err-go_on
@@ -47,9 +47,9 @@ returns-in_err-go_on c =
     let macros = table c.args.macros.now in
     let place = c.args.place in
     let m = made c.loop-innermost.output in
-    let still = still_made d macros place [] (c.pop.new.self.items ++ c.in-Some.innermost ∷ []) m in
-    let whole : replaced d macros place (length macros) [] c.args.number (made c.args.output.now) ≡ still = c.loop-innermost.invariant ∙ ap (λ (us : List Use). still_made d macros place [] us m) c.in-Some.ensures.items in
-    goes-failed (Unit {0}) (Unit {0}) still (still_made d macros place [] c.go_on.new.uses.items (made c.go_on.new.output))
+    let still = still_made d macros place [] (c.pop.new.self ++ c.in-Some.innermost ∷ []) m in
+    let whole : replaced d macros place (length macros) [] c.args.number (made c.args.output.now) ≡ still = c.loop-innermost.invariant ∙ ap (λ (us : List Use). still_made d macros place [] us m) c.in-Some.ensures.text in
+    goes-failed (Unit {0}) (Unit {0}) still (still_made d macros place [] c.go_on.new.uses (made c.go_on.new.output))
     (replaced d macros place (length macros) [] c.args.number (made c.args.output.now)) (Ok (made c.go_on.new.output)) c.in_err-go_on.field-0.0 c.from_residual-in_err-go_on.result
     c.in_err-go_on.ensures.made (λ fault told. whole ∙ told) c.from_residual-in_err-go_on.ensures
 
@@ -59,5 +59,5 @@ returns c =
     let macros = table c.args.macros.now in
     let place = c.args.place in
     let m = made c.loop-innermost.output in
-    let none : c.loop-innermost.uses.items ≡ [] = search rules in
+    let none : c.loop-innermost.uses ≡ [] = search rules in
     c.loop-innermost.invariant ∙ ap (λ (us : List Use). still_made d macros place [] us m) none

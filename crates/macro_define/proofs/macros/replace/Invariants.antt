@@ -8,7 +8,7 @@ use Rattle.macro_define.proofs.macros.replace.Given as goal
 abbrev pub invariant-loop-innermost : goal.invariant-loop-innermost
 invariant-loop-innermost l =
     replaced l.dialect (table l.macros) l.place (length (table l.macros)) [] l.number (made l.fn.output)
-    ≡ still_made l.dialect (table l.macros) l.place [] l.uses.items (made l.output)
+    ≡ still_made l.dialect (table l.macros) l.place [] l.uses (made l.output)
 
 abbrev pub decreases-loop-innermost : goal.decreases-loop-innermost
-decreases-loop-innermost l = 2 * l.output.left + length l.uses.items
+decreases-loop-innermost l = 2 * l.output.left + length l.uses

@@ -1,6 +1,0 @@
--- The word gets shorter.
-use Rattle.std.proofs.Common.{length}
-use Rattle.macro_define.proofs.defines.+is_spelled.Given as goal
-
-abbrev pub decreases-is_spelled : goal.decreases-is_spelled
-decreases-is_spelled l = length l.word.now
