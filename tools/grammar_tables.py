@@ -9,7 +9,7 @@ terminals alone has `only A B` behind its symbols, and one that may not stand be
 It writes below FOLDER src/table.rt, symbols.rt and parse_table.rt, specs/Table.antt, ParseTable.antt, LookaheadTables.antt and
 NAMESound.antt, and proofs/TableLemmas.antt and parse_table/, over a file specs/NAME.antt that defines `certificate` of these tables and
 `grammar_with`, their grammar with the values of a token and of each production, and says where the productions need more than one token
-of lookahead. `rt fmt` and `rt tidy` lay the files out.
+of lookahead. The files are laid out as `rt fmt` and `rt tidy` do it, and tools/check_tables compares those that stand with these.
 """
 import os
 import sys
@@ -262,8 +262,27 @@ def write_types(grammar):
             + enum('The productions, each of one nonterminal.', 'Production', grammar.productions))
 
 
+WIDTH = 100
+
+
+def packed(items):
+    """As many items on a line as there is room for."""
+    lines = []
+    for item in items:
+        if lines and len(lines[-1]) + len(item) + 2 <= WIDTH:
+            lines[-1] += f' {item},'
+        else:
+            lines.append(f'    {item},')
+    return lines
+
+
 def table(name, kind, items):
-    return [f'static {name}: [{kind}; {len(items)}] = ['] + [f'    {item},' for item in items] + ['];', '']
+    """A static array as `rt fmt` lays it out: on one line, else with numbers packed and other items each on a line."""
+    head = f'static {name}: [{kind}; {len(items)}] = ['
+    line = f'{head}{", ".join(items)}];'
+    if len(line) <= WIDTH:
+        return [line, '']
+    return [head] + (packed(items) if kind == 'usize' else [f'    {item},' for item in items]) + ['];', '']
 
 
 def starts(rows):
@@ -337,7 +356,11 @@ def write_parse_table(grammar, crate):
         '    chosen(entries_of(nonterminal), terminal, rest_of(nonterminal))',
         '}',
         '',
-        'fn chosen(choices: &[(Terminal, Production)], seen: Terminal, other: Option<Production>) -> Option<Production>',
+        'fn chosen(',
+        '    choices: &[(Terminal, Production)],',
+        '    seen: Terminal,',
+        '    other: Option<Production>,',
+        ') -> Option<Production>',
         '    ensures { result ≡ found (sameb terminal_type) seen choices.now other }',
         '{',
         '    for (terminal, production) in choices {',
@@ -529,7 +552,7 @@ def write_laws(grammar, crate, language):
     firsts = {'Terminal': ('k', grammar.terminals[0]), 'Nonterminal': ('n', grammar.nonterminals[0]), 'Production': ('p', grammar.productions[0])}
     out = [
         '-- The tables are sound whatever a grammar makes of a text: each test computes to true, for each terminal, nonterminal and production.',
-        'use Rattle.std.specs.Prelude.{◌≡◌, Bool, true, false, suc, nat_lt, List, refl}',
+        'use Rattle.std.specs.Prelude.{◌≡◌, true, suc, nat_lt, List, refl}',
         'use Rattle.ground.specs.declared.token.Token.{Token}',
     ] + uses(crate, *TYPES) + [
         'use Rattle.grammar.specs.Lookahead.{implies}',
@@ -554,10 +577,15 @@ def write_laws(grammar, crate, language):
             letter, first = firsts[kind]
             inner += by_cases(name, kind, letter, statement, first)
     inner += ['', 'pub sound : IsSound (grammar_with value build) certificate', 'sound = record {']
-    inner += [f'    same_{x} = record {{ is = same_true {x}_type tt; own = λ a. true_same {x}_type a a refl }};' for x in map(str.lower, TYPES)]
-    inner += [f'    {name.removesuffix("_law")} = {name};' for name, _, _ in laws]
-    inner += ['    start_fits = refl;', '    ends = refl;', '}']
+    inner += [f'  same_{x} = record {{ is = same_true {x}_type tt; own = λ a. true_same {x}_type a a refl }};' for x in map(str.lower, TYPES)]
+    inner += [f'  {name.removesuffix("_law")} = {name};' for name, _, _ in laws]
+    inner += ['  start_fits = refl;', '  ends = refl;', '}']
     return out + [f'  {line}' if line else line for line in inner[1:]]
+
+
+def signed(lines, source):
+    """The first line says what the file is for, and then what wrote it."""
+    return [f'{lines[0]} tools/grammar_tables.py writes it from {source}.'] + lines[1:]
 
 
 def main():
@@ -575,7 +603,7 @@ def main():
         ('proofs/parse_table/chosen/Invariants.antt', write_invariant(grammar, crate)),
     ):
         os.makedirs(os.path.dirname(f'{folder}/{path}'), exist_ok=True)
-        open(f'{folder}/{path}', 'w').write('\n'.join(lines) + '\n')
+        open(f'{folder}/{path}', 'w').write('\n'.join(signed(lines, os.path.basename(source))) + '\n')
     count = sum(len(row) for row in grammar.table.values())
     print(f'{len(grammar.terminals)} terminals, {len(grammar.nonterminals)} nonterminals, {len(grammar.productions)} productions, {count} entries')
 

@@ -1,6 +1,7 @@
 -- The stack and its values, as the machine holds them.
-use Rattle.std.proofs.Common.{◌≡◌, true, false, ℕ, zero, suc, ◌+◌, arith, length, drop, ◌++◌, Option, Some, None, List, [], ◌∷◌, refl, sym, subst}
-use Rattle.std.specs.Prelude.{slice_get, MatchOption, is_some}
+use Rattle.std.proofs.Common.{◌≡◌, true, false, ℕ, zero, suc, ◌+◌, arith, length, take, drop, ◌++◌, Option, Some, None, List, [], ◌∷◌, refl, sym, ◌∙◌, ap, subst}
+use Rattle.std.specs.Prelude.{min, slice_get, MatchOption, is_some}
+use Rattle.std.proofs.lemmas.List.{take_all, drop_all}
 use Rattle.grammar.specs.Stack.{piled}
 
 drop_at : {A : Type 0} → (xs : List A) → (n : ℕ) → (x : A) → slice_get xs n ≡ Some x → drop n xs ≡ x ∷ drop (suc n) xs
@@ -42,3 +43,20 @@ some_of (Some x) B C h e = (x, h)
 pub none_of : {A : Type 0} → (o : Option A) → (B : Type 0) → (C : A → Type 0) → MatchOption o B C → is_some o ≡ false → B
 none_of None B C h e = h
 none_of (Some x) B C h e = absurd (let f : true ≡ false = e in cc)
+
+-- no more than there are
+pub take_least : {A : Type 0} → (n m : ℕ) → (xs : List A) → m ≡ min n (length xs) → take m xs ≡ take n xs
+take_least zero m xs e =
+    let none : m ≡ 0 = omega arith in
+    ap (λ k. take k xs) none
+take_least (suc n) m [] e = take_all m [] (omega arith) ∙ sym (take_all (suc n) [] (omega arith))
+take_least (suc n) zero (x ∷ xs) e = absurd (omega arith)
+take_least (suc n) (suc m) (x ∷ xs) e = ap (λ ys. x ∷ ys) (take_least n m xs (omega arith))
+
+pub drop_least : {A : Type 0} → (n m : ℕ) → (xs : List A) → m ≡ min n (length xs) → drop m xs ≡ drop n xs
+drop_least zero m xs e =
+    let none : m ≡ 0 = omega arith in
+    ap (λ k. drop k xs) none
+drop_least (suc n) m [] e = drop_all m [] (omega arith) ∙ sym (drop_all (suc n) [] (omega arith))
+drop_least (suc n) zero (x ∷ xs) e = absurd (omega arith)
+drop_least (suc n) (suc m) (x ∷ xs) e = drop_least n m xs (omega arith)

@@ -4,7 +4,7 @@
 -- unit has. So a limit is read off the derivation's events, from left to right, up to the token: a production opens, a token is
 -- taken, a production closes. A production opens before its first token is taken, so the token that opens a block counts as inside it.
 -- The reading at a token depends on the tokens up to it alone, since these settle the derivation so far.
-use Rattle.std.specs.Prelude.{◌≡◌, ◌↔◌, ℕ, suc, ◌≤◌, ◌++◌, Option, Some, None, List, [], ◌∷◌}
+use Rattle.std.specs.Prelude.{◌≡◌, ◌↔◌, ℕ, suc, ◌+◌, min, ◌≤◌, ◌++◌, Option, Some, None, List, [], ◌∷◌}
 use Rattle.grammar.specs.declared.language.Event.{Event}
 use Rattle.grammar.specs.declared.language.Event.TheVariants.{Open, Take, Close}
 use Rattle.grammar.specs.Grammar.{Grammar, Tree, Trees, leaf, node, none, some, Parse, IsProgram}
@@ -29,6 +29,10 @@ pub record Meter (T P M : Type 0) : Type 0 where
   pub first : M
   pub next : Event T P → M → M
   pub passed : M → Option ℕ
+
+-- One more. A count stays at the greatest number of a machine, above all that a memory holds, so that each limit is far below.
+abbrev pub more : ℕ → ℕ
+more n = min (n + 1) 18446744073709551615
 
 -- The token, counted from 0, at which a limit is passed.
 pub record Passing : Type 0 where

@@ -83,12 +83,12 @@ pub trait Language {
     fn first_meters() -> Self::Meters
         ensures { result ≡ meter.first };
 
-    /// The meters after an event. A count that has no room is want of memory.
+    /// The meters after an event.
     fn next_meters(
         meters: Self::Meters,
         event: Event<Self::Terminal, Self::Production>,
-    ) -> Result<Self::Meters, AllocError>
-        ensures { IfOk result (λ m. m ≡ meter.next event meters) };
+    ) -> Self::Meters
+        ensures { result ≡ meter.next event meters };
 
     /// The number of the limit that the meters pass, the smallest where they pass several.
     fn passed(meters: Self::Meters) -> Option<u64>

@@ -38,7 +38,7 @@ pub fn step_at<L: Language>(
             let Some(next) = stack.outer.pop() else {
                 return Ok(Step::Stuck);
             };
-            *meters = L::next_meters(*meters, Event::Close(stack.top.production))?;
+            *meters = L::next_meters(*meters, Event::Close(stack.top.production));
             close::<L>(alloc, stack, next)?;
             Ok(Step::Again)
         }
@@ -46,7 +46,7 @@ pub fn step_at<L: Language>(
             if !L::same_terminal(seen, terminal) {
                 return Ok(Step::Stuck);
             }
-            *meters = L::next_meters(*meters, Event::Take(terminal))?;
+            *meters = L::next_meters(*meters, Event::Take(terminal));
             let value = L::token_value(alloc, token)?;
             push_value::<L>(stack, value)?;
             Ok(Step::Taken)
@@ -55,7 +55,7 @@ pub fn step_at<L: Language>(
             let Some(production) = L::predict(nonterminal, seen) else {
                 return Ok(Step::Stuck);
             };
-            *meters = L::next_meters(*meters, Event::Open(production))?;
+            *meters = L::next_meters(*meters, Event::Open(production));
             open::<L>(stack, production)?;
             Ok(Step::Again)
         }

@@ -17,29 +17,18 @@ pub fn parse<L: Language>(alloc: Global, tokens: &[Token]) -> Result<L::Value, R
     ensures { Answers L.grammar L.meter L.view tokens.now result }
 {
     let start = L::start();
-    let mut meters = L::next_meters(L::first_meters(), Event::Open(start))?;
+    let mut meters = L::next_meters(L::first_meters(), Event::Open(start));
     let mut stack = new_stack::<L>(alloc, start);
     for token in tokens {
         if !take_token::<L>(alloc, &mut stack, &mut meters, token)? {
-            return Err(refusal_at(token, FaultKind::Syntax, 0));
+            return Err(Refusal::Fault(Fault::new(token.place, FaultKind::Syntax)));
         }
         if let Some(number) = L::passed(meters) {
-            return Err(refusal_at(token, FaultKind::Limit, number));
+            return Err(Refusal::Fault(Fault::limit(token.place, number)));
         }
     }
     match finish::<L>(alloc, stack)? {
         Some(value) => Ok(value),
         None => unreachable!(),
     }
-}
-
-fn refusal_at(token: &Token, kind: FaultKind, number: u64) -> Refusal
-    ensures { result ≡ Refusal.Fault (record { kind = kind; place = token.now.place; number = number }) }
-{
-    let place = token.place;
-    Refusal::Fault(Fault {
-        kind,
-        place,
-        number,
-    })
 }

@@ -1,6 +1,6 @@
 // The stack of productions under way.
 
-ghost use Rattle.std.specs.Prelude.{◌≡◌, ◌∷◌, [], suc, IfOk, OnOk, MatchOption};
+ghost use Rattle.std.specs.Prelude.{◌≡◌, ◌∷◌, [], length, min, IfOk, OnOk, MatchOption};
 ghost use Rattle.grammar.specs.Descent.{left, behind, with_value, opened, whole};
 ghost use Rattle.grammar.specs.Stack.{held, innermost, below, around, items, closed, IsSplit};
 
@@ -48,8 +48,14 @@ pub fn awaited<L: Language>(
 ) -> Option<Symbol<L::Terminal, L::Nonterminal>>
     ensures { MatchOption result (left L.grammar (innermost L.view stack.now) ≡ []) (λ x. left L.grammar (innermost L.view stack.now) ≡ x ∷ behind L.grammar (innermost L.view stack.now)) }
 {
-    let place = stack.top.count.min(stack.values.len());
-    L::symbol_at(stack.top.production, place)
+    L::symbol_at(stack.top.production, done(&stack.top, &stack.values))
+}
+
+/// How many symbols of the innermost production have their values.
+fn done<P, V>(top: &Frame<P>, values: &Vec<V>) -> usize
+    ensures { result ≡ min top.now.count (length values.now.items) }
+{
+    top.count.min(values.len())
 }
 
 /// Gives a value to the innermost production.
@@ -59,15 +65,10 @@ pub fn push_value<L: Language>(
 ) -> Result<(), AllocError>
     ensures { OnOk result (items L.view stack.new ≡ with_value (innermost L.view stack.old) (L.view value) ∷ around L.view stack.old) }
 {
+    let count = done(&stack.top, &stack.values);
     stack.values.push(value)?;
-    stack.top.count = one_more(stack.top.count)?;
+    stack.top.count = count + 1;
     Ok(())
-}
-
-fn one_more(count: usize) -> Result<usize, AllocError>
-    ensures { IfOk result (λ n. n ≡ suc count) }
-{
-    count.checked_add(1).ok_or(AllocError)
 }
 
 /// Opens a production.

@@ -1,4 +1,4 @@
--- The rows of the tables in code are those of the grammar.
+-- The rows of the tables in code are those of the grammar. tools/grammar_tables.py writes it from outline.grammar.
 use Rattle.std.proofs.Common.{◌≡◌, refl, true}
 use Rattle.std.specs.Prelude.{nat_lt, length, slice_get, Some}
 use denote.Enum.Declared.{tag_of}

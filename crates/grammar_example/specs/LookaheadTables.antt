@@ -1,4 +1,4 @@
--- FIRST and FOLLOW of each nonterminal, and the other tables that show the grammar sound.
+-- FIRST and FOLLOW of each nonterminal, and the other tables that show the grammar sound. tools/grammar_tables.py writes it from outline.grammar.
 use Rattle.std.specs.Prelude.{ℕ, Bool, true, false, List, [], ◌∷◌}
 use Rattle.grammar.specs.Certificate.{Nullable, Never, Before, Always}
 use Rattle.grammar_example.specs.declared.table.Terminal.{Terminal}

@@ -1,5 +1,5 @@
 -- Outlines: their grammar, what their productions make, and their limits.
-use Rattle.std.specs.Prelude.{ℕ, suc, ◌-◌, nat_lt, pos, if◌then◌else◌, Some, None, List, [], ◌∷◌, ◌++◌}
+use Rattle.std.specs.Prelude.{ℕ, ◌-◌, nat_lt, pos, if◌then◌else◌, Some, None, List, [], ◌∷◌, ◌++◌}
 use denote.Enum.Bare.{sameb}
 use Rattle.ground.specs.declared.token.Token.{Token}
 use Rattle.ground.specs.declared.token.TokenKind.{TokenKind}
@@ -8,7 +8,7 @@ use Rattle.ground.specs.declared.token.Sign.TheVariants as signs
 use Rattle.grammar.specs.declared.language.Event.{Event}
 use Rattle.grammar.specs.declared.language.Event.TheVariants.{Open, Take, Close}
 use Rattle.grammar.specs.Grammar.{Grammar}
-use Rattle.grammar.specs.Limits.{Meter}
+use Rattle.grammar.specs.Limits.{Meter, more}
 use Rattle.grammar.specs.Certificate.{Certificate}
 use Rattle.grammar_example.specs.declared.table.Terminal.{Terminal}
 use Rattle.grammar_example.specs.declared.table.Terminal.TheVariants as terminals
@@ -73,11 +73,11 @@ grammar = grammar_with token_text written
 
 -- Braces and choices nest at most three deep, and there are at most five names.
 abbrev pub next : Event Terminal Production → Counts → Counts
-next (Open productions.Braces) m = record m { nesting = suc m.nesting }
-next (Open productions.Choice) m = record m { nesting = suc m.nesting }
+next (Open productions.Braces) m = record m { nesting = more m.nesting }
+next (Open productions.Choice) m = record m { nesting = more m.nesting }
 next (Close productions.Braces) m = record m { nesting = m.nesting - 1 }
 next (Close productions.Choice) m = record m { nesting = m.nesting - 1 }
-next (Take terminals.Name) m = record m { names = suc m.names }
+next (Take terminals.Name) m = record m { names = more m.names }
 next _ m = m
 
 abbrev pub meter : Meter Terminal Production Counts

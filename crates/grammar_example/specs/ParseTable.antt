@@ -1,4 +1,4 @@
--- The parse table: the production of each nonterminal at each terminal.
+-- The parse table: the production of each nonterminal at each terminal. tools/grammar_tables.py writes it from outline.grammar.
 use Rattle.std.specs.Prelude.{ℕ, Option, Some, None, List, [], ◌∷◌, map}
 use denote.Enum.Bare.{sameb}
 use Rattle.grammar.specs.Rows.{found, flat, starts_of}

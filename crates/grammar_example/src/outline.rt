@@ -1,6 +1,6 @@
 // Outlines as a language of the parsing machine.
 
-ghost use Rattle.std.specs.Prelude.{◌≡◌, ◌++◌, [], suc, IfOk, OnOk};
+ghost use Rattle.std.specs.Prelude.{◌≡◌, ◌++◌, [], IfOk, OnOk};
 ghost use Rattle.grammar.specs.Grammar.{EndsWith};
 ghost use Rattle.grammar.specs.Answers.{Answers};
 ghost use Rattle.grammar_example.specs.Outline.{grammar as outlines, text_of, token_text, meter, certificate, seen, joined, written};
@@ -9,7 +9,7 @@ ghost use Rattle.grammar.specs.Stack.{piled};
 use crate::parse_table::predict;
 use crate::symbols::symbol_at;
 use crate::table::{Nonterminal, Production, Terminal};
-use grammar::{Event, Language, Symbol};
+use grammar::{Event, Language, Symbol, one_more};
 use ground::{Refusal, Sign, Text, Token, TokenKind};
 use std::alloc::{AllocError, Global};
 
@@ -136,8 +136,8 @@ impl Language for Outline {
         }
     }
 
-    fn next_meters(meters: Counts, event: Event<Terminal, Production>) -> Result<Counts, AllocError>
-        ensures { IfOk result (λ m. m ≡ meter.next event meters) }
+    fn next_meters(meters: Counts, event: Event<Terminal, Production>) -> Counts
+        ensures { result ≡ meter.next event meters }
     {
         counted(meters, event)
     }
@@ -153,30 +153,24 @@ impl Language for Outline {
     }
 }
 
-fn one_more(count: u64) -> Result<u64, AllocError>
-    ensures { IfOk result (λ n. n ≡ suc count) }
-{
-    count.checked_add(1).ok_or(AllocError)
-}
-
-fn counted(meters: Counts, event: Event<Terminal, Production>) -> Result<Counts, AllocError>
-    ensures { IfOk result (λ m. m ≡ meter.next event meters) }
+fn counted(meters: Counts, event: Event<Terminal, Production>) -> Counts
+    ensures { result ≡ meter.next event meters }
 {
     let Counts { nesting, names } = meters;
     match event {
-        Event::Open(Production::Braces) | Event::Open(Production::Choice) => {
-            let nesting = one_more(nesting)?;
-            Ok(Counts { nesting, names })
-        }
-        Event::Close(Production::Braces) | Event::Close(Production::Choice) => {
-            let nesting = nesting.saturating_sub(1);
-            Ok(Counts { nesting, names })
-        }
-        Event::Take(Terminal::Name) => {
-            let names = one_more(names)?;
-            Ok(Counts { nesting, names })
-        }
-        _ => Ok(meters),
+        Event::Open(Production::Braces) | Event::Open(Production::Choice) => Counts {
+            nesting: one_more(nesting),
+            names,
+        },
+        Event::Close(Production::Braces) | Event::Close(Production::Choice) => Counts {
+            nesting: nesting.saturating_sub(1),
+            names,
+        },
+        Event::Take(Terminal::Name) => Counts {
+            nesting,
+            names: one_more(names),
+        },
+        _ => meters,
     }
 }
 

@@ -1,4 +1,4 @@
-// The symbols of each production.
+// The symbols of each production. tools/grammar_tables.py writes it from outline.grammar.
 
 ghost use Rattle.std.specs.Prelude.{◌≡◌, slice_get};
 ghost use Rattle.grammar_example.specs.Table.{symbols, all_symbols, symbol_starts};

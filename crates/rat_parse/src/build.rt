@@ -5,12 +5,12 @@ ghost use Rattle.rat_parse.specs.Build.{build as built};
 ghost use Rattle.rat_parse_expressions.specs.Phrases.{integer as integer_seen, truth as truth_seen, letter as letter_seen};
 
 use crate::empty;
-use rat_parse_values::{Value, pop_value, skip};
+use rat_parse_control::{control, units};
 use rat_parse_expressions::expressions::{integer, letter, truth};
 use rat_parse_expressions::{expressions, formats, transfers};
 use rat_parse_plain::{declarations, plain};
-use rat_parse_control::{control, units};
 use rat_parse_table::Production;
+use rat_parse_values::{Value, pop_value, skip};
 use std::alloc::{AllocError, Global};
 
 /// What a production makes of its parts. It takes those that it needs.

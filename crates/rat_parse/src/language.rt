@@ -8,18 +8,18 @@ ghost use Rattle.rat_tree.specs.Views.{program_of};
 ghost use Rattle.rat_parse_values.specs.Values.{value};
 ghost use Rattle.rat_parse_values.specs.Parts.{as_program};
 ghost use Rattle.rat_parse.specs.Build.{build as built};
-ghost use Rattle.rat_parse_table.specs.Limits.{meter, next};
+ghost use Rattle.rat_parse_table.specs.Limits.{meter};
 ghost use Rattle.rat_parse_table.specs.Ratfor.{certificate};
 ghost use Rattle.rat_parse.specs.Ratfor.{grammar as ratfor, whole};
 
 use crate::build;
 use grammar::{Event, Language, Symbol};
 use ground::{List, Refusal, Token};
-use rat_parse_values::{NOWHERE, UnitValue, Value};
 use rat_parse_table::{
     Counts, Nonterminal, Production, Terminal, first_counts, next_counts, passed, predict,
     symbol_at, terminal_at,
 };
+use rat_parse_values::{NOWHERE, UnitValue, Value};
 use rat_tree::RatProgram;
 use std::alloc::{AllocError, Global};
 
@@ -90,8 +90,8 @@ impl Language for Ratfor {
         first_counts()
     }
 
-    fn next_meters(meters: Counts, event: Event<Terminal, Production>) -> Result<Counts, AllocError>
-        ensures { IfOk result (λ m. m ≡ meter.next event meters) }
+    fn next_meters(meters: Counts, event: Event<Terminal, Production>) -> Counts
+        ensures { result ≡ meter.next event meters }
     {
         next_counts(meters, event)
     }

@@ -4,5 +4,7 @@
 mod build;
 mod empty;
 mod language;
+mod laws;
 
 pub use language::{Ratfor, parse};
+pub use laws::one_tree;

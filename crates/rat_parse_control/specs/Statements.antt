@@ -32,17 +32,23 @@ labelled_value n v = v
 abbrev pub left : Val → Place → ℕ → Command
 left v p n = if is_word (codes "NEXT") v then Next p n else Break p n
 
+abbrev pub declares_at : Place → TypeWord → Val → Command
+declares_at p t v = Plain None p (Typed t (as_declareds v))
+
 abbrev pub declares : Val → Val → Command
-declares w v = Plain None (place_in w) (Typed (type_word w) (as_declareds v))
+declares w v = declares_at (place_in w) (type_word w) v
 
 abbrev pub typed : TypeWord → Header → Header
 typed t (FuncUnit o x xs) = FuncUnit (Some t) x xs
 typed t h = h
 
 -- a unit that begins with a type: a function, or a main
+abbrev pub typed_from : Place → TypeWord → Val → Commands → RatRoutine
+typed_from q t (val.unit (part.heading p h)) body = record { header = typed t h; body = body; place = q }
+typed_from q t v body = record { header = MainUnit; body = AndCommand (declares_at q t v) body; place = q }
+
 abbrev pub typed_unit : Val → Val → Commands → RatRoutine
-typed_unit w (val.unit (part.heading p h)) body = record { header = typed (type_word w) h; body = body; place = place_in w }
-typed_unit w v body = record { header = MainUnit; body = AndCommand (declares w v) body; place = place_in w }
+typed_unit w v body = typed_from (place_in w) (type_word w) v body
 
 abbrev pub main : Place → Commands → RatRoutine
 main p body = record { header = MainUnit; body = body; place = p }

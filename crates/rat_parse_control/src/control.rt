@@ -7,12 +7,12 @@ ghost use Rattle.rat_tree.specs.Views.{command_of, command as command_seen, comm
 ghost use Rattle.rat_parse_values.specs.Values.{value, values, at, command, commands, clause as clause_val, clauses, located, range_of};
 ghost use Rattle.rat_parse_values.specs.Parts.{place_in, name_in, number_in, as_formula, as_exprs, as_command, as_statements, as_clauses, as_act, as_range, act_part, formula_part, count_or_one, with_clause};
 ghost use Rattle.rat_parse_control.specs.Choices.{command_if_any, boxed_command, chosen};
-ghost use Rattle.rat_parse_control.specs.Statements.{placed, conditional, repetition, with_own_label, labelled_value, left, declares};
+ghost use Rattle.rat_parse_control.specs.Statements.{placed, conditional, repetition, with_own_label, labelled_value, left, declares, declares_at};
 
 use crate::lists::{
     into_statement, more_clauses, more_statements, ordered_clauses, ordered_statements,
 };
-use f66_tree::{Expr, Name, StmtKind};
+use f66_tree::{Expr, Name, StmtKind, TypeWord};
 use ground::{List, Place};
 use rat_parse_values::{
     ExpressionValue, Range, StatementValue, Value, into_act, into_act_if_any, into_expr,
@@ -173,19 +173,15 @@ pub fn while_by(alloc: Global, parts: &mut Vec<Value>) -> Result<Value, AllocErr
 pub fn for_by(alloc: Global, parts: &mut Vec<Value>) -> Result<Value, AllocError>
     ensures { IfOk result (λ v. value v ≡ placed (place_in (at 8 (values parts.old.items))) (λ p. For p (act_part (at 6 (values parts.old.items))) (formula_part (at 4 (values parts.old.items))) (act_part (at 2 (values parts.old.items))) (as_command (at 0 (values parts.old.items))))) }
 {
-    let body = pop_value(parts);
+    let body = boxed(alloc, pop_value(parts))?;
     skip(parts);
-    let step = pop_value(parts);
+    let step = into_act_if_any(pop_value(parts));
     skip(parts);
-    let test = pop_value(parts);
+    let test = into_expr_if_any(pop_value(parts));
     skip(parts);
-    let first = pop_value(parts);
+    let first = into_act_if_any(pop_value(parts));
     skip(parts);
     let place = take_place(pop_value(parts));
-    let body = boxed(alloc, body)?;
-    let first = into_act_if_any(first);
-    let test = into_expr_if_any(test);
-    let step = into_act_if_any(step);
     stated(alloc, place, RatKind::For(first, test, step, body))
 }
 
@@ -215,12 +211,10 @@ pub fn do_by(alloc: Global, parts: &mut Vec<Value>) -> Result<Value, AllocError>
     ensures { IfOk result (λ v. value v ≡ placed (place_in (at 4 (values parts.old.items))) (λ p. Do p (name_in (at 3 (values parts.old.items))) (as_range (at 1 (values parts.old.items))).first (as_range (at 1 (values parts.old.items))).last (as_range (at 1 (values parts.old.items))).step (as_command (at 0 (values parts.old.items))))) }
 {
     let body = boxed(alloc, pop_value(parts))?;
-    let range = pop_value(parts);
+    let range = into_range(pop_value(parts));
     skip(parts);
-    let variable = pop_value(parts);
+    let variable = into_name(alloc, pop_value(parts));
     let place = take_place(pop_value(parts));
-    let variable = into_name(alloc, variable);
-    let range = into_range(range);
     count(alloc, place, variable, range, body)
 }
 
@@ -228,14 +222,13 @@ pub fn switch_by(alloc: Global, parts: &mut Vec<Value>) -> Result<Value, AllocEr
     ensures { IfOk result (λ v. value v ≡ placed (place_in (at 6 (values parts.old.items))) (λ p. Switch p (as_formula (at 5 (values parts.old.items))) (as_clauses (at 1 (values parts.old.items))))) }
 {
     skip(parts);
-    let clauses = pop_value(parts);
+    let clauses = ordered_clauses(alloc, pop_value(parts));
     skip(parts);
     skip(parts);
     skip(parts);
     let test = into_expr(pop_value(parts));
-    let word = take_place(pop_value(parts));
-    let clauses = ordered_clauses(alloc, clauses);
-    switch(alloc, word, test, clauses)
+    let place = take_place(pop_value(parts));
+    switch(alloc, place, test, clauses)
 }
 
 fn leave(alloc: Global, word: &Value, place: Place, count: u32) -> Result<Value, AllocError>
@@ -286,15 +279,15 @@ pub fn until_by(parts: &mut Vec<Value>) -> Result<Value, AllocError>
 }
 
 /// A statement that declares names, without a label.
-pub fn declare(alloc: Global, word: &Value, list: Value) -> RatStmt
-    ensures command { command_seen result ≡ declares (value word.now) (value list) }
-    ensures place { result.place ≡ place_in (value word.now) }
+pub fn declared_at(alloc: Global, place: Place, word: TypeWord, list: Value) -> RatStmt
+    ensures command { command_seen result ≡ declares_at place word (value list) }
+    ensures place { result.place ≡ place }
 {
     let list = ordered_declareds(alloc, list);
     RatStmt {
         label: None,
-        place: place_of(word),
-        kind: RatKind::Plain(StmtKind::Typed(type_of(word), list)),
+        place,
+        kind: RatKind::Plain(StmtKind::Typed(word, list)),
     }
 }
 
@@ -302,9 +295,12 @@ pub fn typed_by(alloc: Global, parts: &mut Vec<Value>) -> Result<Value, AllocErr
     ensures { IfOk result (λ v. value v ≡ command (place_in (at 2 (values parts.old.items))) (declares (at 2 (values parts.old.items)) (at 1 (values parts.old.items)))) }
 {
     skip(parts);
-    let second = pop_value(parts);
+    let list = pop_value(parts);
     let third = pop_value(parts);
-    let statement = Box::new(alloc, declare(alloc, &third, second))?;
+    let place = place_of(&third);
+    let word = type_of(&third);
+    drop(third);
+    let statement = Box::new(alloc, declared_at(alloc, place, word, list))?;
     Ok(Value::Statement(StatementValue::Statement(statement)))
 }
 
@@ -351,11 +347,10 @@ pub fn case_by(alloc: Global, parts: &mut Vec<Value>) -> Result<Value, AllocErro
 pub fn default_by(alloc: Global, parts: &mut Vec<Value>) -> Result<Value, AllocError>
     ensures { IfOk result (λ v. value v ≡ clause_val (AndClause NoFormula true (as_statements (at 0 (values parts.old.items))) (place_in (at 2 (values parts.old.items))))) }
 {
-    let body = pop_value(parts);
+    let body = ordered_statements(alloc, pop_value(parts));
     skip(parts);
-    let word = take_place(pop_value(parts));
-    let body = ordered_statements(alloc, body);
-    Ok(clause(Vec::new(alloc), true, body, word))
+    let place = take_place(pop_value(parts));
+    Ok(clause(Vec::new(alloc), true, body, place))
 }
 
 pub fn more_clauses_by(alloc: Global, parts: &mut Vec<Value>) -> Result<Value, AllocError>

@@ -6,9 +6,9 @@ ghost use Rattle.rat_tree.specs.Syntax.{NoCommand, AndCommand};
 ghost use Rattle.rat_tree.specs.Views.{command as command_seen, commands as commands_of};
 ghost use Rattle.rat_parse_values.specs.Values.{value, values, at, routine, routines, program, heading};
 ghost use Rattle.rat_parse_values.specs.Parts.{place_in, name_in, number_in, as_command, as_statements, as_names, as_header, as_units, with_routine};
-ghost use Rattle.rat_parse_control.specs.Statements.{labelled_value, typed, typed_unit as typed_routine, main as main_unit};
+ghost use Rattle.rat_parse_control.specs.Statements.{labelled_value, typed, typed_from, typed_unit as typed_routine, main as main_unit};
 
-use crate::control::{declare, mark_value};
+use crate::control::{declared_at, mark_value};
 use crate::lists::{
     into_header, into_statement, more_statements, more_units, ordered_statements, ordered_units,
 };
@@ -58,29 +58,54 @@ fn with_type(word: TypeWord, header: Header) -> Header
     }
 }
 
+// A main whose first statement stands before these.
+fn main_before(
+    alloc: Global,
+    place: Place,
+    first: RatStmt,
+    mut body: List<RatStmt>,
+) -> Result<Value, AllocError>
+    ensures { IfOk result (λ v. value v ≡ routine (main_unit place (AndCommand (command_seen first) (commands_of body.items)))) }
+{
+    body.insert(0, first)?;
+    unit(alloc, Header::Main, body, place)
+}
+
+fn typed_start(
+    alloc: Global,
+    place: Place,
+    word: TypeWord,
+    start: Value,
+    body: List<RatStmt>,
+) -> Result<Value, AllocError>
+    ensures { IfOk result (λ v. value v ≡ routine (typed_from place word (value start) (commands_of body.items))) }
+{
+    match start {
+        Value::Unit(UnitValue::Header(_, header)) => unit(
+            alloc,
+            with_type(word, header),
+            body,
+            place,
+        ),
+        other => main_before(alloc, place, declared_at(alloc, place, word, other), body),
+    }
+}
+
 fn typed_unit(alloc: Global, word: Value, start: Value, body: Value) -> Result<Value, AllocError>
     ensures { IfOk result (λ v. value v ≡ routine (typed_routine (value word) (value start) (as_statements (value body)))) }
 {
-    match start {
-        Value::Unit(UnitValue::Header(_, header)) => {
-            let body = ordered_statements(alloc, body);
-            let header = with_type(type_of(&word), header);
-            unit(alloc, header, body, place_of(&word))
-        }
-        other => {
-            let first = declare(alloc, &word, other);
-            main_with(alloc, place_of(&word), first, body)
-        }
-    }
+    let place = place_of(&word);
+    let type_word = type_of(&word);
+    drop(word);
+    let body = ordered_statements(alloc, body);
+    typed_start(alloc, place, type_word, start, body)
 }
 
 pub fn program_by(alloc: Global, parts: &mut Vec<Value>) -> Result<Value, AllocError>
     ensures { IfOk result (λ v. value v ≡ program (record { routines = as_units (at 1 (values parts.old.items)); finish = place_in (at 0 (values parts.old.items)) })) }
 {
-    let last = take_place(pop_value(parts));
-    let second = ordered_units(alloc, pop_value(parts));
-    let units = second;
-    let finish = last;
+    let finish = take_place(pop_value(parts));
+    let units = ordered_units(alloc, pop_value(parts));
     Ok(Value::Unit(UnitValue::Program(RatProgram { units, finish })))
 }
 
@@ -95,12 +120,11 @@ pub fn more_units_by(alloc: Global, parts: &mut Vec<Value>) -> Result<Value, All
 pub fn headed_by(alloc: Global, parts: &mut Vec<Value>) -> Result<Value, AllocError>
     ensures { IfOk result (λ v. value v ≡ routine (record { header = as_header (at 2 (values parts.old.items)); body = as_statements (at 0 (values parts.old.items)); place = place_in (at 2 (values parts.old.items)) })) }
 {
-    let last = ordered_statements(alloc, pop_value(parts));
+    let body = ordered_statements(alloc, pop_value(parts));
     skip(parts);
-    let third = pop_value(parts);
-    let body = last;
-    let place = place_of(&third);
-    unit(alloc, into_header(third), body, place)
+    let header = pop_value(parts);
+    let place = place_of(&header);
+    unit(alloc, into_header(header), body, place)
 }
 
 pub fn typed_unit_by(alloc: Global, parts: &mut Vec<Value>) -> Result<Value, AllocError>
@@ -151,23 +175,19 @@ pub fn empty_main_by(alloc: Global, parts: &mut Vec<Value>) -> Result<Value, All
 pub fn subroutine_by(alloc: Global, parts: &mut Vec<Value>) -> Result<Value, AllocError>
     ensures { IfOk result (λ v. value v ≡ heading (place_in (at 2 (values parts.old.items))) (SubUnit (name_in (at 1 (values parts.old.items))) (as_names (at 0 (values parts.old.items))))) }
 {
-    let last = ordered_names(alloc, pop_value(parts));
-    let second = into_name(alloc, pop_value(parts));
-    let third = take_place(pop_value(parts));
-    let name = second;
-    let formals = last;
-    Ok(Value::Unit(UnitValue::Header(third, Header::Sub(name, formals))))
+    let formals = ordered_names(alloc, pop_value(parts));
+    let name = into_name(alloc, pop_value(parts));
+    let place = take_place(pop_value(parts));
+    Ok(Value::Unit(UnitValue::Header(place, Header::Sub(name, formals))))
 }
 
 pub fn function_by(alloc: Global, parts: &mut Vec<Value>) -> Result<Value, AllocError>
     ensures { IfOk result (λ v. value v ≡ heading (place_in (at 2 (values parts.old.items))) (FuncUnit None (name_in (at 1 (values parts.old.items))) (as_names (at 0 (values parts.old.items))))) }
 {
-    let last = ordered_names(alloc, pop_value(parts));
-    let second = into_name(alloc, pop_value(parts));
-    let third = take_place(pop_value(parts));
-    let name = second;
-    let formals = last;
-    Ok(Value::Unit(UnitValue::Header(third, Header::Func(None, name, formals))))
+    let formals = ordered_names(alloc, pop_value(parts));
+    let name = into_name(alloc, pop_value(parts));
+    let place = take_place(pop_value(parts));
+    Ok(Value::Unit(UnitValue::Header(place, Header::Func(None, name, formals))))
 }
 
 pub fn block_by(parts: &mut Vec<Value>) -> Result<Value, AllocError>

@@ -1,14 +1,16 @@
 // What the productions of specifications, DATA and lists of names make.
 ghost use Rattle.std.specs.Prelude.{◌≡◌, ◌∷◌, [], Some, None, true, false, pos, map, IfOk};
 ghost use Rattle.f66_tree.specs.Syntax.{Constant, Named};
+ghost use Rattle.f66_tree.specs.Views.{formula_of, initial_of};
 ghost use Rattle.rat_parse_values.specs.Values.{value, values, at, declared, declareds, par, pars, range, area, areas, formulas, groups, preset, presets, datum, data_values, names, numbers};
 ghost use Rattle.rat_parse_values.specs.Parts.{as_formula, as_exprs, as_par, as_pars, as_declareds, as_areas, as_groups, as_presets, as_data, as_names, as_numbers, with_declared, with_area, with_preset, with_datum, name_in, name_if_any, integer_in, number_in, step_or_one};
-ghost use Rattle.rat_parse_plain.specs.Plain.{counted};
+ghost use Rattle.rat_parse_plain.specs.Plain.{counted, counted_with};
 
 use crate::lists::{
     more_areas, more_data, more_declareds, more_groups, more_presets, ordered_data,
 };
 use f66_tree::{Area, Declared, Expr, Par, PresetPart};
+use ground::List;
 use rat_parse_values::{
     DeclarationValue, ExpressionValue, ParameterValue, Range, Value, integer_of, into_expr,
     into_name, into_name_if_any, into_par, into_step, more_exprs, more_names, more_numbers,
@@ -20,10 +22,8 @@ use std::alloc::{AllocError, Global};
 pub fn declared_by(alloc: Global, parts: &mut Vec<Value>) -> Result<Value, AllocError>
     ensures { IfOk result (λ v. value v ≡ declared (record { name = name_in (at 1 (values parts.old.items)); sizes = as_pars (at 0 (values parts.old.items)) })) }
 {
-    let last = ordered_pars(alloc, pop_value(parts));
-    let second = into_name(alloc, pop_value(parts));
-    let name = second;
-    let sizes = last;
+    let sizes = ordered_pars(alloc, pop_value(parts));
+    let name = into_name(alloc, pop_value(parts));
     Ok(Value::Declaration(DeclarationValue::Declared(Declared { name, sizes })))
 }
 
@@ -85,11 +85,9 @@ pub fn blank_area_by(alloc: Global, parts: &mut Vec<Value>) -> Result<Value, All
 pub fn area_by(alloc: Global, parts: &mut Vec<Value>) -> Result<Value, AllocError>
     ensures { IfOk result (λ v. value v ≡ area (record { name = name_if_any (at 2 (values parts.old.items)); list = as_declareds (at 0 (values parts.old.items)) })) }
 {
-    let last = ordered_declareds(alloc, pop_value(parts));
+    let list = ordered_declareds(alloc, pop_value(parts));
     skip(parts);
-    let third = into_name_if_any(alloc, pop_value(parts));
-    let name = third;
-    let list = last;
+    let name = into_name_if_any(alloc, pop_value(parts));
     Ok(Value::Declaration(DeclarationValue::Area(Area { name, list })))
 }
 
@@ -107,10 +105,10 @@ pub fn alias_by(alloc: Global, parts: &mut Vec<Value>) -> Result<Value, AllocErr
     skip(parts);
     let rest = pop_value(parts);
     let second = pop_value(parts);
-    skip(parts);
-    let first = into_expr(pop_value(parts));
     let rest = more_exprs(alloc, second, rest)?;
-    more_exprs(alloc, Value::Expression(ExpressionValue::Expr(first)), rest)
+    skip(parts);
+    let first = pop_value(parts);
+    more_exprs(alloc, first, rest)
 }
 
 pub fn more_groups_by(alloc: Global, parts: &mut Vec<Value>) -> Result<Value, AllocError>
@@ -121,19 +119,33 @@ pub fn more_groups_by(alloc: Global, parts: &mut Vec<Value>) -> Result<Value, Al
     more_groups(alloc, second, last)
 }
 
+// The places of a DATA, a first one and others, in order.
+fn places_of(alloc: Global, first: Value, rest: Value) -> Result<List<Expr>, AllocError>
+    ensures { IfOk result (λ list. map formula_of list.items ≡ as_formula (value first) ∷ as_exprs (value rest)) }
+{
+    let places = more_exprs(alloc, first, rest)?;
+    Ok(ordered_exprs(alloc, places))
+}
+
+// Its constants with their counts, in order.
+fn constants_of(alloc: Global, first: Value, rest: Value) -> Result<List<(u32, Expr)>, AllocError>
+    ensures { IfOk result (λ list. map initial_of list.items ≡ with_datum (value first) (as_data (value rest))) }
+{
+    let data = more_data(alloc, first, rest)?;
+    Ok(ordered_data(alloc, data))
+}
+
 pub fn preset_by(alloc: Global, parts: &mut Vec<Value>) -> Result<Value, AllocError>
     ensures { IfOk result (λ v. value v ≡ preset (record { places = as_formula (at 5 (values parts.old.items)) ∷ as_exprs (at 4 (values parts.old.items)); values = with_datum (at 2 (values parts.old.items)) (as_data (at 1 (values parts.old.items))) })) }
 {
     skip(parts);
     let data = pop_value(parts);
     let datum = pop_value(parts);
+    let values = constants_of(alloc, datum, data)?;
     skip(parts);
     let places = pop_value(parts);
     let place = pop_value(parts);
-    let places = more_exprs(alloc, place, places)?;
-    let places = ordered_exprs(alloc, places);
-    let data = more_data(alloc, datum, data)?;
-    let values = ordered_data(alloc, data);
+    let places = places_of(alloc, place, places)?;
     Ok(Value::Declaration(DeclarationValue::Preset(PresetPart { places, values })))
 }
 
@@ -145,19 +157,27 @@ pub fn more_presets_by(alloc: Global, parts: &mut Vec<Value>) -> Result<Value, A
     more_presets(alloc, second, last)
 }
 
-fn count(number: Value, part: Value) -> Value
-    ensures { value result ≡ counted (value number) (value part) }
+fn datum_of(times: u32, integer: i64, part: Value) -> Value
+    ensures { value result ≡ counted_with times integer (value part) }
 {
     match part {
         Value::Expression(ExpressionValue::Expr(e)) => Value::Declaration(DeclarationValue::Datum(
-            number_of(&number),
-            e,
+            times, e,
         )),
         other => {
             drop(other);
-            Value::Declaration(DeclarationValue::Datum(1, Expr::Int(integer_of(&number))))
+            Value::Declaration(DeclarationValue::Datum(1, Expr::Int(integer)))
         }
     }
+}
+
+fn count(number: Value, part: Value) -> Value
+    ensures { value result ≡ counted (value number) (value part) }
+{
+    let times = number_of(&number);
+    let integer = integer_of(&number);
+    drop(number);
+    datum_of(times, integer, part)
 }
 
 pub fn number_datum_by(parts: &mut Vec<Value>) -> Result<Value, AllocError>

@@ -60,14 +60,13 @@ fn transfer(word: &Value, unit: Par, format: u32, list: List<Entry>) -> StmtKind
 pub fn transfer_by(alloc: Global, parts: &mut Vec<Value>) -> Result<Value, AllocError>
     ensures { IfOk result (λ v. value v ≡ deed_val (place_in (at 6 (values parts.old.items))) (transferred (at 6 (values parts.old.items)) (as_par (at 4 (values parts.old.items))) (number_in (at 2 (values parts.old.items))) (listed (as_entries (at 0 (values parts.old.items)))))) }
 {
-    let list = pop_value(parts);
+    let list = ordered_entries(alloc, pop_value(parts));
     skip(parts);
     let format = take_number(pop_value(parts));
     skip(parts);
     let unit = into_par(pop_value(parts));
     skip(parts);
     let word = pop_value(parts);
-    let list = ordered_entries(alloc, list);
     let kind = transfer(&word, unit, format, list);
     let place = place_of(&word);
     drop(word);
@@ -78,53 +77,51 @@ pub fn format_by(alloc: Global, parts: &mut Vec<Value>) -> Result<Value, AllocEr
     ensures { IfOk result (λ v. value v ≡ deed_val (place_in (at 3 (values parts.old.items))) (Format (as_fields (at 1 (values parts.old.items))))) }
 {
     skip(parts);
-    let second = ordered_fields(alloc, pop_value(parts));
+    let fields = ordered_fields(alloc, pop_value(parts));
     skip(parts);
-    let fourth = take_place(pop_value(parts));
-    let fields = second;
-    deed(alloc, fourth, StmtKind::Format(fields))
+    let place = take_place(pop_value(parts));
+    deed(alloc, place, StmtKind::Format(fields))
 }
 
 pub fn dimension_by(alloc: Global, parts: &mut Vec<Value>) -> Result<Value, AllocError>
     ensures { IfOk result (λ v. value v ≡ deed_val (place_in (at 1 (values parts.old.items))) (Dimension (as_declareds (at 0 (values parts.old.items))))) }
 {
-    let last = ordered_declareds(alloc, pop_value(parts));
-    let second = take_place(pop_value(parts));
-    let list = last;
-    deed(alloc, second, StmtKind::Dimension(list))
+    let list = ordered_declareds(alloc, pop_value(parts));
+    let place = take_place(pop_value(parts));
+    deed(alloc, place, StmtKind::Dimension(list))
 }
 
 pub fn common_by(alloc: Global, parts: &mut Vec<Value>) -> Result<Value, AllocError>
     ensures { IfOk result (λ v. value v ≡ deed_val (place_in (at 2 (values parts.old.items))) (Common (with_area (at 1 (values parts.old.items)) (as_areas (at 0 (values parts.old.items)))))) }
 {
-    let last = pop_value(parts);
-    let second = pop_value(parts);
-    let third = take_place(pop_value(parts));
-    let areas = more_areas(alloc, second, last)?;
+    let rest = pop_value(parts);
+    let first = pop_value(parts);
+    let areas = more_areas(alloc, first, rest)?;
     let list = ordered_areas(alloc, areas);
-    deed(alloc, third, StmtKind::Common(list))
+    let place = take_place(pop_value(parts));
+    deed(alloc, place, StmtKind::Common(list))
 }
 
 pub fn equivalence_by(alloc: Global, parts: &mut Vec<Value>) -> Result<Value, AllocError>
     ensures { IfOk result (λ v. value v ≡ deed_val (place_in (at 2 (values parts.old.items))) (Equivalence (as_exprs (at 1 (values parts.old.items)) ∷ as_groups (at 0 (values parts.old.items))))) }
 {
-    let last = pop_value(parts);
-    let second = pop_value(parts);
-    let third = take_place(pop_value(parts));
-    let groups = more_groups(alloc, second, last)?;
+    let rest = pop_value(parts);
+    let first = pop_value(parts);
+    let groups = more_groups(alloc, first, rest)?;
     let list = ordered_groups(alloc, groups);
-    deed(alloc, third, StmtKind::Equivalence(list))
+    let place = take_place(pop_value(parts));
+    deed(alloc, place, StmtKind::Equivalence(list))
 }
 
 pub fn data_by(alloc: Global, parts: &mut Vec<Value>) -> Result<Value, AllocError>
     ensures { IfOk result (λ v. value v ≡ deed_val (place_in (at 2 (values parts.old.items))) (Preset (with_preset (at 1 (values parts.old.items)) (as_presets (at 0 (values parts.old.items)))))) }
 {
-    let last = pop_value(parts);
-    let second = pop_value(parts);
-    let third = take_place(pop_value(parts));
-    let presets = more_presets(alloc, second, last)?;
+    let rest = pop_value(parts);
+    let first = pop_value(parts);
+    let presets = more_presets(alloc, first, rest)?;
     let list = ordered_presets(alloc, presets);
-    deed(alloc, third, StmtKind::Preset(list))
+    let place = take_place(pop_value(parts));
+    deed(alloc, place, StmtKind::Preset(list))
 }
 
 pub fn assignment_by(alloc: Global, parts: &mut Vec<Value>) -> Result<Value, AllocError>
@@ -140,12 +137,10 @@ pub fn assignment_by(alloc: Global, parts: &mut Vec<Value>) -> Result<Value, All
 pub fn invocation_by(alloc: Global, parts: &mut Vec<Value>) -> Result<Value, AllocError>
     ensures { IfOk result (λ v. value v ≡ deed_val (place_in (at 2 (values parts.old.items))) (Invoke (name_in (at 1 (values parts.old.items))) (chained (as_exprs (at 0 (values parts.old.items)))))) }
 {
-    let last = ordered_exprs(alloc, pop_value(parts));
-    let second = into_name(alloc, pop_value(parts));
-    let third = take_place(pop_value(parts));
-    let list = last;
-    let name = second;
-    deed(alloc, third, StmtKind::Invoke(name, list))
+    let list = ordered_exprs(alloc, pop_value(parts));
+    let name = into_name(alloc, pop_value(parts));
+    let place = take_place(pop_value(parts));
+    deed(alloc, place, StmtKind::Invoke(name, list))
 }
 
 pub fn one_target_by(alloc: Global, parts: &mut Vec<Value>) -> Result<Value, AllocError>

@@ -1,8 +1,8 @@
 -- What is counted against the limits: 3 nesting, 5 units, 6 tokens of a unit, 10 nodes of an expression.
-use Rattle.std.specs.Prelude.{ℕ, zero, suc, ◌-◌, Bool, true, false, ◌&&◌, nat_lt, nat_eq, Option, Some, None, if◌then◌else◌}
+use Rattle.std.specs.Prelude.{ℕ, ◌-◌, Bool, true, false, ◌&&◌, nat_lt, nat_eq, Option, Some, None, if◌then◌else◌}
 use Rattle.grammar.specs.declared.language.Event.{Event}
 use Rattle.grammar.specs.declared.language.Event.TheVariants as events
-use Rattle.grammar.specs.Limits.{Meter}
+use Rattle.grammar.specs.Limits.{Meter, more}
 use Rattle.rat_parse_table.specs.declared.counts.Counts.{Counts}
 use Rattle.rat_parse_table.specs.declared.table.Terminal.{Terminal}
 use Rattle.rat_parse_table.specs.declared.table.Terminal.TheVariants as terminals
@@ -13,7 +13,7 @@ abbrev pub first : Counts
 first = record { nesting = 0; units = 0; within = false; tokens = 0; expressions = 0; nodes = 0 }
 
 abbrev pub deeper : Counts → Counts
-deeper m = record m { nesting = suc m.nesting }
+deeper m = record m { nesting = more m.nesting }
 
 abbrev pub shallower : Counts → Counts
 shallower m = record m { nesting = m.nesting - 1 }
@@ -21,14 +21,14 @@ shallower m = record m { nesting = m.nesting - 1 }
 -- an expression begins; its nodes are counted from these where it is the outermost
 abbrev pub begun : ℕ → Counts → Counts
 begun n m =
-    if nat_eq m.expressions 0 then (record m { expressions = suc m.expressions; nodes = n }) else (record m { expressions = suc m.expressions })
+    if nat_eq m.expressions 0 then (record m { expressions = more m.expressions; nodes = n }) else (record m { expressions = more m.expressions })
 
 abbrev pub ended : Counts → Counts
 ended m = record m { expressions = m.expressions - 1 }
 
 -- Blocks, control statements and unary operators nest. An element of an implied DO begins behind its name.
 abbrev pub opened : Production → Counts → Counts
-opened productions.OneUnit m = record m { units = suc m.units; within = true }
+opened productions.OneUnit m = record m { units = more m.units; within = true }
 opened productions.Braces m = deeper m
 opened productions.IfStatement m = deeper m
 opened productions.WhileStatement m = deeper m
@@ -41,7 +41,7 @@ opened productions.SignedTerm m = deeper m
 opened productions.Expr m = begun 0 m
 opened productions.Ref m = begun 0 m
 opened productions.Element m = begun 1 m
-opened productions.GroupPrime m = record m { nodes = suc m.nodes }
+opened productions.GroupPrime m = record m { nodes = more m.nodes }
 opened _ m = m
 
 abbrev pub closed : Production → Counts → Counts
@@ -78,15 +78,15 @@ is_node terminals.Not = true
 is_node _ = false
 
 abbrev pub nodes_with : Terminal → Counts → ℕ
-nodes_with t m = if nat_lt 0 m.expressions && is_node t then suc m.nodes else m.nodes
+nodes_with t m = if nat_lt 0 m.expressions && is_node t then more m.nodes else m.nodes
 
 abbrev pub nesting_with : Terminal → ℕ → ℕ
-nesting_with terminals.Open n = suc n
+nesting_with terminals.Open n = more n
 nesting_with terminals.Close n = n - 1
 nesting_with _ n = n
 
 abbrev pub taken : Terminal → Counts → Counts
-taken t m = record m { nesting = nesting_with t m.nesting; tokens = suc m.tokens; nodes = nodes_with t m }
+taken t m = record m { nesting = nesting_with t m.nesting; tokens = more m.tokens; nodes = nodes_with t m }
 
 abbrev pub next : Event Terminal Production → Counts → Counts
 next (events.Open p) m = opened p m

@@ -1,4 +1,4 @@
--- FIRST and FOLLOW of each nonterminal, and the other tables that show the grammar sound.
+-- FIRST and FOLLOW of each nonterminal, and the other tables that show the grammar sound. tools/grammar_tables.py writes it from ratfor.grammar.
 use Rattle.std.specs.Prelude.{ℕ, Bool, true, false, List, [], ◌∷◌}
 use Rattle.grammar.specs.Certificate.{Nullable, Never, Before, Always}
 use Rattle.rat_parse_table.specs.declared.table.Terminal.{Terminal}

@@ -1,5 +1,5 @@
--- The tables are sound whatever a grammar makes of a text: each test computes to true, for each terminal, nonterminal and production.
-use Rattle.std.specs.Prelude.{◌≡◌, Bool, true, false, suc, nat_lt, List, refl}
+-- The tables are sound whatever a grammar makes of a text: each test computes to true, for each terminal, nonterminal and production. tools/grammar_tables.py writes it from ratfor.grammar.
+use Rattle.std.specs.Prelude.{◌≡◌, true, suc, nat_lt, List, refl}
 use Rattle.ground.specs.declared.token.Token.{Token}
 use Rattle.rat_parse_table.specs.declared.table.Terminal.{Terminal}
 use Rattle.rat_parse_table.specs.declared.table.Terminal.TheVariants as terminals

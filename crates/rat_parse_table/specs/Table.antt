@@ -1,4 +1,4 @@
--- The grammar as a table: the symbols of each production, and where it may stand.
+-- The grammar as a table: the symbols of each production, and where it may stand. tools/grammar_tables.py writes it from ratfor.grammar.
 use Rattle.std.specs.Prelude.{ℕ, Bool, true, false, List, [], ◌∷◌, map}
 use Rattle.grammar.specs.declared.language.Symbol.{Symbol}
 use Rattle.grammar.specs.declared.language.Symbol.TheVariants.{Terminal, Nonterminal}

@@ -1,10 +1,9 @@
 // What is counted against the limits.
-ghost use Rattle.std.specs.Prelude.{◌≡◌, suc, IfOk};
+ghost use Rattle.std.specs.Prelude.{◌≡◌};
 ghost use Rattle.rat_parse_table.specs.Limits.{next, first, passed as passed_by, opened, begun, taken, nodes_with, nesting_with, closed, is_node as node};
 
 use crate::table::{Production, Terminal};
-use grammar::Event;
-use std::alloc::AllocError;
+use grammar::{Event, one_more};
 
 /// The counts at a token.
 #[derive(Clone, Copy)]
@@ -36,51 +35,51 @@ pub fn first_counts() -> Counts
     }
 }
 
+const DEEPEST: u64 = 100;
+
+const MOST_UNITS: u64 = 500;
+
+const MOST_TOKENS: u64 = 20_000;
+
+const MOST_NODES: u64 = 1_000;
+
 /// The number of the limit that the counts pass, the smallest where they pass several.
 pub fn passed(counts: Counts) -> Option<u64>
     ensures { result ≡ passed_by counts }
 {
-    if counts.nesting > 100 {
+    if counts.nesting > DEEPEST {
         Some(3)
-    } else if counts.units > 500 {
+    } else if counts.units > MOST_UNITS {
         Some(5)
-    } else if counts.within && counts.tokens > 20_000 {
+    } else if counts.within && counts.tokens > MOST_TOKENS {
         Some(6)
-    } else if counts.nodes > 1_000 {
+    } else if counts.nodes > MOST_NODES {
         Some(10)
     } else {
         None
     }
 }
 
-pub fn next_counts(counts: Counts, event: Event<Terminal, Production>) -> Result<Counts, AllocError>
-    ensures { IfOk result (λ m. m ≡ next event counts) }
+/// The counts after an event.
+pub fn next_counts(counts: Counts, event: Event<Terminal, Production>) -> Counts
+    ensures { result ≡ next event counts }
 {
     match event {
         Event::Open(production) => open(counts, production),
         Event::Take(terminal) => take(counts, terminal),
-        Event::Close(production) => Ok(close(counts, production)),
+        Event::Close(production) => close(counts, production),
     }
 }
 
-fn one_more(count: u64) -> Result<u64, AllocError>
-    ensures { IfOk result (λ n. n ≡ suc count) }
-{
-    count.checked_add(1).ok_or(AllocError)
-}
-
-fn open(counts: Counts, production: Production) -> Result<Counts, AllocError>
-    ensures { IfOk result (λ m. m ≡ opened production counts) }
+fn open(counts: Counts, production: Production) -> Counts
+    ensures { result ≡ opened production counts }
 {
     match production {
-        Production::OneUnit => {
-            let units = one_more(counts.units)?;
-            Ok(Counts {
-                units,
-                within: true,
-                ..counts
-            })
-        }
+        Production::OneUnit => Counts {
+            units: one_more(counts.units),
+            within: true,
+            ..counts
+        },
         Production::Braces
         | Production::IfStatement
         | Production::WhileStatement
@@ -89,36 +88,36 @@ fn open(counts: Counts, production: Production) -> Result<Counts, AllocError>
         | Production::DoStatement
         | Production::SwitchStatement
         | Production::Negated
-        | Production::SignedTerm => {
-            let nesting = one_more(counts.nesting)?;
-            Ok(Counts { nesting, ..counts })
-        }
+        | Production::SignedTerm => Counts {
+            nesting: one_more(counts.nesting),
+            ..counts
+        },
         Production::Expr | Production::Ref => begin(counts, 0),
         Production::Element => begin(counts, 1),
-        Production::GroupPrime => {
-            let nodes = one_more(counts.nodes)?;
-            Ok(Counts { nodes, ..counts })
-        }
-        _ => Ok(counts),
+        Production::GroupPrime => Counts {
+            nodes: one_more(counts.nodes),
+            ..counts
+        },
+        _ => counts,
     }
 }
 
 /// An expression begins, of which some nodes were counted outside it.
-fn begin(counts: Counts, nodes: u64) -> Result<Counts, AllocError>
-    ensures { IfOk result (λ m. m ≡ begun nodes counts) }
+fn begin(counts: Counts, nodes: u64) -> Counts
+    ensures { result ≡ begun nodes counts }
 {
-    let expressions = one_more(counts.expressions)?;
+    let expressions = one_more(counts.expressions);
     if counts.expressions == 0 {
-        Ok(Counts {
+        Counts {
             expressions,
             nodes,
             ..counts
-        })
+        }
     } else {
-        Ok(Counts {
+        Counts {
             expressions,
             ..counts
-        })
+        }
     }
 }
 
@@ -175,36 +174,33 @@ fn is_node(terminal: Terminal) -> bool
     }
 }
 
-fn take(counts: Counts, terminal: Terminal) -> Result<Counts, AllocError>
-    ensures { IfOk result (λ m. m ≡ taken terminal counts) }
+fn take(counts: Counts, terminal: Terminal) -> Counts
+    ensures { result ≡ taken terminal counts }
 {
-    let tokens = one_more(counts.tokens)?;
-    let nodes = nodes_after(counts, terminal)?;
-    let nesting = nesting_after(counts.nesting, terminal)?;
-    Ok(Counts {
-        nesting,
-        tokens,
-        nodes,
+    Counts {
+        nesting: nesting_after(counts.nesting, terminal),
+        tokens: one_more(counts.tokens),
+        nodes: nodes_after(counts, terminal),
         ..counts
-    })
+    }
 }
 
-fn nodes_after(counts: Counts, terminal: Terminal) -> Result<u64, AllocError>
-    ensures { IfOk result (λ n. n ≡ nodes_with terminal counts) }
+fn nodes_after(counts: Counts, terminal: Terminal) -> u64
+    ensures { result ≡ nodes_with terminal counts }
 {
     if counts.expressions > 0 && is_node(terminal) {
         one_more(counts.nodes)
     } else {
-        Ok(counts.nodes)
+        counts.nodes
     }
 }
 
-fn nesting_after(nesting: u64, terminal: Terminal) -> Result<u64, AllocError>
-    ensures { IfOk result (λ n. n ≡ nesting_with terminal nesting) }
+fn nesting_after(nesting: u64, terminal: Terminal) -> u64
+    ensures { result ≡ nesting_with terminal nesting }
 {
     match terminal {
         Terminal::Open => one_more(nesting),
-        Terminal::Close => Ok(nesting.saturating_sub(1)),
-        _ => Ok(nesting),
+        Terminal::Close => nesting.saturating_sub(1),
+        _ => nesting,
     }
 }

@@ -1,4 +1,4 @@
-// The parse table: the production by which each nonterminal goes on at a terminal.
+// The parse table: the production by which each nonterminal goes on at a terminal. tools/grammar_tables.py writes it from ratfor.grammar.
 
 ghost use Rattle.std.specs.Prelude.{◌≡◌};
 ghost use denote.Enum.Bare.{sameb};

@@ -1,4 +1,4 @@
-// The symbols of each production.
+// The symbols of each production. tools/grammar_tables.py writes it from ratfor.grammar.
 
 ghost use Rattle.std.specs.Prelude.{◌≡◌, slice_get};
 ghost use Rattle.rat_parse_table.specs.Table.{symbols, all_symbols, symbol_starts};

@@ -1,4 +1,4 @@
-// The names of the grammar: what it sees of tokens, the parts of a text, and its productions.
+// The names of the grammar: what it sees of tokens, the parts of a text, and its productions. tools/grammar_tables.py writes it from ratfor.grammar.
 
 /// What the grammar sees of a token.
 #[derive(Clone, Copy, PartialEq, Eq)]

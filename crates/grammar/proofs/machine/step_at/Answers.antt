@@ -57,7 +57,7 @@ returns-in_ok-close-in-None-clause-steps g c =
     let old : items view stack ≡ top ∷ parent ∷ rest =
     ap (λ fs. top ∷ fs) (popped_shares stack.outer.items c.pop.new.self.items c.in-Some.next (below view stack) c.in-Some.ensures.items) in
     turn_close l g.L.Language.certificate.predict g.L.Language.meter top parent rest _ _ _ _ c.args.token.now c.in-None.ensures old
-    c.in_ok-close-in-None.ensures c.in_ok-meters-in-None.ensures
+    c.in_ok-close-in-None.ensures c.next_meters.ensures
 
 pub returns-in_ok-close-in-None-clause-linked : goal.returns-in_ok-close-in-None-clause-linked
 returns-in_ok-close-in-None-clause-linked g c h =
@@ -96,7 +96,7 @@ returns-in_ok-push_value-in-Some-Terminal-clause-steps g c =
     sym c.requires ∙ g.met.L.Language.sound.same_terminal.is _ _ (sym c.same_terminal.ensures ∙ (search rules)) in
     take_shift l g.L.Language.certificate.predict g.L.Language.meter top (around view stack) _ _ _ _ c.args.token.now c.in-Some-Terminal.terminal next same refl
     (c.in_ok-push_value-in-Some-Terminal.ensures ∙ ap (λ v. with_value top v ∷ around view stack) c.in_ok-value-in-Some-Terminal.ensures)
-    c.in_ok-meters-in-Some-Terminal.ensures
+    c.next_meters-in-Some-Terminal.ensures
 
 pub returns-in_ok-open-in-Some-Nonterminal-clause-steps : goal.returns-in_ok-open-in-Some-Nonterminal-clause-steps
 returns-in_ok-open-in-Some-Nonterminal-clause-steps g c =
@@ -108,7 +108,7 @@ returns-in_ok-open-in-Some-Nonterminal-clause-steps g c =
     let predicted : g.L.Language.certificate.predict c.in-Some-Nonterminal.nonterminal (l.terminal_of c.args.token.now) ≡ Some c.in-Some-predict.production =
     ap (g.L.Language.certificate.predict c.in-Some-Nonterminal.nonterminal) (sym c.requires) ∙ sym c.in-Some-predict.ensures in
     turn_open l g.L.Language.certificate.predict g.L.Language.meter top (around view stack) _ _ _ _ c.args.token.now c.in-Some-Nonterminal.nonterminal c.in-Some-predict.production next predicted refl
-    c.in_ok-open-in-Some-Nonterminal.ensures c.in_ok-meters-in-Some-Nonterminal.ensures
+    c.in_ok-open-in-Some-Nonterminal.ensures c.next_meters-in-Some-Nonterminal.ensures
 
 pub returns-in_ok-open-in-Some-Nonterminal-clause-linked : goal.returns-in_ok-open-in-Some-Nonterminal-clause-linked
 returns-in_ok-open-in-Some-Nonterminal-clause-linked g c h =

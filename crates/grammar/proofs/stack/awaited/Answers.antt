@@ -9,6 +9,6 @@ pub returns : goal.returns
 returns g c =
     let stack = c.args.stack.now in
     let view = g.L.Language.view in
-    let same : length (take stack.top.count (held view stack)) ≡ c.min-place.result =
-    omega (arith, length-take stack.top.count (held view stack), length-values view stack.values.items, stack.values.ok.0, c.len.ensures, c.min-place.ensures) in
+    let same : length (take stack.top.count (held view stack)) ≡ c.done.result =
+    omega (arith, length-take stack.top.count (held view stack), length-values view stack.values.items, c.done.ensures) in
     found _ _ _ _ c.symbol_at.ensures same

@@ -1,4 +1,4 @@
--- The search of an entry: what the entries still to come have is what all have.
+-- The search of an entry: what the entries still to come have is what all have. tools/grammar_tables.py writes it from outline.grammar.
 use Rattle.std.proofs.Common.{◌≡◌, drop}
 use denote.Enum.Bare.{sameb}
 use Rattle.grammar.specs.Rows.{found}

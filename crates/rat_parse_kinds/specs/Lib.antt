@@ -1,0 +1,3 @@
+-- The definitions that the contracts of rat_parse_kinds cite.
+pub mod Kinds
+pub mod Readings
