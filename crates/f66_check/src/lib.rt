@@ -8,6 +8,3 @@ mod unbuilt;
 
 pub use check::{CheckedUnit, check_unit, first_fault};
 pub use laws::{checked_runs_rightly, sound_runs_rightly};
-
-#[cfg(test)]
-mod tests;

@@ -14,6 +14,3 @@ pub use forms::{is_format, is_specification};
 pub use labels::Labels;
 pub use rows::{broken_rule, header_rule};
 pub use scope::Scope;
-
-#[cfg(test)]
-mod tests;

@@ -1,5 +1,6 @@
 -- The lemmas of f66_tree.
 pub mod Prefixes
+pub mod Agreement
 pub mod Stores
 pub mod EditingLemmas
 pub mod Unasked

@@ -14,7 +14,7 @@ pub enum Par {
 }
 
 /// A name with its dimensions, of which a variable has none.
-#[derive(Debug, Drop)]
+#[derive(Drop)]
 pub struct Declared {
     pub name: Name,
     pub sizes: List<Par>,
@@ -29,14 +29,14 @@ pub enum TypeWord {
 }
 
 /// A common block, with no name where it is blank common (X3.9-1966, section 7.2.1.3).
-#[derive(Debug, Drop)]
+#[derive(Drop)]
 pub struct Area {
     pub name: Option<Name>,
     pub list: List<Declared>,
 }
 
 /// Places and the values that DATA gives them, each value with its count (section 7.2.2).
-#[derive(Debug, Drop)]
+#[derive(Drop)]
 pub struct PresetPart {
     pub places: List<Expr>,
     pub values: List<(u32, Expr)>,

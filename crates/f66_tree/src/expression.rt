@@ -8,7 +8,7 @@ use ground::List;
 use std::alloc::{AllocError, Global};
 
 /// An expression (X3.9-1966, section 6).
-#[derive(Debug, Drop)]
+#[derive(Drop)]
 pub enum Expr {
     /// A constant of at most 2147483647.
     Int(i64),
@@ -26,7 +26,7 @@ pub enum Expr {
 }
 
 /// An operator between two operands.
-#[derive(Clone, Copy, Debug, PartialEq, Eq)]
+#[derive(Clone, Copy, PartialEq, Eq)]
 pub enum Operator {
     Add,
     Sub,

@@ -7,7 +7,7 @@ use std::alloc::{AllocError, Global};
 
 /// A field of a format (X3.9-1966, section 7.2.3). The first number is its count; a count or width that the text gives
 /// above 65,535 stands as 65,535.
-#[derive(Debug, Drop)]
+#[derive(Drop)]
 pub enum Field {
     /// `rIw`.
     Whole(u16, u16),

@@ -10,7 +10,7 @@ use ground::{List, Place};
 use std::alloc::{AllocError, Global};
 
 /// A statement of a unit. A label of zero is BadLabel, and is in no sound unit.
-#[derive(Debug, Drop)]
+#[derive(Drop)]
 pub struct Stmt {
     pub label: Option<u32>,
     pub place: Place,
@@ -18,7 +18,7 @@ pub struct Stmt {
 }
 
 /// What a statement says (X3.9-1966, section 7).
-#[derive(Debug, Drop)]
+#[derive(Drop)]
 pub enum StmtKind {
     Assign(Expr, Expr),
     Goto(u32),
@@ -47,7 +47,7 @@ pub enum StmtKind {
 }
 
 /// What READ and WRITE go over: an item, or an implied DO with its list, variable and parameters.
-#[derive(Debug, Drop)]
+#[derive(Drop)]
 pub enum Entry {
     Item(Expr),
     Many(List<Entry>, Name, Par, Par, Par),

@@ -4,7 +4,7 @@ use crate::{Name, Stmt, TypeWord};
 use ground::{List, Place};
 
 /// A program unit (X3.9-1966, section 9).
-#[derive(Debug, Drop)]
+#[derive(Drop)]
 pub struct Unit {
     pub header: Header,
     pub statements: List<Stmt>,
@@ -12,7 +12,7 @@ pub struct Unit {
 }
 
 /// The first line of a unit; a main has none.
-#[derive(Debug, Drop)]
+#[derive(Drop)]
 pub enum Header {
     Main,
     Sub(Name, List<Name>),

@@ -4,3 +4,4 @@ pub mod Answers
 pub mod OneField
 pub mod Coding
 pub mod Letters
+pub mod Laws

@@ -6,10 +6,12 @@ mod code;
 mod edit;
 mod format;
 mod input;
+mod laws;
 mod layout;
 mod output;
 mod walk;
 
 pub use edit::Edit;
 pub use format::Plan;
+pub use laws::editing_is_its_list;
 pub use layout::plan;

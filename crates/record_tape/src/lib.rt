@@ -6,8 +6,3 @@ mod tape;
 
 pub use lines::Lines;
 pub use tape::{Break, Tape};
-
-#[cfg(test)]
-mod examples;
-#[cfg(test)]
-mod tests;

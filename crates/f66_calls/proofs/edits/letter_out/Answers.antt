@@ -1,0 +1,6 @@
+-- Why `letter_out` keeps its clauses.
+use Rattle.std.proofs.Common.{rules}
+use Rattle.f66_calls.proofs.edits.letter_out.Goals as goal
+
+pub returns : goal.returns
+returns c = search rules

@@ -1,0 +1,6 @@
+-- Why `built` keeps its clauses.
+use Rattle.std.proofs.Common.{rules}
+use Rattle.f66_calls.proofs.names.built.Goals as goal
+
+pub returns : goal.returns
+returns c = search rules

@@ -1,0 +1,6 @@
+-- Why `labels_of` keeps its clauses.
+use Rattle.std.proofs.Common.{rules}
+use Rattle.f66_calls.proofs.ratfor.labels_of.Goals as goal
+
+pub returns : goal.returns
+returns c = search rules

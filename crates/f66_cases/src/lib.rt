@@ -1,0 +1,24 @@
+//! Units of FORTRAN, formats and names in rows of text, with what the checks, a run and its records make of them. The
+//! crate has tests alone.
+#![tactic(auto)]
+
+#[cfg(test)]
+mod checks;
+#[cfg(test)]
+mod flow;
+#[cfg(test)]
+mod formats;
+#[cfg(test)]
+mod names;
+#[cfg(test)]
+mod reading;
+#[cfg(test)]
+mod records;
+#[cfg(test)]
+mod runs;
+#[cfg(test)]
+mod tape;
+#[cfg(test)]
+mod units;
+#[cfg(test)]
+mod walks;
