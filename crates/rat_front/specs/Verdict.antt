@@ -1,11 +1,13 @@
--- What becomes of a text: its first fault, or a program. The phases are gather, parse and checks, and behind the checks the
--- count of main programs; the first phase with a fault decides.
+-- What becomes of a text: its first fault, or a program with a meaning. The phases are gather, parse and checks, and behind
+-- the checks the count of main programs; the first phase with a fault decides.
 use Rattle.std.specs.Prelude.{◌≡◌, ◌⊎◌, ℕ, List, [], ◌∷◌, Option, Some, None, Result, Ok, Err, slice_get, unwrap_or}
 use Rattle.ground.specs.declared.fault.Fault.{Fault}
 use Rattle.ground.specs.declared.fault.FaultKind.TheVariants.{MainCount}
 use Rattle.ground.specs.declared.place.Place.{Place}
+use Rattle.ground.specs.Faults.{fault_at}
 use Rattle.ground.specs.declared.token.Token.{Token}
 use Rattle.ground.specs.declared.token.Dialect.TheVariants.{Ratfor}
+use Rattle.f66_tree.specs.World.{Record, Shown}
 use Rattle.macro_define.specs.Answers.{Known}
 use Rattle.macro_define.specs.Expansion.{Stop, GatherState, gathered}
 use Rattle.grammar.specs.Answers.{IsFirstFault}
@@ -13,35 +15,65 @@ use Rattle.grammar.specs.Limits.{IsAccepted}
 use Rattle.rat_parse.specs.Ratfor.{grammar}
 use Rattle.rat_parse_table.specs.Limits.{meter}
 use Rattle.rat_parse_values.specs.Values.{program}
-use Rattle.rat_tree.specs.Syntax.{Commands, RatRoutine, RatProgram}
-use Rattle.rat_check.specs.FirstFault.{fault_at}
-use Rattle.rat_lower.specs.Lowered.{first_lower_fault}
+use Rattle.rat_tree.specs.Syntax.{Command, Empty, Block, If, IfElse, While, For, Repeat, RepeatUntil, Do, Switch, Break, Next, Return, Plain, Labelled, Commands, NoCommand, AndCommand, RatRoutine, RatProgram}
+use Rattle.rat_check.specs.FirstFault.{first_fault}
+use Rattle.rat_lower.specs.OneUnit.{means}
 
--- a fault with the name of the file of its place; or the statements of the one main program, and the names of the files, whose
--- numbers places have
+-- what a program does over records of input, where each loop makes at most so many turns in one entry
+abbrev pub Meaning : Type 0
+Meaning = List Record → ℕ → Shown
+
+-- a fault with the name of the file of its place; or a meaning, with the names of the files, whose numbers places have
 pub data Verdict : Type 0 where
   Refuses : Fault → List ℕ → Verdict
-  Accepts : List (List ℕ) → Commands → Verdict
+  Accepts : List (List ℕ) → Meaning → Verdict
 
 -- ---- checks ----
 
--- a fault of a tree, or the statements of its main program
+-- a fault of a tree, or what it means
 pub data Checked : Type 0 where
   Faulty : Fault → Checked
-  Main : Commands → Checked
+  Means : Meaning → Checked
 
--- there is exactly one unit; the fault of none stands at the end of the text, that of several at the second one
+-- where a statement stands: at its first token after its labels
+abbrev pub command_place : Command → Place
+command_place (Empty p) = p
+command_place (Block p ss) = p
+command_place (If p e s) = p
+command_place (IfElse p e s t) = p
+command_place (While p e s) = p
+command_place (For p first e step s) = p
+command_place (Repeat p s) = p
+command_place (RepeatUntil p s e q) = p
+command_place (Do p x a b c s) = p
+command_place (Switch p e cs) = p
+command_place (Break p k) = p
+command_place (Next p k) = p
+command_place (Return p e) = p
+command_place (Plain l p a) = p
+command_place (Labelled l p s) = p
+
+-- the first statement of a unit that stands at p; a unit without one stands at its `end`
+abbrev pub first_in : Place → Commands → Place
+first_in p NoCommand = p
+first_in p (AndCommand s ss) = command_place s
+
+abbrev pub first_statement : RatRoutine → Place
+first_statement u = first_in u.place u.body
+
+-- there is exactly one unit; the fault of none stands at the end of the text, that of several at the first statement of the
+-- second one
 abbrev pub one_main : Place → List RatRoutine → Checked
 one_main finish [] = Faulty (fault_at finish MainCount)
-one_main finish (u ∷ []) = Main u.body
-one_main finish (u ∷ second ∷ more) = Faulty (fault_at second.place MainCount)
+one_main finish (u ∷ []) = Means (means u.body)
+one_main finish (u ∷ second ∷ more) = Faulty (fault_at (first_statement second) MainCount)
 
 abbrev pub or_fault : Option Fault → Checked → Checked
 or_fault None all = all
 or_fault (Some fault) all = Faulty fault
 
 abbrev pub checked : RatProgram → Checked
-checked tree = or_fault (first_lower_fault tree.routines) (one_main tree.finish tree.routines)
+checked tree = or_fault (first_fault tree) (one_main tree.finish tree.routines)
 
 -- ---- parse ----
 
@@ -59,7 +91,7 @@ file_name files n = unwrap_or (slice_get files n) []
 
 abbrev pub in_files : List (List ℕ) → Checked → Verdict
 in_files files (Faulty fault) = Refuses fault (file_name files fault.place.file)
-in_files files (Main body) = Accepts files body
+in_files files (Means meaning) = Accepts files meaning
 
 abbrev pub IsVerdictOf : Result GatherState Stop → Verdict → Type 0
 IsVerdictOf (Err stop) verdict = verdict ≡ Refuses stop.fault stop.file

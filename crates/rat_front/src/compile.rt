@@ -1,5 +1,5 @@
 // From a file to its unit.
-ghost use Rattle.std.specs.Prelude.{◌≡◌, IfOk};
+ghost use Rattle.std.specs.Prelude.{◌≡◌};
 ghost use Rattle.macro_define.specs.Gathered.{HasCause};
 ghost use Rattle.rat_front.specs.Verdict.{file_name as name_of_file};
 ghost use Rattle.rat_front.specs.Compiled.{IsCompiled};
@@ -7,9 +7,9 @@ ghost use Rattle.rat_front.specs.Compiled.{IsCompiled};
 use crate::unit_of;
 use f66_check::CheckedUnit;
 use ground::{Dialect, List, Refusal, Text};
-use macro_define::{TextRefusal, Gathered, gather};
+use macro_define::{Gathered, TextRefusal, gather};
 use ports::Library;
-use std::alloc::{AllocError, Global};
+use std::alloc::Global;
 
 /// A main program as a sound unit of FORTRAN. A place's file has its number in the list of names.
 #[derive(Drop)]
@@ -35,19 +35,19 @@ pub fn compile_text<L: Library>(
     match unit_of(alloc, &tokens) {
         Ok(unit) => Ok(Compiled { unit, files }),
         Err(Refusal::Fault(fault)) => {
-            let name = name_of(alloc, &files, fault.place.file)?;
-            Err(TextRefusal::Fault(fault, name))
+            let name = name_of(&files, fault.place.file).to_vec(alloc)?;
+            Err(TextRefusal::Fault(fault, Text::new(name)))
         }
         Err(Refusal::Memory) => Err(TextRefusal::Memory),
     }
 }
 
-/// The name of the file that has this number.
-fn name_of(alloc: Global, files: &[Text], number: u16) -> Result<Text, AllocError>
-    ensures { IfOk result (λ name. name ≡ name_of_file files.now number) }
+/// The name of the file that has this number in a list of names.
+pub fn name_of(files: &[Text], number: u16) -> &[u8]
+    ensures { result.now ≡ name_of_file files.now number }
 {
     match files.get(usize::from(number)) {
-        Some(name) => name.clone(),
-        None => Ok(Text::new(Vec::new(alloc))),
+        Some(name) => name.as_bytes(),
+        None => b"",
     }
 }

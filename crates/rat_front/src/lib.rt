@@ -5,6 +5,6 @@
 mod compile;
 mod tree;
 
-pub use compile::{Compiled, compile_text};
+pub use compile::{Compiled, compile_text, name_of};
 pub use macro_define::TextRefusal;
 use tree::unit_of;

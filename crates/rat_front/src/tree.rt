@@ -1,15 +1,18 @@
 // From the tokens of a text to its unit.
 ghost use Rattle.std.specs.Prelude.{◌≡◌};
-ghost use Rattle.rat_tree.specs.Views.{program_of};
+ghost use Rattle.rat_tree.specs.Views.{program_of, rat_routine_of};
+ghost use Rattle.rat_lower.specs.Lowered.{AllHaveRoom};
 ghost use Rattle.macro_define.specs.GatherAnswers.{EndsText};
-ghost use Rattle.rat_front.specs.Verdict.{IsParsed, checked};
+ghost use Rattle.rat_front.specs.Verdict.{IsParsed, checked, first_statement as first_statement_of};
 ghost use Rattle.rat_front.specs.Compiled.{Finds};
+ghost use Rattle.ground.specs.Faults.{fault_at};
 
 use f66_check::CheckedUnit;
 use ground::{Fault, FaultKind, List, Place, Refusal, Token};
-use rat_parse::parse;
 use rat_lower::lower;
-use rat_tree::RatProgram;
+use rat_parse::parse;
+use rat_room::parsed_has_room;
+use rat_tree::{RatProgram, RatUnit};
 use std::alloc::Global;
 
 /// The unit of a text with these tokens, or the text's fault.
@@ -18,16 +21,18 @@ pub fn unit_of(alloc: Global, tokens: &List<Token>) -> Result<CheckedUnit, Refus
     ensures { Finds (IsParsed tokens.now.items) result }
 {
     let program = parse(alloc, tokens)?;
+    parsed_has_room();
     main_unit(alloc, &program)
 }
 
 /// The unit of a tree's one main program. Each unit is checked before they are counted.
 fn main_unit(alloc: Global, program: &RatProgram) -> Result<CheckedUnit, Refusal>
+    requires { AllHaveRoom (program_of program.now).routines }
     ensures { Finds (λ c. c ≡ checked (program_of program.now)) result }
 {
     let mut units = lower(alloc, program)?;
     if let Some(second) = program.units.get(1) {
-        return Err(main_count(second.place));
+        return Err(main_count(first_statement(second)));
     }
     match units.pop() {
         Some(unit) => Ok(unit),
@@ -35,12 +40,18 @@ fn main_unit(alloc: Global, program: &RatProgram) -> Result<CheckedUnit, Refusal
     }
 }
 
-fn main_count(place: Place) -> Refusal
-    ensures { result ≡ Refusal.Fault (record { kind = FaultKind.MainCount; place = place; number = 0 }) }
+/// Where a unit's first statement stands, after its labels; a unit without one stands at its `end`.
+fn first_statement(unit: &RatUnit) -> Place
+    ensures { result ≡ first_statement_of (rat_routine_of unit.now) }
 {
-    Refusal::Fault(Fault {
-        kind: FaultKind::MainCount,
-        place,
-        number: 0,
-    })
+    match unit.body.first() {
+        Some(statement) => statement.place,
+        None => unit.place,
+    }
+}
+
+fn main_count(place: Place) -> Refusal
+    ensures { result ≡ Refusal.Fault (fault_at place FaultKind.MainCount) }
+{
+    Refusal::Fault(Fault::new(place, FaultKind::MainCount))
 }

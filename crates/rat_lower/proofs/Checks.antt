@@ -2,7 +2,7 @@
 use Rattle.std.proofs.Common.{◌≡◌, ◌≢◌, ℕ, ◌+◌, ◌≤◌, ◌<◌, Bool, true, false, List, [], ◌∷◌, length, None, arith}
 use Rattle.ground.specs.declared.place.Place.{Place}
 use Rattle.f66_tree.specs.Syntax.{Text, Act}
-use Rattle.f66_tree.specs.World.{Record}
+use Rattle.f66_tree.specs.World.{Record, Lost}
 use Rattle.f66_tree.specs.Uses.{NamesOfAct}
 use Rattle.f66_tree.specs.Agreement.{Agrees}
 use Rattle.f66_tree.specs.OneUnit.{executed}
@@ -21,20 +21,21 @@ use Rattle.rat_lower.specs.OneUnit.{notes_of_unit, means}
 use Rattle.rat_lower.specs.Code.{all_labels, all_code, ends_so, stop_unless}
 use Rattle.rat_lower.specs.Checked.{NamesOfNote, Lacks, all_given, IsChecked}
 use Rattle.rat_lower.specs.Emitted.{labels_past, names_of, spare_name}
-use Rattle.rat_lower.specs.Lowered.{lowered, KeepsFlow}
-use Rattle.rat_lower.proofs.NoFault.{AllFine, all_fine, AllOf, of_weaker, of_both, of_test, said_so}
-use Rattle.rat_lower.proofs.Reached.{Sees, sees_list}
-use Rattle.rat_lower.proofs.Accepted.{AllClear, all_clear}
-use Rattle.rat_lower.proofs.MadeLabels.{labels_low}
-use Rattle.rat_lower.proofs.PartLabels.{given_once, given_range, not_given}
-use Rattle.rat_lower.proofs.PartNotes.{names_of_notes, has_format}
-use Rattle.rat_lower.proofs.ActNames.{Lacking, all_lacking, built_names, built_note_names}
-use Rattle.rat_lower.proofs.Kept.{AllSayGood}
-use Rattle.rat_lower.proofs.Says.{both_good, all_good, all_named}
-use Rattle.rat_lower.proofs.FormatsNamed.{IsFormatted, parts_formatted}
-use Rattle.rat_lower.proofs.Early.{Early, early_parts, early_unit}
-use Rattle.rat_lower.proofs.Top.{unit_agrees}
-use Rattle.rat_lower.proofs.FlowUnits.{unit_flow, unit_header}
+use Rattle.rat_lower.specs.Lowered.{lowered}
+use Rattle.rat_lower.proofs.Accepted.NoFault.{AllFine, all_fine, AllOf, of_weaker, of_both, of_test, said_so}
+use Rattle.rat_lower.proofs.Accepted.Reached.{Sees, sees_list}
+use Rattle.rat_lower.proofs.Accepted.Clear.{AllClear, all_clear}
+use Rattle.rat_lower.proofs.Emitting.MadeLabels.{labels_low}
+use Rattle.rat_lower.proofs.Accepted.PartLabels.{given_once, given_range, not_given}
+use Rattle.rat_lower.proofs.Accepted.PartNotes.{names_of_notes, has_format}
+use Rattle.rat_lower.proofs.Accepted.ActNames.{Lacking, all_lacking, built_names, built_note_names}
+use Rattle.rat_lower.proofs.Soundness.Kept.{AllSayGood}
+use Rattle.rat_lower.proofs.Soundness.Says.{both_good, all_good, all_named}
+use Rattle.rat_lower.proofs.Soundness.FormatsNamed.{IsFormatted, parts_formatted}
+use Rattle.rat_lower.proofs.Soundness.Early.{Early, early_parts, early_unit}
+use Rattle.rat_lower.proofs.Simulation.Top.{found, unit_agrees}
+use Rattle.rat_lower.proofs.Soundness.FlowRules.{KeepsFlow}
+use Rattle.rat_lower.proofs.Soundness.FlowUnits.{unit_flow}
 
 sees_none : (m : ℕ) → no_label m ≡ true → false ≡ true
 sees_none m e = e
@@ -109,6 +110,10 @@ module _ (ss : Commands) (accepted : fault_of_parts (unit_parts ss) ≡ None) wh
         pub accepted_agrees : (input : List Record) → Agrees (means ss input) (executed (lowered taken first last ss) input)
         accepted_agrees input = unit_agrees (labels_past taken) spare first last ss is_checked input
 
+        -- and the source is never lost
+        pub accepted_found : (input : List Record) (b : ℕ) → (means ss input b).end ≢ Lost
+        accepted_found input b = found (labels_past taken) spare first last ss is_checked input b
+
         -- and breaks no rule on order, labels and DO ranges
         pub accepted_flow : length taken + all_labels ss ≤ 77000 → ends_so false (lowered taken first last ss) ≡ true → KeepsFlow (lowered taken first last ss)
         accepted_flow room finished =
@@ -116,7 +121,4 @@ module _ (ss : Commands) (accepted : fault_of_parts (unit_parts ss) ≡ None) wh
             let ranged : (l : ℕ) → 1 ≤ all_given l ss → (1 ≤ l) × (l ≤ 99999) = given_range u ss clean.unbroken in
             let early : (v : Bool) → Early false (all_code (labels_past taken) spare ss 0 [] (stop_unless v last)) =
             λ v. early_unit u (labels_past taken) spare ss v last (with_labels ss no_label) fine (early_parts u nothing_before vs clean.keep) in
-            record {
-              header = unit_header (labels_past taken) spare first last ss is_checked ranged made_range early formatted finished;
-              statements = unit_flow (labels_past taken) spare first last ss is_checked ranged made_range early formatted finished;
-            }
+            unit_flow (labels_past taken) spare first last ss is_checked ranged made_range early formatted finished

@@ -19,7 +19,7 @@ use Rattle.rat_lower.specs.Code.{unit_code}
 use Rattle.rat_lower.specs.OneUnit.{means}
 use Rattle.rat_lower.specs.Checked.{bit, all_given, Lacks, IsChecked}
 use Rattle.rat_lower.specs.Lowered.{source_labels, lowered}
-use Rattle.rat_lower.proofs.Top.{unit_agrees}
+use Rattle.rat_lower.proofs.Simulation.Top.{unit_agrees}
 
 abbrev all : List Command → Commands
 all [] = NoCommand

@@ -1,49 +1,13 @@
--- The lemmas of rat_lower.
-pub mod Spared
-pub mod Tracks
-pub mod Follows
-pub mod Counts
-pub mod Labels
-pub mod Parts
-pub mod Loops
-pub mod Lists
-pub mod Statements
-pub mod Switches
-pub mod Distinct
-pub mod Notes
-pub mod MadeLabels
-pub mod Sizes
-pub mod Blocks
-pub mod Members
-pub mod CappedCounts
-pub mod Units
-pub mod Alone
-pub mod Agreement
-pub mod Whole
-pub mod Exits
-pub mod Fits
-pub mod Top
-pub mod NoFault
-pub mod Reached
-pub mod PartLabels
-pub mod ActNames
-pub mod Alike
-pub mod PartNotes
+-- The lemmas of rat_lower: the unit that a main unit of Ratfor becomes does what it means, and is sound.
+--
+--   no fault ── Accepted ──▶ built, left from within, landing ── Simulation ──▶ agrees, and is never lost ──┐
+--       └───────────────── Soundness ──▶ breaks no rule ───────────────────────────────────────────────────┴─ MainUnits, Serving ──▶ serves
+--   the code that is put ── Emitting ──▶ the unit's statements are those of the definition
+pub mod Emitting
 pub mod Accepted
-pub mod SpareNames
-pub mod Targets
-pub mod FlowRules
-pub mod FormatsNamed
-pub mod Kept
-pub mod KeptBack
-pub mod Classes
-pub mod Redeclared
-pub mod Says
-pub mod Early
-pub mod FlowUnits
+pub mod Simulation
 pub mod Soundness
 pub mod Checks
-pub mod CleanUnits
 pub mod MainUnits
 mod Serving
 mod Examples

@@ -1,5 +1,5 @@
 -- The statements of a main unit that the checks accept: they do what it means, and are a sound unit.
-use Rattle.std.proofs.Common.{◌≡◌, ℕ, ◌+◌, ◌≤◌, ◌<◌, Bool, true, false, List, [], length, Some, None, sym, ap, ◌∙◌, subst}
+use Rattle.std.proofs.Common.{◌≡◌, ◌≢◌, ℕ, ◌+◌, ◌≤◌, Bool, true, false, List, [], length, Some, None, sym, ap, ◌∙◌, subst}
 use Rattle.std.specs.Prelude.{if◌then◌else◌}
 use Rattle.std.proofs.lemmas.Option.{none-some}
 use Rattle.ground.specs.declared.place.Place.{Place}
@@ -8,7 +8,7 @@ use Rattle.f66_tree.specs.declared.unit.Unit.{Unit as AUnit}
 use Rattle.f66_tree.specs.Syntax.{MainUnit, Line, Routine}
 use Rattle.f66_tree.specs.Units.{is_main}
 use Rattle.f66_tree.specs.Views.{routine_of}
-use Rattle.f66_tree.specs.World.{Record}
+use Rattle.f66_tree.specs.World.{Record, Lost}
 use Rattle.f66_tree.specs.Agreement.{Agrees}
 use Rattle.f66_tree.specs.OneUnit.{executed}
 use Rattle.f66_check.specs.Answers.{IsSound}
@@ -19,14 +19,14 @@ use Rattle.rat_check.specs.Survey.{is_among, own_labels}
 use Rattle.rat_check.proofs.SurveyLemmas.{own_among}
 use Rattle.rat_lower.specs.OneUnit.{means}
 use Rattle.rat_lower.specs.Code.{all_labels, ends_so}
-use Rattle.rat_lower.specs.Emitted.{labels_past, names_of}
-use Rattle.rat_lower.specs.Lowered.{lowered, KeepsFlow}
+use Rattle.rat_lower.specs.Emitted.{labels_past}
+use Rattle.rat_lower.specs.Lowered.{lowered, HasRoom}
 use Rattle.rat_lower.specs.Served.{Serves}
-use Rattle.rat_lower.proofs.Checks.{accepted_agrees, accepted_flow}
-use Rattle.rat_lower.proofs.CleanUnits.{unit_is_sound}
+use Rattle.rat_lower.proofs.Checks.{accepted_agrees, accepted_found, accepted_flow}
+use Rattle.rat_lower.proofs.Soundness.CleanUnits.{unit_is_sound}
 
 module _ (u : RatRoutine) (taken given : List ℕ) (first last : Place) (code : List Line) (none_found : unit_fault u ≡ None) (own : taken ≡ own_labels (unit_parts u.body) []) (same : given ≡ taken)
-    (few : length (names_of u.body) < 99999) (made : code ≡ lowered given first last u.body) where
+    (room : HasRoom u) (made : code ≡ lowered given first last u.body) where
   accepted : fault_of_parts (unit_parts u.body) ≡ None
   accepted = by (is_main u.header) none_found
     where
@@ -37,21 +37,24 @@ module _ (u : RatRoutine) (taken given : List ℕ) (first last : Place) (code : 
   all : is_among given ≡ with_own (unit_parts u.body) no_label
   all = ap is_among (same ∙ own) ∙ own_among (unit_parts u.body)
 
-  pub code_agrees : (input : List Record) → Agrees (means u.body input) (executed code input)
-  code_agrees input = subst (λ lines. Agrees (means u.body input) (executed lines input)) (sym made) (accepted_agrees u.body accepted few given all first last input)
+  labels_fit : length given + all_labels u.body ≤ 77000
+  labels_fit = subst (λ labels. length labels + all_labels u.body ≤ 77000) (sym (same ∙ own)) room.labels
 
-  pub code_flow : length given + all_labels u.body ≤ 77000 → ends_so false code ≡ true → KeepsFlow code
-  code_flow room finished = subst KeepsFlow (sym made) (accepted_flow u.body accepted few given all first last room (sym (ap (ends_so false) made) ∙ finished))
+  code_agrees : (input : List Record) → Agrees (means u.body input) (executed code input)
+  code_agrees input = subst (λ lines. Agrees (means u.body input) (executed lines input)) (sym made) (accepted_agrees u.body accepted room.names given all first last input)
 
-  pub code_sound : (place : Place) → length given + all_labels u.body ≤ 77000 → ends_so false code ≡ true → IsSound (record { header = MainUnit; lines = code; place = place })
-  code_sound place room finished =
+  code_found : (input : List Record) (b : ℕ) → (means u.body input b).end ≢ Lost
+  code_found input b = accepted_found u.body accepted room.names given all first last input b
+
+  pub code_sound : (place : Place) → ends_so false code ≡ true → IsSound (record { header = MainUnit; lines = code; place = place })
+  code_sound place finished =
       subst (λ lines. IsSound (record { header = MainUnit; lines = lines; place = place })) (sym made)
-      (unit_is_sound u.body accepted few (labels_past given) first last place (accepted_flow u.body accepted few given all first last room (sym (ap (ends_so false) made) ∙ finished)))
+      (unit_is_sound u.body accepted room.names (labels_past given) first last place (accepted_flow u.body accepted room.names given all first last labels_fit (sym (ap (ends_so false) made) ∙ finished)))
 
-  pub code_serves : (unit : AUnit) (place : Place) → routine_of unit ≡ record { header = MainUnit; lines = code; place = place } → length given + all_labels u.body ≤ 77000 → ends_so false code ≡ true → Serves u.body unit
-  code_serves unit place is room finished = record {
+  pub code_serves : (unit : AUnit) (place : Place) → routine_of unit ≡ record { header = MainUnit; lines = code; place = place } → ends_so false code ≡ true → Serves u.body unit
+  code_serves unit place is finished = record {
     header = ap (λ (r : Routine). r.header) is;
     agrees = subst (λ (r : Routine). (input : List Record) → Agrees (means u.body input) (executed r.lines input)) (sym is) code_agrees;
-    flow = subst (λ (r : Routine). KeepsFlow r.lines) (sym is) (code_flow room finished);
-    sound = subst IsSound (sym is) (code_sound place room finished);
+    found = code_found;
+    sound = subst IsSound (sym is) (code_sound place finished);
   }

@@ -2,17 +2,16 @@
 #![tactic(auto)]
 
 mod around;
-mod counting;
 mod emission;
 mod lines;
 mod main_unit;
 mod maker;
 mod names;
 mod program;
+mod switches;
 mod unit;
 
 use around::{Around, Turn, label_again, label_behind};
-use counting::{count_labels, have_switch};
 use emission::emit_all;
 use lines::{
     append, put, put_act, put_break, put_cases, put_copy, put_do, put_here, put_jump, put_mark,
@@ -20,6 +19,7 @@ use lines::{
 };
 use main_unit::lower_unit;
 use maker::Maker;
-use names::{has_name, names_in};
+use names::names_in;
 pub use program::lower;
+use switches::have_switch;
 use unit::lower_body;

@@ -1,5 +1,5 @@
 // The names of a unit's source.
-ghost use Rattle.std.specs.Prelude.{◌≡◌, [], map, length, nat_lt, IfOk, OnOk};
+ghost use Rattle.std.specs.Prelude.{◌≡◌, [], map, length, IfOk, OnOk};
 ghost use Rattle.std.specs.List.{flat_map};
 ghost use Rattle.f66_tree.specs.Views.{declared_of};
 ghost use Rattle.f66_names.specs.ActViews.{act_said, acts_of};
@@ -16,9 +16,6 @@ use rat_check::sayings;
 use rat_tree::RatUnit;
 use std::alloc::{AllocError, Global};
 
-// How many names can be made.
-const NAME_LIMIT: u32 = 99_999;
-
 /// The names of a unit are kept: those that it declares, and those that it uses.
 pub fn names_in(alloc: Global, unit: &RatUnit) -> Result<Names, AllocError>
     ensures kept { IfOk result (λ names. names ≡ keeping_all (names_of (commands unit.now.body.items)) unused) }
@@ -32,14 +29,7 @@ pub fn names_in(alloc: Global, unit: &RatUnit) -> Result<Names, AllocError>
     Ok(names)
 }
 
-/// Whether one more name can be made.
-pub fn has_name(names: &Names) -> bool
-    ensures { result ≡ nat_lt (length names.now.kept) 99999 }
-{
-    names.taken() < NAME_LIMIT
-}
-
-#[tactic(auto, using(crate::proofs::SpareNames::name_steps))]
+#[tactic(auto, using(crate::proofs::Emitting::SpareNames::name_steps))]
 fn keep_all(alloc: Global, names: &mut Names, sayings: &[Saying]) -> Result<(), AllocError>
     ensures { OnOk result (names.new ≡ keeping_all (flat_map named_in (acts_of sayings.now)) names.old) }
 {
@@ -49,7 +39,7 @@ fn keep_all(alloc: Global, names: &mut Names, sayings: &[Saying]) -> Result<(), 
     Ok(())
 }
 
-#[tactic(auto, using(crate::proofs::SpareNames::name_steps))]
+#[tactic(auto, using(crate::proofs::Emitting::SpareNames::name_steps))]
 fn keep_said(alloc: Global, names: &mut Names, saying: &Saying) -> Result<(), AllocError>
     ensures { OnOk result (names.new ≡ keeping_all (named_in (act_said saying.now)) names.old) }
 {

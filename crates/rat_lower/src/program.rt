@@ -1,8 +1,8 @@
 // From a program of Ratfor to units of FORTRAN.
 ghost use Rattle.std.specs.Prelude.{IfOk};
 ghost use Rattle.rat_tree.specs.Views.{program_of};
-ghost use Rattle.rat_check.specs.FirstFault.{Tells};
-ghost use Rattle.rat_lower.specs.Lowered.{first_lower_fault};
+ghost use Rattle.rat_check.specs.FirstFault.{Tells, first_fault};
+ghost use Rattle.rat_lower.specs.Lowered.{AllHaveRoom};
 ghost use Rattle.rat_lower.specs.Served.{AllServe};
 
 use crate::lower_unit;
@@ -11,11 +11,11 @@ use ground::{List, Refusal};
 use rat_tree::RatProgram;
 use std::alloc::Global;
 
-/// The units of FORTRAN that do what those of a program do, each in its place. The first fault of the units in their order:
-/// those of the checks, and 30 Limit with the number 6 where a unit needs more than 77000 labels, those of its source included,
-/// or names stand in 99999 places of it. Each is sound (X3.9-1966, sections 3 to 9).
+/// The units of FORTRAN that do what those of a program do, each in its place, or the first fault of the checks. Each is sound
+/// (X3.9-1966, sections 3 to 9). A unit of at most 20,000 tokens has room for its labels and names.
 pub fn lower(alloc: Global, program: &RatProgram) -> Result<List<CheckedUnit>, Refusal>
-    ensures fault { Tells result (first_lower_fault (program_of program.now).routines) }
+    requires room { AllHaveRoom (program_of program.now).routines }
+    ensures fault { Tells result (first_fault (program_of program.now)) }
     ensures serves { IfOk result (λ made. AllServe (program_of program.now).routines made.items) }
 {
     let mut made = Vec::new(alloc);

@@ -157,11 +157,10 @@ jump_bound : (meaning (Labelled 10 (here 1) (Empty (here 1)) ∷ plain 2 (Goto 1
 jump_bound = refl
 
 -- the work, counted by hand. k = 1: the statement, its place and its number, 3. 10 ; : the label, and the statement, 2.
--- The end of the main, 1.
-work_of_labels : (meaning (plain 1 (set k (num (pos 1))) ∷ Labelled 10 (here 2) (Empty (here 2)) ∷ []) 0).work ≡ 6
+work_of_labels : (meaning (plain 1 (set k (num (pos 1))) ∷ Labelled 10 (here 2) (Empty (here 2)) ∷ []) 0).work ≡ 5
 work_of_labels = refl
 
-work_of_plain_label : (meaning (Plain (Some 10) (here 1) (set k (num (pos 1))) ∷ []) 0).work ≡ 5
+work_of_plain_label : (meaning (Plain (Some 10) (here 1) (set k (num (pos 1))) ∷ []) 0).work ≡ 4
 work_of_plain_label = refl
 
 -- k = kf(3), where kf is: return (n * n)

@@ -47,7 +47,7 @@ module _ (l : Linkage) (bodies : ℕ → Body) (b : ℕ) where
   ended_alike : (main : Bool) (c : Course) → AllAlike ⊤ (ended_by main c) (ended_by main c)
   ended_alike main Went w = past main
     where
-      past : (m : Bool) → Alike (past_end m (counted w)) (past_end m (counted w))
+      past : (m : Bool) → Alike (past_end m w) (past_end m w)
       past true = refl
       past false = refl
   ended_alike main (Jumps m) w = refl

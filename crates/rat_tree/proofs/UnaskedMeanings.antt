@@ -37,7 +37,7 @@ module _ (more : List Record) where
     ended_spares : (main : Bool) (c : Course) → AllSpare more ⊤ (ended_by main c) (ended_by main c)
     ended_spares main Went w = past main
       where
-        past : (m : Bool) → SparesOut more (past_end m (counted w)) (past_end m (counted (fuller more w)))
+        past : (m : Bool) → SparesOut more (past_end m w) (past_end m (fuller more w))
         past true = refl
         past false = refl
     ended_spares main (Jumps m) w = refl

@@ -1,10 +1,10 @@
 -- A program's meaning at a greater bound: an end stays, and records stay. Part by part, what is done at the lesser bound is
 -- done at the greater one too, unless it stops at the bound; then the records at the greater bound begin with those so far.
 use Rattle.std.proofs.Common.{◌≡◌, ℕ, zero, suc, ◌+◌, ◌-◌, ◌≤◌, Bool, true, false, List, [], refl, sym, ap, subst, arith}
-use Rattle.std.specs.Prelude.{if◌then◌else◌, ⊤}
+use Rattle.std.specs.Prelude.{⊤}
 use Rattle.ground.specs.declared.place.Place.{Place}
 use Rattle.f66_tree.specs.Syntax.{Line}
-use Rattle.f66_tree.specs.World.{World, Trapped, End, Ended, GoesOn, Lost, Out, Gives, Halts, bind, choose, counted, IsPrefix, shown}
+use Rattle.f66_tree.specs.World.{World, Trapped, End, Ended, GoesOn, Lost, Out, Gives, Halts, bind, counted, IsPrefix, shown}
 use Rattle.f66_tree.specs.Units.{is_main, Spot, Linkage, Setting, Frame}
 use Rattle.f66_tree.specs.Evaluation.{load, store_at, ticked}
 use Rattle.f66_tree.specs.Statements.{taped, taken_content}
@@ -79,14 +79,6 @@ wide_stays m h = record { grows = h; widens = h }
 
 wide_counted : {A : Type 0} {m1 m2 : World → Out A} → Wide A m1 m2 → Wide A (λ w. m1 (counted w)) (λ w. m2 (counted w))
 wide_counted h = record { grows = λ w. h.grows (counted w); widens = λ w. h.widens (counted w) }
-
-wide_choose : {A : Type 0} {m1 m2 n1 n2 : World → Out A} → (b : Bool) → Wide A m1 m2 → Wide A n1 n2 → Wide A (λ w. choose b (m1 w) (n1 w)) (λ w. choose b (m2 w) (n2 w))
-wide_choose true h k = h
-wide_choose false h k = k
-
-wide_if : {A : Type 0} {m1 m2 n1 n2 : World → Out A} → (b : Bool) → Wide A m1 m2 → Wide A n1 n2 → Wide A (λ w. if b then m1 w else n1 w) (λ w. if b then m2 w else n2 w)
-wide_if true h k = h
-wide_if false h k = k
 
 module _ (l : Linkage) (call1 call2 : ℕ → List Spot → World → Out ⊤) (tick : ℕ → ℕ) (b1 b2 : ℕ) (more : b1 ≤ b2)
     (calls : (v : ℕ) (ps : List Spot) → Wide ⊤ (call1 v ps) (call2 v ps)) where
@@ -171,7 +163,7 @@ module _ (l : Linkage) (call1 call2 : ℕ → List Spot → World → Out ⊤) (
 
 module _ (l : Linkage) (bodies : ℕ → Body) (b1 b2 : ℕ) (more : b1 ≤ b2) where
   ended_widens : (main : Bool) (c : Course) → Wide ⊤ (ended_by main c) (ended_by main c)
-  ended_widens main Went = wide_counted (past main)
+  ended_widens main Went = past main
     where
       past : (m : Bool) → Wide ⊤ (past_end m) (past_end m)
       past true = wide_halts _

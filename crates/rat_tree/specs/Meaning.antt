@@ -189,7 +189,7 @@ module _ (s : Setting) (f : Frame) where
 
 -- past its last statement a unit does as RETURN does, which in a main is STOP
 abbrev pub ended_by : Bool → Course → World → Out ⊤
-ended_by main Went w = past_end main (counted w)
+ended_by main Went w = past_end main w
 ended_by main Backs w = Gives tt w
 ended_by main c w = Halts Lost w
 

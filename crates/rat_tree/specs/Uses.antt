@@ -1,9 +1,8 @@
 -- The names that commands use: here each of them is one of which something holds.
 use Rattle.std.specs.Prelude.{Option, Some, None, ⊤}
 use Rattle.f66_tree.specs.Syntax.{Text, Formula, Act}
-use Rattle.f66_tree.specs.Uses.{Names, NamesOfAll, NameOfPar, NamesOfAct, NamesOfLines}
+use Rattle.f66_tree.specs.Uses.{Names, NamesOfAll, NameOfPar, NamesOfAct}
 use Rattle.rat_tree.specs.Syntax.{Command, Empty, Block, If, IfElse, While, For, Repeat, RepeatUntil, Do, Switch, Break, Next, Return, Plain, Labelled, Commands, NoCommand, AndCommand, Clauses, NoClause, AndClause}
-use Rattle.rat_tree.specs.Meaning.{Body, Ours, Theirs}
 
 abbrev pub NamesIfAny : (Text → Type 0) → Option Formula → Type 0
 NamesIfAny K None = ⊤
@@ -38,7 +37,3 @@ abbrev mutual
   pub NamesOfClauses : (Text → Type 0) → Clauses → Type 0
   NamesOfClauses K NoClause = ⊤
   NamesOfClauses K (AndClause es fallback ss p cs) = NamesOfAll K es × NamesOfCommands K ss × NamesOfClauses K cs
-
-abbrev pub NamesOfBody : (Text → Type 0) → Body → Type 0
-NamesOfBody K (Ours ss) = NamesOfCommands K ss
-NamesOfBody K (Theirs code) = NamesOfLines K code

@@ -4,7 +4,7 @@ use f66_tree::{Expr, Header, Name, Par, StmtKind};
 use ground::{List, Place};
 
 /// A program (Kernighan, Ratfor: A Preprocessor for a Rational Fortran, 1975).
-#[derive(Debug, Drop)]
+#[derive(Drop)]
 pub struct RatProgram {
     pub units: List<RatUnit>,
     /// Where the text ends.
@@ -12,7 +12,7 @@ pub struct RatProgram {
 }
 
 /// A unit: its header, and its statements, declarations among them.
-#[derive(Debug, Drop)]
+#[derive(Drop)]
 pub struct RatUnit {
     pub header: Header,
     pub body: List<RatStmt>,
@@ -21,7 +21,7 @@ pub struct RatUnit {
 
 /// A statement with its label.
 #[cycle(tree)]
-#[derive(Debug, Drop)]
+#[derive(Drop)]
 pub struct RatStmt {
     pub label: Option<u32>,
     pub place: Place,
@@ -30,7 +30,7 @@ pub struct RatStmt {
 
 /// What a statement is.
 #[cycle(tree)]
-#[derive(Debug, Drop)]
+#[derive(Drop)]
 pub enum RatKind {
     Empty,
     Block(List<RatStmt>),
@@ -54,7 +54,7 @@ pub enum RatKind {
 
 /// A clause of a switch: its case expressions, whether it is the default, and its statements.
 #[cycle(tree)]
-#[derive(Debug, Drop)]
+#[derive(Drop)]
 pub struct RatCase {
     pub tests: List<Expr>,
     pub fallback: bool,

@@ -15,7 +15,7 @@ returns-in-Err-Fault-clause-text g c =
     let tokens_are : ts ≡ text.by.0.made.tokens = search rules in
     let files_are : files ≡ text.by.0.files = search rules in
     let parsed : IsParsed ts (Faulty fault) = rw c.in-Err-Fault.field-0-is at c.in-Err-Fault.ensures in
-    let name_is : c.in_ok-name-in-Err-Fault.name ≡ file_name files fault.place.file = search rules in
+    let name_is : c.new.result ≡ file_name files fault.place.file = search rules in
     record {
       known = text.known;
       of = text.of;

@@ -6,9 +6,9 @@ use Rattle.rat_tree.specs.Views.{commands, clauses}
 use Rattle.rat_lower.specs.Around.{rings_of}
 use Rattle.rat_lower.specs.Code.{all_labels, clause_labels, each_test}
 use Rattle.rat_lower.specs.Emitted.{Adds, AllEmitted}
-use Rattle.rat_lower.proofs.Blocks.{SoFar, so_far_more, so_far_all, next_command, last_command, member_size}
-use Rattle.rat_lower.proofs.Members.{from_block, block_labels, block_size, from_switch, switch_labels, switch_size, next_clause, clause_size, ClausesSoFar, clauses_more}
-use Rattle.rat_lower.proofs.Sizes.{size_of_all}
+use Rattle.rat_lower.proofs.Emitting.Blocks.{SoFar, so_far_more, so_far_all, next_command, last_command, member_size}
+use Rattle.rat_lower.proofs.Emitting.Members.{from_block, block_labels, block_size, from_switch, switch_labels, switch_size, next_clause, clause_size, ClausesSoFar, clauses_more}
+use Rattle.rat_lower.proofs.Emitting.Sizes.{size_of_all}
 use Rattle.rat_lower.proofs.emission.+emit.Goals as goal
 
 pub emit-emit_all-requires : goal.emit-emit_all-requires

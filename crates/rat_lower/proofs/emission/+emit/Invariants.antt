@@ -3,9 +3,9 @@ use Rattle.std.proofs.Common.{drop, ◌+◌, ◌*◌}
 use Rattle.f66_tree.specs.Views.{lines_of}
 use Rattle.rat_tree.specs.Views.{command, commands, clauses}
 use Rattle.rat_lower.specs.Around.{rings_of}
-use Rattle.rat_lower.proofs.Blocks.{SoFar}
-use Rattle.rat_lower.proofs.Members.{ClausesSoFar}
-use Rattle.rat_lower.proofs.Sizes.{size_of, size_of_all, size_of_clauses}
+use Rattle.rat_lower.proofs.Emitting.Blocks.{SoFar}
+use Rattle.rat_lower.proofs.Emitting.Members.{ClausesSoFar}
+use Rattle.rat_lower.proofs.Emitting.Sizes.{size_of, size_of_all, size_of_clauses}
 use Rattle.rat_lower.proofs.emission.+emit.Given as goal
 
 abbrev pub decreases-emit : goal.decreases-emit

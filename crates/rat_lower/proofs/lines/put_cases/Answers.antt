@@ -1,5 +1,5 @@
 -- One test more is put.
-use Rattle.rat_lower.proofs.Blocks.{next_formulas, more_tests}
+use Rattle.rat_lower.proofs.Emitting.Blocks.{next_formulas, more_tests}
 use Rattle.rat_lower.proofs.lines.put_cases.Goals as goal
 
 pub loop-e-preserved : goal.loop-e-preserved

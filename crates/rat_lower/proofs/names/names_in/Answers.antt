@@ -5,7 +5,7 @@ use Rattle.f66_names.specs.ActViews.{acts_of}
 use Rattle.rat_tree.specs.Views.{commands}
 use Rattle.name_alloc.specs.MadeNames.{keeping_all}
 use Rattle.rat_lower.specs.Emitted.{named_in, names_of}
-use Rattle.rat_lower.proofs.SpareNames.{all_kept, none_made, no_labels}
+use Rattle.rat_lower.proofs.Emitting.SpareNames.{all_kept, none_made, no_labels}
 use Rattle.rat_lower.proofs.names.names_in.Goals as goal
 
 pub returns-clause-kept : goal.returns-clause-kept

@@ -1,11 +1,20 @@
--- A unit more without a fault is made, and serves.
+-- A unit more without a fault is made in its room, and serves.
 use Rattle.std.proofs.Common.{rules, arith, ◌≡◌, ◌+◌, ◌<◌, ℕ, List, [], ◌∷◌, ◌++◌, length, get_or, take, map, sym, ◌∙◌, subst}
 use Rattle.f66_tree.specs.declared.unit.Unit.{Unit as AUnit}
 use Rattle.rat_tree.specs.declared.program.RatUnit.{RatUnit}
 use Rattle.rat_tree.specs.Views.{rat_routine_of}
 use Rattle.rat_lower.specs.Served.{AllServe}
-use Rattle.rat_lower.proofs.Serving.{fault_after, serves_after}
+use Rattle.rat_lower.proofs.Serving.{room_at, fault_after, serves_after}
 use Rattle.rat_lower.proofs.program.lower.Goals as goal
+
+pub lower_unit-requires : goal.lower_unit-requires
+lower_unit-requires c =
+    let all : List RatUnit = c.args.program.now.units.items in
+    let i : ℕ = c.loop-unit.unit-index in
+    let u : RatUnit = c.unit-item.result in
+    let within : i < length all = omega arith in
+    let here : u ≡ get_or all i u = cc in
+    record { room = room_at all i u within here c.requires.room }
 
 pub loop-unit-preserved : goal.loop-unit-preserved
 loop-unit-preserved c =

@@ -6,8 +6,8 @@ use Rattle.std.specs.Prelude.{[], false}
 use Rattle.name_alloc.specs.MadeNames.{next_name}
 use Rattle.rat_lower.specs.Code.{ends_so, have_switch}
 use Rattle.rat_lower.specs.Emitted.{AllEmitted}
-use Rattle.rat_lower.proofs.FlowUnits.{ends_with_stop}
-use Rattle.rat_lower.proofs.Units.{unit_lowered}
+use Rattle.rat_lower.proofs.Soundness.FlowUnits.{ends_with_stop}
+use Rattle.rat_lower.proofs.Emitting.Units.{unit_lowered}
 use Rattle.rat_lower.proofs.unit.lower_body.Goals as goal
 
 pub returns : goal.returns

@@ -1,5 +1,5 @@
 -- The next label is the one that the order of labels gives, and the order stays.
-use Rattle.rat_lower.proofs.MadeLabels.{order_kept, label_made}
+use Rattle.rat_lower.proofs.Emitting.MadeLabels.{order_kept, label_made}
 use Rattle.rat_lower.proofs.maker.Maker.fresh_label.Goals as goal
 
 pub invariant_of-self : goal.invariant_of-self

@@ -1,7 +1,7 @@
 -- All labels are kept, and none is made yet.
 use Rattle.std.proofs.Common.{◌+◌, drop, refl, sym, ap, subst}
 use Rattle.name_alloc.specs.MadeNames.{Used}
-use Rattle.rat_lower.proofs.MadeLabels.{Kept, kept_next, kept_all, kept_labels}
+use Rattle.rat_lower.proofs.Emitting.MadeLabels.{Kept, kept_next, kept_all, kept_labels}
 use Rattle.rat_lower.proofs.maker.Maker.new.Goals as goal
 
 pub loop-label-preserved : goal.loop-label-preserved

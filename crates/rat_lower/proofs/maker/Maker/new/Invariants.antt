@@ -1,6 +1,6 @@
 -- The labels before are kept.
 use Rattle.std.proofs.Common.{drop}
-use Rattle.rat_lower.proofs.MadeLabels.{Kept}
+use Rattle.rat_lower.proofs.Emitting.MadeLabels.{Kept}
 use Rattle.rat_lower.proofs.maker.Maker.new.Given as goal
 
 abbrev pub invariant-loop-label : goal.invariant-loop-label

@@ -1,0 +1,194 @@
+-- A main unit by itself: both linkages, where the target's unit may declare the spare name besides.
+use Rattle.std.proofs.Common.{◌≡◌, ◌≢◌, ℕ, zero, suc, ◌+◌, ◌*◌, ◌^◌, ◌<◌, Bool, true, false, List, [], ◌∷◌, Option, Some, None, refl, sym, ap, ◌∙◌, subst, arith}
+use Rattle.std.specs.Prelude.{if◌then◌else◌, ◌||◌, ⊤}
+use Rattle.std.specs.Str.{bytes_eq}
+use Rattle.std.proofs.Math.Nat.{pow-zero, pow-suc}
+use Rattle.std.proofs.lemmas.Slice.Eq.{bytes_eq-Decides}
+use Rattle.f66_tree.specs.declared.declaration.TypeWord.TheVariants.{Integer}
+use Rattle.f66_tree.specs.Syntax.{Text, Par, Declared, Area, Act, Assign, Goto, Computed, Sign, When, Loop, Invoke, Continue, Stop, Return, Read, Write, Format, Typed, Dimension, Common, Equivalence, Preset, Line}
+use Rattle.f66_tree.specs.Units.{Note, by_letter, if_any, sizes_in, sizes_in_areas, sizes_by, sizes_of, type_in, kind_by, Spot, Held, Lent}
+use Rattle.f66_tree.specs.Uses.{NamesOfPars}
+use Rattle.f66_tree.specs.OneUnit.{list_number, one_unit}
+use Rattle.f66_tree.proofs.Posts.{IsScope}
+use Rattle.f66_tree.proofs.Related.{SameNames, same_names}
+use Rattle.f66_tree.proofs.AnyNames.{Any, AnySpot, any_scope}
+use Rattle.rat_lower.specs.Checked.{NamesOfSizes, NamesOfAreas, NamesOfNote, NamesOfNotes}
+use Rattle.rat_lower.proofs.Simulation.Spared.{Lowering}
+use Rattle.rat_lower.proofs.Simulation.Parts.{HoldsValue}
+
+-- ---- different lists have different numbers ----
+
+doubled : (a k : ℕ) → a * 2 * k ≡ 2 * (a * k)
+doubled a k = grind arith
+
+next_power : (c m : ℕ) → 2 ^ suc c * (2 * m + 1) ≡ 2 * (2 ^ c * (2 * m + 1))
+next_power c m = ap (λ v. v * (2 * m + 1)) (pow-suc 2 c) ∙ doubled (2 ^ c) (2 * m + 1)
+
+no_power : (m : ℕ) → 2 ^ 0 * (2 * m + 1) ≡ 2 * m + 1
+no_power m = let e : 1 * (2 * m + 1) ≡ 2 * m + 1 = omega arith in ap (λ v. v * (2 * m + 1)) (pow-zero 2) ∙ e
+
+same_parts : (c d m n : ℕ) → 2 ^ c * (2 * m + 1) ≡ 2 ^ d * (2 * n + 1) → (c ≡ d) × (m ≡ n)
+same_parts zero zero m n e = (refl, omega (arith, no_power m, no_power n, e))
+same_parts zero (suc d) m n e = absurd (omega (arith, no_power m, next_power d n, e))
+same_parts (suc c) zero m n e = absurd (omega (arith, next_power c m, no_power n, e))
+same_parts (suc c) (suc d) m n e = let h = same_parts c d m n (omega (arith, next_power c m, next_power d n, e)) in (ap suc h.0, h.1)
+
+pub some_number : (c : ℕ) (cs : List ℕ) → list_number (c ∷ cs) ≢ 0
+some_number c cs e = let h = same_parts_pos c (list_number cs) in absurd (omega (arith, h, e))
+  where
+    same_parts_pos : (c m : ℕ) → 0 < 2 ^ c * (2 * m + 1)
+    same_parts_pos zero m = omega (arith, no_power m)
+    same_parts_pos (suc c) m = omega (arith, next_power c m, same_parts_pos c m)
+
+pub same_list : (a b : List ℕ) → list_number a ≡ list_number b → a ≡ b
+same_list [] [] e = refl
+same_list [] (d ∷ ds) e = absurd (some_number d ds (sym e))
+same_list (c ∷ cs) [] e = absurd (some_number c cs e)
+same_list (c ∷ cs) (d ∷ ds) e =
+    let h = same_parts c d (list_number cs) (list_number ds) e in
+    ap (λ v. v ∷ cs) h.0 ∙ ap (λ v. d ∷ v) (same_list cs ds h.1)
+
+abbrev tail_of : List ℕ → List ℕ
+tail_of [] = []
+tail_of (c ∷ cs) = cs
+
+-- ---- names in dimensions ----
+
+module _ (K : Text → Type 0) where
+  in_sizes : (x : Text) (ds : List Declared) (others : List Par) → NamesOfSizes K ds → NamesOfPars K others → NamesOfPars K (sizes_in x ds others)
+  in_sizes x [] others h k = k
+  in_sizes x (d ∷ ds) others h k = by_name (bytes_eq x d.name) d.sizes h.0 (in_sizes x ds others h.1 k)
+    where
+      by_name : (v : Bool) (ns : List Par) → NamesOfPars K ns → NamesOfPars K (sizes_in x ds others) → NamesOfPars K (if v then if_any ns (sizes_in x ds others) else sizes_in x ds others)
+      by_name true [] j later = later
+      by_name true (n ∷ ns) j later = j
+      by_name false ns j later = later
+
+  in_areas : (x : Text) (areas : List Area) (others : List Par) → NamesOfAreas K areas → NamesOfPars K others → NamesOfPars K (sizes_in_areas x areas others)
+  in_areas x [] others h k = k
+  in_areas x (a ∷ areas) others h k = in_sizes x a.list (sizes_in_areas x areas others) h.0 (in_areas x areas others h.1 k)
+
+  in_note : (x : Text) (a : Act) (others : List Par) → NamesOfNote K a → NamesOfPars K others → NamesOfPars K (sizes_by x a others)
+  in_note x (Typed t ds) others h k = in_sizes x ds others h k
+  in_note x (Dimension ds) others h k = in_sizes x ds others h k
+  in_note x (Common areas) others h k = in_areas x areas others h k
+  in_note x (Assign y e) others h k = k
+  in_note x (Goto m) others h k = k
+  in_note x (Computed ls y) others h k = k
+  in_note x (Sign e i1 i2 i3) others h k = k
+  in_note x (When e a) others h k = k
+  in_note x (Loop m y i1 i2 i3) others h k = k
+  in_note x (Invoke y es) others h k = k
+  in_note x Continue others h k = k
+  in_note x (Stop n) others h k = k
+  in_note x Return others h k = k
+  in_note x (Read u m es) others h k = k
+  in_note x (Write u m es) others h k = k
+  in_note x (Format fs) others h k = k
+  in_note x (Equivalence es) others h k = k
+  in_note x (Preset ps) others h k = k
+
+  in_notes : (x : Text) (notes : List Note) → NamesOfNotes K notes → NamesOfPars K (sizes_of x notes)
+  in_notes x [] h = tt
+  in_notes x (s ∷ notes) h = in_note x s.act (sizes_of x notes) h.0 (in_notes x notes h.1)
+
+-- ---- a unit with no switch ----
+
+-- the same linkage on both sides; no name has the spare unit
+abbrev pub unspared : (code : List Line) (notes : List Note) → Lowering
+unspared code notes = record {
+  target = one_unit notes;
+  source = one_unit notes;
+  code = code;
+  unit = 0;
+  spot = 0;
+  K = λ u. Any;
+  Fair = AnySpot;
+  scope = any_scope (one_unit notes);
+  same = same_names (λ u. Any) AnySpot (one_unit notes);
+  numbers = λ u x o. refl;
+  apart = λ u x o fair. some_number o x;
+  alone = λ u x used. refl;
+  main = refl;
+}
+
+-- ---- a unit with a spare name ----
+
+-- INTEGER spare
+abbrev pub spare_note : Text → Note
+spare_note spare = record { label = None; act = Typed Integer (record { name = spare; sizes = [] } ∷ []) }
+
+module _ (spare : Text) (notes : List Note) where
+  abbrev Other : Text → Type 0
+  Other x = x ≢ spare
+
+  abbrev Clear : Spot → Type 0
+  Clear (Held u x o) = x ≢ spare
+  Clear (Lent c) = ⊤
+
+  not_same : (x : Text) → x ≢ spare → bytes_eq x spare ≡ false
+  not_same x other = by_answer (bytes_eq x spare) (bytes_eq-Decides x spare).0
+    where
+      by_answer : (v : Bool) → (v ≡ true → x ≡ spare) → v ≡ false
+      by_answer true h = absurd (other (h refl))
+      by_answer false h = refl
+
+  itself : bytes_eq spare spare ≡ true
+  itself = (bytes_eq-Decides spare spare).1 refl
+
+  same_sizes : (x : Text) → sizes_of x (spare_note spare ∷ notes) ≡ sizes_of x notes
+  same_sizes x = by_name (bytes_eq x spare)
+    where
+      by_name : (v : Bool) → (if v then sizes_of x notes else sizes_of x notes) ≡ sizes_of x notes
+      by_name true = refl
+      by_name false = refl
+
+  pub spared_names : SameNames (λ u. Other) Clear (one_unit (spare_note spare ∷ notes)) (one_unit notes)
+  spared_names = record {
+    find = λ u x used. refl;
+    header = λ u. refl;
+    sizes = λ u x used. same_sizes x;
+    kinds = λ u x used. ap (λ v. kind_by (if v || false then Integer else type_in x notes (by_letter x))) (not_same x used);
+    formats = λ u m. refl;
+    extents = λ u x o fair. same_sizes x;
+  }
+
+  pub spared_scope : NamesOfNotes Other notes → IsScope (λ u. Other) Clear (one_unit notes)
+  spared_scope h = record {
+    own = λ u x used. used;
+    further = λ u x o n fair. fair;
+    lent = λ c. tt;
+    callee = λ u x v used e. absurd (none_found e);
+    dimensions = λ u x used. in_notes Other x notes h;
+  }
+    where
+      IsThere : Option ℕ → Type 0
+      IsThere None = ⊥
+      IsThere (Some m) = ⊤
+
+      none_found : {n : ℕ} → None ≡ Some n → ⊥
+      none_found e = subst IsThere (sym e) tt
+
+  abbrev pub with_spare : (code : List Line) → NamesOfNotes Other notes → Lowering
+  with_spare code h = record {
+    target = one_unit (spare_note spare ∷ notes);
+    source = one_unit notes;
+    code = code;
+    unit = 0;
+    spot = list_number (0 ∷ spare);
+    K = λ u. Other;
+    Fair = Clear;
+    scope = spared_scope h;
+    same = spared_names;
+    numbers = λ u x o. refl;
+    apart = λ u x o fair e. fair (ap tail_of (same_list (o ∷ x) (0 ∷ spare) e));
+    alone = λ u x used. refl;
+    main = refl;
+  }
+
+  pub holds_value : (code : List Line) (h : NamesOfNotes Other notes) → HoldsValue (with_spare code h) spare
+  holds_value code h = record {
+    own = refl;
+    kind = ap (λ v. kind_by (if v || false then Integer else type_in spare notes (by_letter spare))) itself;
+    number = refl;
+  }

@@ -1,0 +1,187 @@
+-- What each production of Ratfor makes of its parts weighs no more than they do, with three for each of its terminals.
+use Rattle.std.proofs.Common.{◌≡◌, ◌≤◌, ℕ, zero, suc, ◌+◌, arith, List, [], ◌∷◌, Option, Some, None, refl}
+use Rattle.ground.specs.declared.token.Token.{Token}
+use Rattle.grammar.specs.declared.language.Symbol.{Symbol}
+use Rattle.grammar.specs.declared.language.Symbol.TheVariants.{Terminal, Nonterminal}
+use Rattle.rat_parse_table.specs.declared.table.Terminal.{Terminal as ATerminal}
+use Rattle.rat_parse_table.specs.declared.table.Nonterminal.{Nonterminal as ANonterminal}
+use Rattle.rat_parse_table.specs.declared.table.Nonterminal.TheVariants as nonterminals
+use Rattle.rat_parse_table.specs.declared.table.Production.{Production}
+use Rattle.rat_parse_table.specs.declared.table.Production.TheVariants as productions
+use Rattle.rat_parse_table.specs.Table.{symbols, nonterminal_of}
+use Rattle.rat_parse_values.specs.Kinds as part
+use Rattle.rat_parse_values.specs.Values.{Val, last_of, others, at, tok}
+use Rattle.rat_parse_values.specs.Values as val
+use Rattle.rat_parse_values.specs.Parts.{place_in, name_in, number_in, count_or_one, integer_in, as_exprs, as_joins, as_declareds, as_entries, as_statements, as_clauses, as_formula, as_par, as_command}
+use Rattle.f66_tree.specs.Syntax.{Text, Formula, Int}
+use Rattle.f66_tree.specs.Views.{listed}
+use Rattle.rat_parse_expressions.specs.Phrases as operators
+use Rattle.rat_parse_plain.specs.Plain.{counted}
+use Rattle.rat_parse_control.specs.Statements.{labelled_value}
+use Rattle.rat_parse.specs.Build.{build}
+use Rattle.rat_parse.specs.Ratfor.{grammar}
+use Rattle.rat_room.proofs.Weights.{total, of_formula, weight}
+use Rattle.rat_room.proofs.TreeWeights.{Each, Pays}
+use Rattle.rat_room.proofs.PartWeights as parts
+use Rattle.rat_room.proofs.PartWeights.{IsEven}
+use Rattle.rat_room.proofs.PhraseWeights as made
+
+-- what a symbol pays: three for a terminal, and for a name or a number
+abbrev pub credit : Symbol ATerminal ANonterminal → ℕ
+credit (Terminal t) = 3
+credit (Nonterminal nonterminals.AnyName) = 3
+credit (Nonterminal nonterminals.AnyNumber) = 3
+credit (Nonterminal _) = 0
+
+first_weighs : (vs : List Val) → weight (last_of vs) + total weight (others vs) ≡ total weight vs
+first_weighs [] = refl
+first_weighs (v ∷ vs) = refl
+
+-- no production has more than nine parts
+nine : (vs : List Val) →
+    weight (at 0 vs) + (weight (at 1 vs) + (weight (at 2 vs) + (weight (at 3 vs) + (weight (at 4 vs) + (weight (at 5 vs) + (weight (at 6 vs) + (weight (at 7 vs) + weight (at 8 vs)))))))) ≤ total weight vs
+nine vs =
+    let a : List Val = others vs in
+    let b : List Val = others a in
+    let c : List Val = others b in
+    let d : List Val = others c in
+    let e : List Val = others d in
+    let f : List Val = others e in
+    let g : List Val = others f in
+    let h : List Val = others g in
+    omega (arith, first_weighs vs, first_weighs a, first_weighs b, first_weighs c, first_weighs d, first_weighs e, first_weighs f, first_weighs g, first_weighs h)
+
+even_at : (n : ℕ) (vs : List Val) → Each IsEven vs → IsEven (at n vs)
+even_at zero [] e = tt
+even_at zero (v ∷ vs) e = e.0
+even_at (suc n) [] e = even_at n [] tt
+even_at (suc n) (v ∷ vs) e = even_at n vs e.1
+
+-- operands with the operators behind the first
+joined : (vs : List Val) → of_formula (operators.joined (as_formula (at 1 vs)) (as_joins (at 0 vs))) ≤ weight (at 1 vs) + weight (at 0 vs)
+joined vs = omega (arith, made.joined_weighs (as_formula (at 1 vs)) (as_joins (at 0 vs)), parts.formula_weighs (at 1 vs), parts.joins_weigh (at 0 vs))
+
+weighs : (p : Production) (vs : List Val) → Each IsEven vs →
+    weight (build p vs) + credit (Nonterminal (nonterminal_of p)) ≤ total weight vs + total credit (symbols p)
+weighs productions.HeadedUnit vs e = omega (arith, nine vs, parts.statements_weigh (at 0 vs))
+weighs productions.TypedUnit vs e = omega (arith, nine vs, made.typed_unit_weighs (at 3 vs) (at 2 vs) (as_statements (at 0 vs)), parts.statements_weigh (at 0 vs))
+weighs productions.MarkedMain vs e =
+    omega (arith, nine vs, made.labelled_weighs (number_in (at 2 vs)) (at 1 vs), parts.command_weighs (labelled_value (number_in (at 2 vs)) (at 1 vs)), parts.statements_weigh (at 0 vs))
+weighs productions.PlainMain vs e = omega (arith, nine vs, parts.command_weighs (at 1 vs), parts.statements_weigh (at 0 vs))
+weighs productions.BodyMore vs e = omega (arith, nine vs, parts.command_weighs (at 1 vs), parts.statements_weigh (at 0 vs))
+weighs productions.StatementsMore vs e = omega (arith, nine vs, parts.command_weighs (at 1 vs), parts.statements_weigh (at 0 vs))
+weighs productions.Marked vs e = omega (arith, nine vs, made.labelled_weighs (number_in (at 1 vs)) (at 0 vs))
+weighs productions.TypedBare vs e = omega (arith, nine vs, made.declares_weighs (at 2 vs) (at 1 vs))
+weighs productions.Braces vs e = omega (arith, nine vs, parts.statements_weigh (at 1 vs))
+weighs productions.IfStatement vs e =
+    omega (arith, nine vs, parts.formula_weighs (at 2 vs), parts.command_weighs (at 1 vs), made.conditional_weighs (place_in (at 3 vs)) (as_formula (at 2 vs)) (as_command (at 1 vs)) (at 0 vs))
+weighs productions.WhileStatement vs e = omega (arith, nine vs, parts.formula_weighs (at 1 vs), parts.command_weighs (at 0 vs))
+weighs productions.ForStatement vs e =
+    omega (arith, nine vs, parts.act_if_any_weighs (at 6 vs), parts.formula_if_any_weighs (at 4 vs), parts.act_if_any_weighs (at 2 vs), parts.command_weighs (at 0 vs))
+weighs productions.RepeatStatement vs e = omega (arith, nine vs, parts.command_weighs (at 1 vs), made.repetition_weighs (place_in (at 2 vs)) (as_command (at 1 vs)) (at 0 vs))
+weighs productions.DoStatement vs e = omega (arith, nine vs, parts.range_weighs (at 1 vs), parts.command_weighs (at 0 vs))
+weighs productions.SwitchStatement vs e = omega (arith, nine vs, parts.formula_weighs (at 5 vs), parts.clauses_weigh (at 1 vs))
+weighs productions.LeaveStatement vs e = omega (arith, nine vs, made.left_weighs (at 2 vs) (place_in (at 2 vs)) (count_or_one (at 1 vs)))
+weighs productions.PlainStatement vs e = omega (arith, nine vs, parts.act_weighs (at 1 vs))
+weighs productions.UntilTest vs e = omega (arith, nine vs, parts.formula_weighs (at 1 vs))
+weighs productions.MoreClauses vs e = omega (arith, nine vs, parts.clauses_weigh (at 0 vs), parts.with_clause_weighs (at 1 vs) (as_clauses (at 0 vs)) (even_at 1 vs e))
+weighs productions.CaseClause vs e =
+    omega (arith, nine vs, parts.formula_weighs (at 3 vs), parts.exprs_weigh (at 2 vs), parts.chained_weighs (as_exprs (at 2 vs)), parts.statements_weigh (at 0 vs))
+weighs productions.DefaultClause vs e = omega (arith, nine vs, parts.statements_weigh (at 0 vs))
+weighs productions.GoPlain vs e = omega (arith, nine vs, parts.act_weighs (at 0 vs))
+weighs productions.TransferPlain vs e =
+    omega (arith, nine vs, made.transfer_weighs (at 6 vs) (as_par (at 4 vs)) (number_in (at 2 vs)) (listed (as_entries (at 0 vs))), parts.par_weighs (at 4 vs), parts.listed_weighs (as_entries (at 0 vs)), parts.entries_weigh (at 0 vs))
+weighs productions.DimensionPlain vs e = omega (arith, nine vs, parts.declareds_weigh (at 0 vs))
+weighs productions.Assignment vs e = omega (arith, nine vs, parts.formula_weighs (at 2 vs), parts.formula_weighs (at 0 vs))
+weighs productions.SomeActuals vs e = omega (arith, nine vs, parts.formula_weighs (at 2 vs), parts.exprs_weigh (at 1 vs))
+weighs productions.MoreActual vs e = omega (arith, nine vs, parts.formula_weighs (at 1 vs), parts.exprs_weigh (at 0 vs))
+weighs productions.Range vs e = omega (arith, nine vs, parts.par_weighs (at 3 vs), parts.par_weighs (at 1 vs), parts.step_weighs (at 0 vs))
+weighs productions.SomeEntries vs e = omega (arith, nine vs, parts.with_entry_weighs (at 1 vs) (as_entries (at 0 vs)), parts.entries_weigh (at 0 vs))
+weighs productions.ItemEntry vs e = omega (arith, nine vs, parts.formula_weighs (at 0 vs))
+weighs productions.MoreEntry vs e = omega (arith, nine vs, parts.with_entry_weighs (at 1 vs) (as_entries (at 0 vs)), parts.entries_weigh (at 0 vs))
+weighs productions.Loop vs e = omega (arith, nine vs, made.looped_weighs (at 2 vs) (at 0 vs))
+weighs productions.LoopLoop vs e = omega (arith, nine vs, made.lengthened_weighs (at 2 vs) (at 0 vs))
+weighs productions.LoopName vs e = omega (arith, nine vs, made.begun_weighs (name_in (at 1 vs)) (at 0 vs))
+weighs productions.LoopElement vs e = omega (arith, nine vs, made.pended_weighs (Some (as_exprs (at 2 vs))) (at 0 vs), parts.exprs_weigh (at 2 vs))
+weighs productions.LoopScalar vs e = omega (arith, nine vs, made.pended_weighs None (at 0 vs))
+weighs productions.DeclaredList vs e = omega (arith, nine vs, parts.with_declared_weighs (at 1 vs) (as_declareds (at 0 vs)), parts.declareds_weigh (at 0 vs))
+weighs productions.MoreDeclared vs e = omega (arith, nine vs, parts.with_declared_weighs (at 1 vs) (as_declareds (at 0 vs)), parts.declareds_weigh (at 0 vs))
+weighs productions.Declared vs e = omega (arith, nine vs, parts.pars_weigh (at 0 vs))
+weighs productions.SomeSizes vs e = omega (arith, nine vs, parts.par_weighs (at 2 vs), parts.pars_weigh (at 1 vs))
+weighs productions.MorePar vs e = omega (arith, nine vs, parts.par_weighs (at 1 vs), parts.pars_weigh (at 0 vs))
+weighs productions.Alias vs e = omega (arith, nine vs, parts.formula_weighs (at 4 vs), parts.formula_weighs (at 2 vs), parts.exprs_weigh (at 1 vs))
+weighs productions.MoreRef vs e = omega (arith, nine vs, parts.formula_weighs (at 1 vs), parts.exprs_weigh (at 0 vs))
+weighs productions.NumberDatum vs e = omega (arith, nine vs, made.counted_weighs (at 1 vs) (at 0 vs))
+weighs productions.SignedNumber vs e = omega (arith, nine vs, made.signed_weighs (at 1 vs) (Int (integer_in (at 0 vs))))
+weighs productions.Expr vs e = omega (arith, nine vs, joined vs)
+weighs productions.OrMore vs e = omega (arith, nine vs, parts.formula_weighs (at 1 vs), parts.joins_weigh (at 0 vs))
+weighs productions.Conjunction vs e = omega (arith, nine vs, joined vs)
+weighs productions.AndMore vs e = omega (arith, nine vs, parts.formula_weighs (at 1 vs), parts.joins_weigh (at 0 vs))
+weighs productions.Negated vs e = omega (arith, nine vs, parts.formula_weighs (at 0 vs))
+weighs productions.Relational vs e = omega (arith, nine vs, joined vs)
+weighs productions.Compared vs e = omega (arith, nine vs, parts.formula_weighs (at 0 vs))
+weighs productions.Sum vs e = omega (arith, nine vs, joined vs)
+weighs productions.SignedTerm vs e = omega (arith, nine vs, made.signed_weighs (at 1 vs) (as_formula (at 0 vs)), parts.formula_weighs (at 0 vs))
+weighs productions.SumMore vs e = omega (arith, nine vs, parts.formula_weighs (at 1 vs), parts.joins_weigh (at 0 vs))
+weighs productions.Term vs e = omega (arith, nine vs, joined vs)
+weighs productions.TimesMore vs e = omega (arith, nine vs, parts.formula_weighs (at 1 vs), parts.joins_weigh (at 0 vs))
+weighs productions.OverMore vs e = omega (arith, nine vs, parts.formula_weighs (at 1 vs), parts.joins_weigh (at 0 vs))
+weighs productions.Factor vs e = omega (arith, nine vs, joined vs)
+weighs productions.Raised vs e = omega (arith, nine vs, parts.formula_weighs (at 0 vs))
+weighs productions.GroupPrime vs e = omega (arith, nine vs, parts.formula_weighs (at 1 vs))
+weighs productions.Ref vs e = omega (arith, nine vs, made.applied_weighs (name_in (at 1 vs)) (at 0 vs))
+weighs productions.Subscripts vs e = omega (arith, nine vs, parts.formula_weighs (at 2 vs), parts.exprs_weigh (at 1 vs))
+weighs productions.MoreExpr vs e = omega (arith, nine vs, parts.formula_weighs (at 1 vs), parts.exprs_weigh (at 0 vs))
+weighs _ vs e = omega (arith, nine vs)
+
+-- ---- clauses ----
+
+labelled_even : (n : ℕ) (v : Val) → IsEven v → IsEven (labelled_value n v)
+labelled_even n (val.statement (part.command p c)) h = tt
+labelled_even n _ h = h
+
+looped_even : (v w : Val) → IsEven (operators.looped v w)
+looped_even v (val.transfer (part.rest r)) = tt
+looped_even v _ = tt
+
+lengthened_even : (v w : Val) → IsEven (operators.lengthened v w)
+lengthened_even v (val.transfer (part.rest r)) = tt
+lengthened_even v _ = tt
+
+pended_even : (args : Option (List Formula)) (v : Val) → IsEven (operators.pended args v)
+pended_even args (val.transfer (part.rest r)) = tt
+pended_even args _ = tt
+
+begun_even : (x : Text) (v : Val) → IsEven (operators.begun x v)
+begun_even x (val.parameter (part.range r)) = tt
+begun_even x (val.transfer (part.pending args r)) = tt
+begun_even x _ = tt
+
+counted_even : (n v : Val) → IsEven (counted n v)
+counted_even n (val.expression (part.formula f)) = tt
+counted_even n _ = tt
+
+keeps : (p : Production) (vs : List Val) → Each IsEven vs → IsEven (build p vs)
+keeps productions.CaseClause vs e = λ all. omega arith
+keeps productions.DefaultClause vs e = λ all. omega arith
+keeps productions.Marked vs e = labelled_even (number_in (at 1 vs)) (at 0 vs) (even_at 0 vs e)
+keeps productions.TwoWords vs e = even_at 1 vs e
+keeps productions.Condition vs e = even_at 1 vs e
+keeps productions.GoToWords vs e = even_at 1 vs e
+keeps productions.LoopRange vs e = even_at 1 vs e
+keeps productions.CountedGroup vs e = even_at 1 vs e
+keeps productions.Loop vs e = looped_even (at 2 vs) (at 0 vs)
+keeps productions.LoopLoop vs e = lengthened_even (at 2 vs) (at 0 vs)
+keeps productions.LoopName vs e = begun_even (name_in (at 1 vs)) (at 0 vs)
+keeps productions.LoopElement vs e = pended_even (Some (as_exprs (at 2 vs))) (at 0 vs)
+keeps productions.LoopScalar vs e = pended_even None (at 0 vs)
+keeps productions.NumberDatum vs e = counted_even (at 1 vs) (at 0 vs)
+keeps _ vs e = assumption (even_at 0 vs e)
+
+-- ---- each production and each token ----
+
+pub pays : (p : Production) (vs : List Val) → Each IsEven vs → Pays grammar weight credit IsEven p vs
+pays p vs e = record { weighs = weighs p vs e; keeps = keeps p vs e }
+
+pub token : (t : Token) → (weight (tok t) + credit (Terminal (grammar.terminal_of t)) ≤ 3) × IsEven (tok t)
+token t = (omega arith, tt)
