@@ -1,21 +1,25 @@
 //! The program: it hands the words, the files and the streams to the one call, and ends with its code.
 #![tactic(auto)]
 
-use eft_top::eft;
-use ports::{FileLibrary, StreamSink, StreamSource};
+use eft_top::{Status, eft};
+use ports::{FileLibrary, Sink, StreamSink, StreamSource};
 use std::process::ExitCode;
 use std::{env, io};
 
 fn main(rt: HostRuntime) -> ExitCode {
-    // A word that isn't text fits no command.
+    let mut diag = StreamSink::new(rt.stderr());
     let words = match words(&rt) {
         Ok(words) => words,
+        Err(error) if error.kind() == io::ErrorKind::OutOfMemory => {
+            let _ = diag.put(b"out of memory\n");
+            return ExitCode::from(Status::Memory.code());
+        }
+        // A word that isn't text fits no command.
         Err(_) => Vec::new(rt.alloc()),
     };
     let mut library = FileLibrary::new(&rt);
     let mut input = StreamSource::new(rt.stdin());
     let mut out = StreamSink::new(rt.stdout());
-    let mut diag = StreamSink::new(rt.stderr());
     let status = eft(
         rt.alloc(),
         &words,

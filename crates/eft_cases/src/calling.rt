@@ -1,31 +1,22 @@
 // Calls of `eft` over objects in memory, and what they must show.
 
 use crate::eft_in_memory;
-use ports::{MemLibrary, MemSink, MemSource};
+use ports::{Library, MemLibrary, MemSink, MemSource, Sink, Source};
 use std::alloc::{AllocError, Global};
 use std::process::Abort;
 use std::test::Fail;
 
-/// A call of `eft`: its words, the texts by their names, the pieces of its input, and which fetch, put on out, put on diag and
-/// read fail; 0 is none.
-#[derive(Drop)]
-pub struct Call<'a> {
-    pub words: &'a [&'a str],
-    pub texts: &'a [(&'a str, &'a [u8])],
-    pub input: &'a [&'a [u8]],
-    pub failing: (u64, u64, u64, u64),
-}
+/// Texts by their names, the first of which is run.
+pub type Texts<'a> = &'a [(&'a str, &'a [u8])];
+
+/// The pieces of an input, one for each read.
+pub type Pieces<'a> = &'a [&'a [u8]];
+
+/// Which fetch, put on out, put on diag and read fail; 0 is none.
+pub type Failing = (u64, u64, u64, u64);
 
 /// The exit code, and what out and diag have.
-#[derive(Drop)]
-pub struct Wanted<'a> {
-    pub code: u8,
-    pub out: &'a str,
-    pub diag: &'a str,
-}
-
-/// The words that run the text p.r.
-pub const RUN: [&str; 3] = ["run", "ratfor", "p.r"];
+pub type Shown<'a> = (u8, &'a str, &'a str);
 
 fn failing(alloc: Global, call: u64) -> Result<Vec<u64>, Fail> {
     let mut calls = Vec::new(alloc);
@@ -36,7 +27,7 @@ fn failing(alloc: Global, call: u64) -> Result<Vec<u64>, Fail> {
 }
 
 /// A library of these texts, of whose fetches one fails.
-pub fn library_of(alloc: Global, texts: &[(&str, &[u8])], fetch: u64) -> Result<MemLibrary, Fail> {
+fn library_of(alloc: Global, texts: Texts<'_>, fetch: u64) -> Result<MemLibrary, Fail> {
     let mut names = Vec::new(alloc);
     for (name, text) in texts {
         names.push((String::from_str(alloc, name)?, text.to_vec(alloc)?))?;
@@ -46,7 +37,7 @@ pub fn library_of(alloc: Global, texts: &[(&str, &[u8])], fetch: u64) -> Result<
 
 /// A source of these pieces, of whose reads one fails. A piece without bytes is left out.
 #[tactic(auto, using(crate::proofs::PieceLemmas::full_more))]
-fn source_of(alloc: Global, pieces: &[&[u8]], read: u64) -> Result<MemSource, Fail> {
+fn source_of(alloc: Global, pieces: Pieces<'_>, read: u64) -> Result<MemSource, Fail> {
     let mut full = Vec::new(alloc);
     for piece in pieces {
         if !piece.is_empty() {
@@ -54,6 +45,16 @@ fn source_of(alloc: Global, pieces: &[&[u8]], read: u64) -> Result<MemSource, Fa
         }
     }
     Ok(MemSource::new(full, failing(alloc, read)?))
+}
+
+/// The words that run the first of these texts.
+fn words_of(alloc: Global, texts: Texts<'_>) -> Result<Vec<String>, Fail> {
+    let (name, _) = texts.first().ok_or("no text")?;
+    let mut words = Vec::new(alloc);
+    words.push(String::from_str(alloc, "run")?)?;
+    words.push(String::from_str(alloc, "ratfor")?)?;
+    words.push(String::from_str(alloc, name)?)?;
+    Ok(words)
 }
 
 /// Bytes as characters.
@@ -65,86 +66,61 @@ fn shown(alloc: Global, bytes: &[u8]) -> Result<String, AllocError> {
     Ok(shown)
 }
 
-/// The first 200 bytes of the first text, as characters.
-fn beginning(alloc: Global, texts: &[(&str, &[u8])]) -> Result<String, AllocError> {
-    let mut shown = String::new(alloc);
-    let Some((_, text)) = texts.first() else {
-        return Ok(shown);
-    };
-    for byte in text.iter().take(200) {
-        shown.push(*byte as char)?;
+/// Whether the counts of faults rose exactly where an exit code tells one. A read that fails is counted though nothing is wanted.
+fn is_counted(
+    code: u8,
+    library: &MemLibrary,
+    input: &MemSource,
+    out: &MemSink,
+    diag: &MemSink,
+) -> bool {
+    let fetched = library.faults() == 0;
+    let put = out.faults() == 0 && diag.faults() == 0;
+    match code {
+        4 => !fetched && put,
+        5 => fetched && put && input.faults() != 0,
+        6 => !put,
+        _ => fetched && put,
     }
-    Ok(shown)
 }
 
-/// A call shows what is wanted.
+/// A run of the first of these texts, with so much room on out, shows what is wanted.
 pub fn expect(
     rt: &impl Abort,
     alloc: Global,
-    call: Call<'_>,
-    wanted: Wanted<'_>,
+    texts: Texts<'_>,
+    pieces: Pieces<'_>,
+    failures: Failing,
+    room: usize,
+    wanted: Shown<'_>,
 ) -> Result<(), Fail> {
-    let (fetch, put, line, read) = call.failing;
-    let mut library = library_of(alloc, call.texts, fetch)?;
-    let mut input = source_of(alloc, call.input, read)?;
-    let mut out = MemSink::new(alloc, 4096, failing(alloc, put)?).map_err(|_| "want of memory")?;
+    let (fetch, put, line, read) = failures;
+    let words = words_of(alloc, texts)?;
+    let mut library = library_of(alloc, texts, fetch)?;
+    let mut input = source_of(alloc, pieces, read)?;
+    let mut out = MemSink::new(alloc, room, failing(alloc, put)?).map_err(|_| "want of memory")?;
     let mut diag = MemSink::new(alloc, 256, failing(alloc, line)?).map_err(|_| "want of memory")?;
-    let mut words = Vec::new(alloc);
-    for word in call.words {
-        words.push(String::from_str(alloc, word)?)?;
-    }
     let status = eft_in_memory(alloc, &words, &mut library, &mut input, &mut out, &mut diag);
     let told = shown(alloc, diag.bytes())?;
     let records = shown(alloc, out.bytes())?;
-    let text = beginning(alloc, call.texts)?;
-    assert_eq!(rt; told.as_str(), wanted.diag, "of {text}");
-    assert_eq!(rt; records.as_str(), wanted.out, "of {text}");
-    assert_eq!(rt; status.code(), wanted.code, "of {text}");
+    let (code, wanted_out, wanted_diag) = wanted;
+    assert_eq!(rt; told.as_str(), wanted_diag);
+    assert_eq!(rt; records.as_str(), wanted_out);
+    assert_eq!(rt; status.code(), code);
+    let counted = is_counted(code, &library, &input, &out, &diag);
+    assert!(rt; counted);
     Ok(())
 }
 
-/// The run of a text shows what is wanted.
-pub fn expect_text(
+/// Runs of one text over inputs and with calls that fail show what is wanted.
+pub fn expect_all(
     rt: &impl Abort,
     alloc: Global,
-    text: &[u8],
-    code: u8,
-    out: &str,
-    diag: &str,
+    texts: Texts<'_>,
+    rows: &[(Pieces<'_>, Failing, Shown<'_>)],
 ) -> Result<(), Fail> {
-    let call = Call {
-        words: &RUN,
-        texts: &[("p.r", text)],
-        input: &[],
-        failing: (0, 0, 0, 0),
-    };
-    expect(rt, alloc, call, Wanted { code, out, diag })
-}
-
-/// Texts, to each of which a line `end` is added, with their codes, records and lines.
-pub fn expect_runs(
-    rt: &impl Abort,
-    alloc: Global,
-    rows: &[(&str, u8, &str, &str)],
-) -> Result<(), Fail> {
-    for (body, code, out, diag) in rows {
-        let text = format!(in alloc; "{body}\nend\n")?;
-        expect_text(rt, alloc, text.as_bytes(), *code, out, diag)?;
-    }
-    Ok(())
-}
-
-/// Texts, to each of which a line `end` is added, with the lines at which they have this fault.
-pub fn expect_faults(
-    rt: &impl Abort,
-    alloc: Global,
-    fault: &str,
-    rows: &[(u32, &str)],
-) -> Result<(), Fail> {
-    for (line, body) in rows {
-        let text = format!(in alloc; "{body}\nend\n")?;
-        let diag = format!(in alloc; "fault {fault} at p.r:{line}\n")?;
-        expect_text(rt, alloc, text.as_bytes(), 3, "", diag.as_str())?;
+    for (pieces, failures, wanted) in rows {
+        expect(rt, alloc, texts, pieces, *failures, 4096, *wanted)?;
     }
     Ok(())
 }

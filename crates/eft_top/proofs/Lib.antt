@@ -1,5 +1,8 @@
 -- The lemmas of eft_top.
+mod ReadWords
 mod Statuses
 mod StepNumbers
 mod ReadsInARow
+mod Puts
 mod Reports
+mod Runs

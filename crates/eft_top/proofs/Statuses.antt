@@ -1,26 +1,47 @@
 -- From what came of a call to the clauses of the top call.
 use Rattle.std.proofs.Common.{◌≡◌, ℕ, Bool, true, false, ◌&&◌, if◌then◌else◌, List, [], ◌∷◌, ◌⊎◌, inl, inr, refl, sym, ◌∙◌, ap, subst, Some, None}
 use Rattle.std.specs.declared.option.Option.{Option}
+use Rattle.ports.specs.Records.{output_bytes}
 use Rattle.ground.specs.declared.trap.Trap.{Trap}
 use Rattle.ground.specs.declared.trap.Trap.TheVariants.{EndOfInput}
 use Rattle.f66_tree.specs.World.{End, Ended, GoesOn, Lost, Done, Stopped, Trapped, Wrong}
 use Rattle.macro_define.specs.Answers.{Known, Holds}
-use Rattle.rat_front.specs.Verdict.{Verdict, Refuses, Accepts}
+use Rattle.rat_front.specs.Verdict.{Meaning, Verdict, Refuses, Accepts}
 use Rattle.rat_front.proofs.OneVerdict.{one_verdict}
 use Rattle.eft_top.specs.declared.status.Status.{Status}
-use Rattle.eft_top.specs.declared.status.Status.TheVariants.{SourceFault, LibraryFault, InputFault, OutputFault, Memory, Trapped as IsTrapped}
-use Rattle.rat_tree.specs.Syntax.{Commands}
-use Rattle.eft_top.specs.Words.{Command, Run}
+use Rattle.eft_top.specs.declared.status.Status.TheVariants.{Usage, SourceFault, LibraryFault, InputFault, OutputFault, Memory, Trapped as IsTrapped}
+use Rattle.eft_top.specs.declared.report.Report.{Report}
+use Rattle.eft_top.specs.Words.{Command, Run, AskNothing}
 use Rattle.eft_top.specs.Input.{Got, is_too_long}
-use Rattle.eft_top.specs.Outcome.{Outcome, RunsIn, ComesOf, is_end_of_input, trap_status, IsOutcomeOf, IsOutcome, IfAsked, status_of, end_status}
+use Rattle.eft_top.specs.Outcome.{Outcome, HasFault, HasLongInput, Runs, RunsIn, ComesOf, is_end_of_input, trap_status, IsOutcomeOf, IsOutcomeBy, status_of, end_status}
 use Rattle.eft_top.specs.Lines.{output_fault_line}
-use Rattle.eft_top.specs.Causes.{Comes, MayBe, MustBe, IsOfText, IsShown, ForOut, ForDiag}
-use Rattle.eft_top.specs.Story.{Story, Came, BadWords, NotFetched, NoMemory, Shows}
-
--- ---- a fault comes alone ----
+use Rattle.eft_top.specs.Causes.{IsOneOf, Comes, MayBe, MustBe, Compels, IsOfText, IsShown, IfTold, AnswersCall, WasToShow}
+use Rattle.eft_top.specs.Report.{IsReport, line_bytes}
+use Rattle.eft_top.specs.Story.{CameOf, NotFetched, NoMemory, Shows, Came, BadWords, Asked}
 
 some_injective : {a b : Status} → Some a ≡ Some b → a ≡ b
 some_injective e = cc
+
+-- ---- the status of an outcome is that of a text ----
+
+of_text_by : (lacks : Bool) (trap : Trap) → IsOfText (if lacks then InputFault else IsTrapped trap)
+of_text_by true trap = tt
+of_text_by false trap = tt
+
+end_of_text : (failed : Bool) (end : End) (s : Status) → Some s ≡ end_status failed end → IsOfText s
+end_of_text failed (Ended Done) s e = subst IsOfText (sym (some_injective e)) tt
+end_of_text failed (Ended (Stopped n)) s e = subst IsOfText (sym (some_injective e)) tt
+end_of_text failed (Ended (Trapped trap place)) s e = subst IsOfText (sym (some_injective e)) (of_text_by (failed && is_end_of_input trap) trap)
+end_of_text failed (Ended Wrong) s e = absurd (let f = e in cc)
+end_of_text failed GoesOn s e = subst IsOfText (sym (some_injective e)) tt
+end_of_text failed Lost s e = absurd (let f = e in cc)
+
+outcome_of_text : (o : Outcome) (s : Status) → Some s ≡ status_of o → IsOfText s
+outcome_of_text (HasFault fault file) s e = subst IsOfText (sym (some_injective e)) tt
+outcome_of_text HasLongInput s e = subst IsOfText (sym (some_injective e)) tt
+outcome_of_text (Runs files limit failed run) s e = end_of_text failed run.end s e
+
+-- ---- a fault comes alone ----
 
 trap_is_no_fault : (lacks : Bool) (trap : Trap) → (if lacks then InputFault else IsTrapped trap) ≡ SourceFault → ⊥
 trap_is_no_fault true trap e = cc
@@ -34,76 +55,112 @@ no_run_is_faulty failed (Ended Wrong) e = cc
 no_run_is_faulty failed GoesOn e = cc
 no_run_is_faulty failed Lost e = cc
 
-no_run_over_is_faulty : (files : List (List ℕ)) (body : Commands) (limit : ℕ) (got : Got) (o : Outcome) (long : Bool) → RunsIn long files body limit got o → status_of o ≡ Some SourceFault → ⊥
-no_run_over_is_faulty files body limit got o true over e = absurd (let f = ap status_of (sym over) ∙ e in cc)
-no_run_over_is_faulty files body limit got o false over e = no_run_is_faulty got.failed over.0.end (ap status_of (sym over.2) ∙ e)
+no_run_over_is_faulty : (files : List (List ℕ)) (meaning : Meaning) (limit : ℕ) (got : Got) (o : Outcome) (long : Bool) → RunsIn long files meaning limit got o → status_of o ≡ Some SourceFault → ⊥
+no_run_over_is_faulty files meaning limit got o true over e = absurd (let f = ap status_of (sym over) ∙ e in cc)
+no_run_over_is_faulty files meaning limit got o false over e = no_run_is_faulty got.failed over.0.end (ap status_of (sym over.2) ∙ e)
 
 faulty_of : (verdict : Verdict) (limit : ℕ) (given : Got → Type 0) (one other : Outcome) → ComesOf verdict limit given one → ComesOf verdict limit given other → status_of other ≡ Some SourceFault → status_of one ≡ Some SourceFault
 faulty_of (Refuses fault file) limit given one other h k e = ap status_of h
-faulty_of (Accepts files body) limit given one other h k e = absurd (no_run_over_is_faulty files body limit k.0 other (is_too_long k.0) k.2 e)
+faulty_of (Accepts files meaning) limit given one other h k e = absurd (no_run_over_is_faulty files meaning limit k.0 other (is_too_long k.0) k.2 e)
 
-pub faulty_too : (command : Command) (known : Known) (given : Got → Type 0) (one other : Outcome) → IsOutcomeOf command known given one → IsOutcomeOf command known given other → status_of other ≡ Some SourceFault → status_of one ≡ Some SourceFault
+faulty_too : (command : Command) (known : Known) (given : Got → Type 0) (one other : Outcome) → IsOutcomeOf command known given one → IsOutcomeOf command known given other → status_of other ≡ Some SourceFault → status_of one ≡ Some SourceFault
 faulty_too (Run limit file) known given one other h k e =
     let same : k.0 ≡ h.0 = one_verdict file known k.0 h.0 k.1 h.1 in
     faulty_of h.0 limit given one other h.2 (subst (λ v. ComesOf v limit given other) same k.2) e
 
--- ---- when a status comes ----
+compelled : (command : Command) (known : Known) (given : Got → Type 0) (o : Outcome) → IsOutcomeOf command known given o → (status : Status) → Compels (IsOutcomeOf command known given) status → status_of o ≡ Some status
+compelled command known given o told SourceFault may = faulty_too command known given o may.0 told may.1 may.2
+compelled command known given o told status must = must o told
 
-module _ (before now : ℕ) (given : Got → Type 0) (status result : Status) (out line : List ℕ) (put : (result ≡ status) ⊎ (result ≡ OutputFault)) where
-  shown_only : (wanted : Status) → (wanted ≡ OutputFault → ⊥) → (o : Outcome) → Some status ≡ status_of o → result ≡ wanted → status_of o ≡ Some wanted
-  shown_only wanted other o is e = elim put [
-    | inl same ↦ sym is ∙ ap Some (sym same ∙ e)
-    | inr failed ↦ absurd (other (sym e ∙ failed))
+-- ---- what a call answers ----
+
+module _ (asks : Command → Type 0) (alone : (a b : Command) → asks a → asks b → a ≡ b) (files : Option (List ℕ → Option (List ℕ))) (before now : ℕ) (given : Got → Type 0) (report : Report) (result : Status) (put : (result ≡ report.status) ⊎ (result ≡ OutputFault)) where
+  -- a status that is none of a text, before its puts and after them
+  no_text : (some : Status) → report.status ≡ some → (IsOfText some → ⊥) → IsOfText result → ⊥
+  no_text some is other text = elim put [
+    | inl same ↦ other (subst IsOfText (same ∙ is) text)
+    | inr failed ↦ subst IsOfText failed text
   ]
 
-  never : (wanted some : Status) → status ≡ some → (wanted ≡ some → ⊥) → (wanted ≡ OutputFault → ⊥) → result ≡ wanted → ⊥
-  never wanted some is this other e = elim put [ inl same ↦ this (sym e ∙ (same ∙ is)) | inr failed ↦ other (sym e ∙ failed) ]
+  -- and what it then is
+  or_failed : (some : Status) → report.status ≡ some → (result ≡ some) ⊎ (result ≡ OutputFault)
+  or_failed some is = elim put [ inl same ↦ inl (same ∙ is) | inr failed ↦ inr failed ]
 
-  module _ (wanted : Status) (Q : (Outcome → Type 0) → Type 0) (not_output : wanted ≡ OutputFault → ⊥) (not_library : wanted ≡ LibraryFault → ⊥) (not_memory : wanted ≡ Memory → ⊥) where
-    comes_told : (command : Command) → (held : List ℕ → Option (List ℕ)) →
-        ((o : Outcome) → IsOutcomeOf command (Holds held) given o → Q (IsOutcomeOf command (Holds held) given) → status_of o ≡ Some wanted) →
-        (story : Story) → Came story (Some command) (Some held) before now given status out line →
-        Comes result wanted (MayBe (IsOutcomeOf command (Holds held) given) wanted) (Q (IsOutcomeOf command (Holds held) given)) (LibraryFault ∷ OutputFault ∷ Memory ∷ [])
-    comes_told command held must BadWords came = absurd (let e = came.0 in cc)
-    comes_told command held must NotFetched came = record {
-      only = λ e. absurd (never wanted LibraryFault came.2 not_library not_output e);
-      wherever = λ q. elim put [ inl same ↦ inr (inl (same ∙ came.2)) | inr failed ↦ inr (inr (inl failed)) ];
+  not_usage : (command : Command) → asks command → CameOf command files before now given report → result ≡ Usage → ⊥
+  not_usage command asked (NotFetched rose says) e = elim (or_failed LibraryFault says.status) [ inl a ↦ (let b = sym e ∙ a in cc) | inr a ↦ (let b = sym e ∙ a in cc) ]
+  not_usage command asked (NoMemory says) e = elim (or_failed Memory says.status) [ inl a ↦ (let b = sym e ∙ a in cc) | inr a ↦ (let b = sym e ∙ a in cc) ]
+  not_usage command asked (Shows o is same shows) e = elim put [
+    | inl a ↦ subst IsOfText (sym a ∙ e) (outcome_of_text o report.status shows.status)
+    | inr a ↦ (let b = sym e ∙ a in cc)
+  ]
+
+  usage_comes : Came asks files before now given report → Comes result Usage (AskNothing asks) (AskNothing asks) (OutputFault ∷ [])
+  usage_comes (BadWords none says) = record { only = λ e. none; wherever = λ q. elim (or_failed Usage says.status) [ inl a ↦ inl a | inr a ↦ inr (inl a) ] }
+  usage_comes (Asked command asked came) = record { only = λ e. absurd (not_usage command asked came e); wherever = λ none. absurd (none command asked) }
+
+  module _ (command : Command) (held : List ℕ → Option (List ℕ)) (status : Status) (text : IsOfText status) where
+    abbrev told : Outcome → Type 0
+    told = IsOutcomeOf command (Holds held) given
+
+    status_shown : (o : Outcome) → told o → IsReport report o → Comes result status (MayBe told status) (Compels told status) (LibraryFault ∷ OutputFault ∷ Memory ∷ [])
+    status_shown o is shows = record {
+      only = λ e. (
+        o,
+        is,
+        elim put [
+          | inl same ↦ sym shows.status ∙ ap Some (sym same ∙ e)
+          | inr failed ↦ absurd (subst IsOfText (sym e ∙ failed) text)
+        ],
+      );
+      wherever = λ q. elim put [
+        | inl same ↦ inl (same ∙ some_injective (shows.status ∙ compelled command (Holds held) given o is status q))
+        | inr failed ↦ inr (inr (inl failed))
+      ];
     }
-    comes_told command held must NoMemory came = record {
-      only = λ e. absurd (never wanted Memory came.1 not_memory not_output e);
-      wherever = λ q. elim put [ inl same ↦ inr (inr (inr (inl (same ∙ came.1)))) | inr failed ↦ inr (inr (inl failed)) ];
+
+    status_comes : CameOf command (Some held) before now given report → Comes result status (MayBe told status) (Compels told status) (LibraryFault ∷ OutputFault ∷ Memory ∷ [])
+    status_comes (NotFetched rose says) = record {
+      only = λ e. absurd (no_text LibraryFault says.status (λ h. h) (subst IsOfText (sym e) text));
+      wherever = λ q. elim (or_failed LibraryFault says.status) [ inl a ↦ inr (inl a) | inr a ↦ inr (inr (inl a)) ];
     }
-    comes_told command held must (Shows o) came =
-        let told : IsOutcomeOf command (Holds held) given o = subst (λ known. IsOutcomeOf command known given o) came.0.1 came.0.2 in
-        record {
-          only = λ e. (o, told, shown_only wanted not_output o came.2 e);
-          wherever = λ q. elim put [ inl same ↦ inl (same ∙ of_some status wanted (came.2 ∙ must o told q)) | inr failed ↦ inr (inr (inl failed)) ];
-        }
-      where
-        of_some : (a b : Status) → Some a ≡ Some b → a ≡ b
-        of_some a b e = cc
+    status_comes (NoMemory says) = record {
+      only = λ e. absurd (no_text Memory says.status (λ h. h) (subst IsOfText (sym e) text));
+      wherever = λ q. elim (or_failed Memory says.status) [ inl a ↦ inr (inr (inr (inl a))) | inr a ↦ inr (inr (inl a)) ];
+    }
+    status_comes (Shows o is same shows) = status_shown o (subst (λ known. IsOutcomeOf command known given o) is.1 is.2) shows
 
-    pub comes : (command : Option Command) → (files : Option (List ℕ → Option (List ℕ))) →
-        ((c : Command) → (held : List ℕ → Option (List ℕ)) → (o : Outcome) → IsOutcomeOf c (Holds held) given o → Q (IsOutcomeOf c (Holds held) given) → status_of o ≡ Some wanted) →
-        (story : Story) → Came story command files before now given status out line →
-        IfAsked command files given (λ told. Comes result wanted (MayBe told wanted) (Q told) (LibraryFault ∷ OutputFault ∷ Memory ∷ []))
-    comes None files must story came = tt
-    comes (Some command) None must story came = tt
-    comes (Some command) (Some held) must story came = comes_told command held (must command held) story came
+  statuses_come : (command : Command) → asks command → Came asks files before now given report → (status : Status) → IsOfText status → IfTold files (λ held.
+      Comes result status (MayBe (IsOutcomeOf command (Holds held) given) status) (Compels (IsOutcomeOf command (Holds held) given) status) (LibraryFault ∷ OutputFault ∷ Memory ∷ []))
+  statuses_come command asked (BadWords none says) status text = absurd (none command asked)
+  statuses_come command asked (Asked other too came) status text = by files (subst (λ one. CameOf one files before now given report) (alone other command too asked) came)
+    where
+      by : (library : Option (List ℕ → Option (List ℕ))) → CameOf command library before now given report → IfTold library (λ held.
+          Comes result status (MayBe (IsOutcomeOf command (Holds held) given) status) (Compels (IsOutcomeOf command (Holds held) given) status) (LibraryFault ∷ OutputFault ∷ Memory ∷ []))
+      by None came1 = tt
+      by (Some held) came1 = status_comes command held status text came1
 
-  pub comes_of_run : (wanted : Status) → (wanted ≡ OutputFault → ⊥) → (wanted ≡ LibraryFault → ⊥) → (wanted ≡ Memory → ⊥) →
-      (command : Option Command) → (files : Option (List ℕ → Option (List ℕ))) → (story : Story) → Came story command files before now given status out line →
-      IfAsked command files given (λ told. Comes result wanted (MayBe told wanted) (MustBe told wanted) (LibraryFault ∷ OutputFault ∷ Memory ∷ []))
-  comes_of_run wanted a b c command files story came =
-      comes wanted (λ told. MustBe told wanted) a b c command files (λ one held o told must. must o told) story came
+  module _ (out diag : List ℕ → Type 0) where
+    shown_of : (command : Command) → asks command → CameOf command files before now given report → IsOfText result → out (output_bytes report.records) → diag (line_bytes report.line) → IsShown asks files given result out diag
+    shown_of command asked (NotFetched rose says) text p d = absurd (no_text LibraryFault says.status (λ h. h) text)
+    shown_of command asked (NoMemory says) text p d = absurd (no_text Memory says.status (λ h. h) text)
+    shown_of command asked (Shows o is same shows) text p d = record {
+      outcome = o;
+      is = (command, asked, is);
+      status = elim put [ inl a ↦ ap Some a ∙ shows.status | inr failed ↦ absurd (subst IsOfText failed text) ];
+      on_out = subst out shows.records p;
+      on_diag = subst diag shows.line d;
+    }
 
-  pub comes_of_fault : (command : Option Command) → (files : Option (List ℕ → Option (List ℕ))) → (story : Story) → Came story command files before now given status out line →
-      IfAsked command files given (λ told. Comes result SourceFault (MayBe told SourceFault) (MayBe told SourceFault) (LibraryFault ∷ OutputFault ∷ Memory ∷ []))
-  comes_of_fault command files story came =
-      comes SourceFault (λ told. MayBe told SourceFault) (λ e. cc) (λ e. cc) (λ e. cc) command files
-      (λ one held o told may. faulty_too one (Holds held) given o may.0 told may.1 may.2)
-      story
-      came
+    shown : Came asks files before now given report → IsOfText result → out (output_bytes report.records) → diag (line_bytes report.line) → IsShown asks files given result out diag
+    shown (BadWords none says) text p d = absurd (no_text Usage says.status (λ h. h) text)
+    shown (Asked command asked came) text p d = shown_of command asked came text p d
+
+    pub answered : Came asks files before now given report → (IsOfText result → out (output_bytes report.records) × diag (line_bytes report.line)) → AnswersCall asks files given result out diag
+    answered came held = record {
+      usage = usage_comes came;
+      status = λ command asked status text. statuses_come command asked came status text;
+      shown = λ text. shown came text (held text).0 (held text).1;
+    }
 
 -- ---- what is known of the reads ----
 
@@ -135,76 +192,67 @@ read_of_end failed (Ended Wrong) e = cc
 read_of_end failed GoesOn e = cc
 read_of_end failed Lost e = cc
 
-failed_of_run : (files : List (List ℕ)) (body : Commands) (limit : ℕ) (got : Got) (o : Outcome) (long : Bool) → RunsIn long files body limit got o → status_of o ≡ Some InputFault → got.failed ≡ true
-failed_of_run files body limit got o true over e = absurd (let f = ap status_of (sym over) ∙ e in cc)
-failed_of_run files body limit got o false over e = failed_of_end got.failed over.0.end (ap status_of (sym over.2) ∙ e)
+failed_of_run : (files : List (List ℕ)) (meaning : Meaning) (limit : ℕ) (got : Got) (o : Outcome) (long : Bool) → RunsIn long files meaning limit got o → status_of o ≡ Some InputFault → got.failed ≡ true
+failed_of_run files meaning limit got o true over e = absurd (let f = ap status_of (sym over) ∙ e in cc)
+failed_of_run files meaning limit got o false over e = failed_of_end got.failed over.0.end (ap status_of (sym over.2) ∙ e)
 
-read_of_run : (files : List (List ℕ)) (body : Commands) (limit : ℕ) (got : Got) (o : Outcome) (long : Bool) → RunsIn long files body limit got o → status_of o ≡ Some (IsTrapped EndOfInput) → (got.failed ≡ false) × (long ≡ false)
-read_of_run files body limit got o true over e = absurd (let f = ap status_of (sym over) ∙ e in cc)
-read_of_run files body limit got o false over e = (read_of_end got.failed over.0.end (ap status_of (sym over.2) ∙ e), refl)
+read_of_run : (files : List (List ℕ)) (meaning : Meaning) (limit : ℕ) (got : Got) (o : Outcome) (long : Bool) → RunsIn long files meaning limit got o → status_of o ≡ Some (IsTrapped EndOfInput) → (got.failed ≡ false) × (long ≡ false)
+read_of_run files meaning limit got o true over e = absurd (let f = ap status_of (sym over) ∙ e in cc)
+read_of_run files meaning limit got o false over e = (read_of_end got.failed over.0.end (ap status_of (sym over.2) ∙ e), refl)
 
 module _ (files : Option (List ℕ → Option (List ℕ))) (given : Got → Type 0) (o : Outcome) where
   failed_of_verdict : (verdict : Verdict) (limit : ℕ) → ComesOf verdict limit given o → status_of o ≡ Some InputFault → (got : Got) × given got × (got.failed ≡ true)
   failed_of_verdict (Refuses fault file) limit h e = absurd (let f = ap status_of (sym h) ∙ e in cc)
-  failed_of_verdict (Accepts names body) limit h e = (h.0, h.1, failed_of_run names body limit h.0 o (is_too_long h.0) h.2 e)
+  failed_of_verdict (Accepts names meaning) limit h e = (h.0, h.1, failed_of_run names meaning limit h.0 o (is_too_long h.0) h.2 e)
 
   read_of_verdict : (verdict : Verdict) (limit : ℕ) → ComesOf verdict limit given o → status_of o ≡ Some (IsTrapped EndOfInput) → (got : Got) × given got × (got.failed ≡ false) × (is_too_long got ≡ false)
   read_of_verdict (Refuses fault file) limit h e = absurd (let f = ap status_of (sym h) ∙ e in cc)
-  read_of_verdict (Accepts names body) limit h e = let read = read_of_run names body limit h.0 o (is_too_long h.0) h.2 e in (h.0, h.1, read.0, read.1)
+  read_of_verdict (Accepts names meaning) limit h e = let read = read_of_run names meaning limit h.0 o (is_too_long h.0) h.2 e in (h.0, h.1, read.0, read.1)
 
-  failed_of_outcome : (command : Option Command) → IsOutcome command files given o → status_of o ≡ Some InputFault → (got : Got) × given got × (got.failed ≡ true)
-  failed_of_outcome None h e = absurd h
-  failed_of_outcome (Some (Run limit file)) h e = failed_of_verdict h.2.0 limit h.2.2 e
+  failed_of_outcome : (command : Command) → IsOutcomeBy command files given o → status_of o ≡ Some InputFault → (got : Got) × given got × (got.failed ≡ true)
+  failed_of_outcome (Run limit file) h e = failed_of_verdict h.2.0 limit h.2.2 e
 
-  read_of_outcome : (command : Option Command) → IsOutcome command files given o → status_of o ≡ Some (IsTrapped EndOfInput) → (got : Got) × given got × (got.failed ≡ false) × (is_too_long got ≡ false)
-  read_of_outcome None h e = absurd h
-  read_of_outcome (Some (Run limit file)) h e = read_of_verdict h.2.0 limit h.2.2 e
+  read_of_outcome : (command : Command) → IsOutcomeBy command files given o → status_of o ≡ Some (IsTrapped EndOfInput) → (got : Got) × given got × (got.failed ≡ false) × (is_too_long got ≡ false)
+  read_of_outcome (Run limit file) h e = read_of_verdict h.2.0 limit h.2.2 e
 
-module _ (command : Option Command) (files : Option (List ℕ → Option (List ℕ))) (before now : ℕ) (given : Got → Type 0) (status : Status) (out line : List ℕ) where
+module _ (asks : Command → Type 0) (files : Option (List ℕ → Option (List ℕ))) (before now : ℕ) (given : Got → Type 0) (report : Report) where
+  failed_of : (command : Command) → CameOf command files before now given report → report.status ≡ InputFault → (got : Got) × given got × (got.failed ≡ true)
+  failed_of command (NotFetched rose says) e = absurd (let f = sym says.status ∙ e in cc)
+  failed_of command (NoMemory says) e = absurd (let f = sym says.status ∙ e in cc)
+  failed_of command (Shows o is same shows) e = failed_of_outcome files given o command is (sym shows.status ∙ ap Some e)
+
+  read_of : (command : Command) → CameOf command files before now given report → report.status ≡ IsTrapped EndOfInput → (got : Got) × given got × (got.failed ≡ false) × (is_too_long got ≡ false)
+  read_of command (NotFetched rose says) e = absurd (let f = sym says.status ∙ e in cc)
+  read_of command (NoMemory says) e = absurd (let f = sym says.status ∙ e in cc)
+  read_of command (Shows o is same shows) e = read_of_outcome files given o command is (sym shows.status ∙ ap Some e)
+
   -- an input fault has a failed read behind it
-  pub failed_read : (story : Story) → Came story command files before now given status out line → status ≡ InputFault → (got : Got) × given got × (got.failed ≡ true)
-  failed_read BadWords came e = absurd (let f = sym came.1 ∙ e in cc)
-  failed_read NotFetched came e = absurd (let f = sym came.2 ∙ e in cc)
-  failed_read NoMemory came e = absurd (let f = sym came.1 ∙ e in cc)
-  failed_read (Shows o) came e = failed_of_outcome files given o command came.0 (sym came.2 ∙ ap Some e)
+  pub failed_read : Came asks files before now given report → report.status ≡ InputFault → (got : Got) × given got × (got.failed ≡ true)
+  failed_read (BadWords none says) e = absurd (let f = sym says.status ∙ e in cc)
+  failed_read (Asked command asked came) e = failed_of command came e
 
   -- at the end of the input none has failed
-  pub read_to_end : (story : Story) → Came story command files before now given status out line → status ≡ IsTrapped EndOfInput → (got : Got) × given got × (got.failed ≡ false) × (is_too_long got ≡ false)
-  read_to_end BadWords came e = absurd (let f = sym came.1 ∙ e in cc)
-  read_to_end NotFetched came e = absurd (let f = sym came.2 ∙ e in cc)
-  read_to_end NoMemory came e = absurd (let f = sym came.1 ∙ e in cc)
-  read_to_end (Shows o) came e = read_of_outcome files given o command came.0 (sym came.2 ∙ ap Some e)
+  pub read_to_end : Came asks files before now given report → report.status ≡ IsTrapped EndOfInput → (got : Got) × given got × (got.failed ≡ false) × (is_too_long got ≡ false)
+  read_to_end (BadWords none says) e = absurd (let f = sym says.status ∙ e in cc)
+  read_to_end (Asked command asked came) e = read_of command came e
 
--- ---- what out and diag get ----
+  -- ---- other clauses ----
 
-module _ (command : Option Command) (files : Option (List ℕ → Option (List ℕ))) (before now : ℕ) (given : Got → Type 0) (status : Status) (out line : List ℕ) where
-  of_no_text : (some : Status) → status ≡ some → IsOfText status → IsOfText some
-  of_no_text some e h = subst IsOfText e h
+  fetched_of : (command : Command) → CameOf command files before now given report → IsOfText report.status → now ≡ before
+  fetched_of command (NotFetched rose says) text = absurd (subst IsOfText says.status text)
+  fetched_of command (NoMemory says) text = absurd (subst IsOfText says.status text)
+  fetched_of command (Shows o is same shows) text = same
 
-  pub shown : (P D : List ℕ → Type 0) → (story : Story) → Came story command files before now given status out line → IsOfText status → P out → D line → IsShown command files given status P D
-  shown P D BadWords came text p d = absurd (subst IsOfText came.1 text)
-  shown P D NotFetched came text p d = absurd (subst IsOfText came.2 text)
-  shown P D NoMemory came text p d = absurd (subst IsOfText came.1 text)
-  shown P D (Shows o) came text p d = record { outcome = o; is = came.0; status = came.2; on_out = subst P came.3 p; on_diag = subst D came.4 d }
+  pub all_fetched : Came asks files before now given report → IsOfText report.status → now ≡ before
+  all_fetched (BadWords none says) text = absurd (subst IsOfText says.status text)
+  all_fetched (Asked command asked came) text = fetched_of command came text
 
-  pub same_faults : (story : Story) → Came story command files before now given status out line → IsOfText status → now ≡ before
-  same_faults BadWords came text = absurd (subst IsOfText came.1 text)
-  same_faults NotFetched came text = absurd (subst IsOfText came.2 text)
-  same_faults NoMemory came text = absurd (subst IsOfText came.1 text)
-  same_faults (Shows o) came text = came.1
+  module _ (out diag : List ℕ → Type 0) (some : output_bytes report.records ≡ [] → line_bytes report.line ≡ [] → ⊥) (p : out (output_bytes report.records)) (d : diag (line_bytes report.line) ⊎ diag output_fault_line) where
+    planned_of : (command : Command) → asks command → CameOf command files before now given report → WasToShow asks files given out diag
+    planned_of command asked (NotFetched rose says) = record { bytes = output_bytes report.records; line = line_bytes report.line; planned = inl (says.records, inr (inl says.line)); some = some; on_out = p; on_diag = d }
+    planned_of command asked (NoMemory says) = record { bytes = output_bytes report.records; line = line_bytes report.line; planned = inl (says.records, inr (inr (inl says.line))); some = some; on_out = p; on_diag = d }
+    planned_of command asked (Shows o is same shows) = record { bytes = output_bytes report.records; line = line_bytes report.line; planned = inr (o, (command, asked, is), shows.records, shows.line); some = some; on_out = p; on_diag = d }
 
-  pub for_out : (P : List ℕ → Type 0) (story : Story) → Came story command files before now given status out line → P out → ForOut command files given P
-  for_out P BadWords came p = record { bytes = out; planned = inl came.2; holds = p }
-  for_out P NotFetched came p = record { bytes = out; planned = inl came.3; holds = p }
-  for_out P NoMemory came p = record { bytes = out; planned = inl came.2; holds = p }
-  for_out P (Shows outcome) came p = record { bytes = out; planned = inr (outcome, came.0, came.3); holds = p }
-
-  planned_line : (P : List ℕ → Type 0) (story : Story) → Came story command files before now given status out line → P line → ForDiag command files given P
-  planned_line P BadWords came p = record { line = line; planned = inl (inr (inl came.3)); holds = p }
-  planned_line P NotFetched came p = record { line = line; planned = inl (inr (inr (inl came.4))); holds = p }
-  planned_line P NoMemory came p = record { line = line; planned = inl (inr (inr (inr (inl came.3)))); holds = p }
-  planned_line P (Shows outcome) came p = record { line = line; planned = inr (outcome, came.0, came.4); holds = p }
-
-  pub for_diag : (P : List ℕ → Type 0) (story : Story) → Came story command files before now given status out line → P line ⊎ P output_fault_line → ForDiag command files given P
-  for_diag P story came (inl p) = planned_line P story came p
-  for_diag P story came (inr p) = record { line = output_fault_line; planned = inl (inl refl); holds = p }
+    pub planned : Came asks files before now given report → WasToShow asks files given out diag
+    planned (BadWords none says) = record { bytes = output_bytes report.records; line = line_bytes report.line; planned = inl (says.records, inl says.line); some = some; on_out = p; on_diag = d }
+    planned (Asked command asked came) = planned_of command asked came

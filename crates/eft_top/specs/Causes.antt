@@ -5,8 +5,9 @@ use Rattle.eft_top.specs.declared.status.Status.{Status}
 use Rattle.eft_top.specs.declared.status.Status.TheVariants.{Done, Usage, SourceFault, LibraryFault, InputFault, OutputFault, StepLimit, Memory, Stopped, InputTooLong, Trapped}
 use Rattle.eft_top.specs.Lines.{usage_line, library_fault_line, memory_line, output_fault_line, input_too_long_line}
 use Rattle.eft_top.specs.Input.{Got}
-use Rattle.eft_top.specs.Words.{Command}
-use Rattle.eft_top.specs.Outcome.{Outcome, status_of, out_of, diag_line, IsOutcome}
+use Rattle.macro_define.specs.Answers.{Holds}
+use Rattle.eft_top.specs.Words.{Command, AskNothing}
+use Rattle.eft_top.specs.Outcome.{Outcome, status_of, out_of, diag_line, IsOutcomeOf, IsOutcome}
 
 abbrev pub IsOneOf : Status → List Status → Type 0
 IsOneOf status [] = ⊥
@@ -38,6 +39,11 @@ IsOfText (Stopped n) = Unit {0}
 IsOfText InputTooLong = Unit {0}
 IsOfText (Trapped trap) = Unit {0}
 
+-- What compels a status: that all that may come has it. A text has a fault or has none, so that something has it is enough.
+abbrev pub Compels : (Outcome → Type 0) → Status → Type 0
+Compels told SourceFault = MayBe told SourceFault
+Compels told status = MustBe told status
+
 -- a status for which no input is read
 abbrev pub NeedsNoInput : Status → Type 0
 NeedsNoInput Done = ⊥
@@ -66,27 +72,39 @@ fixed_line (Stopped n) = None
 fixed_line InputTooLong = Some input_too_long_line
 fixed_line (Trapped trap) = None
 
--- The words ask for a command. There is an outcome of some text, of the told one where the library tells it, and of what
--- reads may have given, whose status this is, whose bytes out got and whose line diag got.
-pub record IsShown (command : Option Command) (files : Option (List ℕ → Option (List ℕ))) (given : Got → Type 0) (result : Status) (out diag : List ℕ → Type 0) : Type 0 where
+-- There is an outcome of what the words ask for, of the told text where the library tells it, and of what reads may have
+-- given, whose status this is, whose bytes out got and whose line diag got.
+pub record IsShown (asks : Command → Type 0) (files : Option (List ℕ → Option (List ℕ))) (given : Got → Type 0) (result : Status) (out diag : List ℕ → Type 0) : Type 0 where
   pub outcome : Outcome
-  pub is : IsOutcome command files given outcome
+  pub is : IsOutcome asks files given outcome
   pub status : Some result ≡ status_of outcome
   pub on_out : out (out_of outcome)
   pub on_diag : diag (diag_line outcome)
+
+-- a fact of a library that tells its texts
+abbrev pub IfTold : Option (List ℕ → Option (List ℕ)) → ((List ℕ → Option (List ℕ)) → Type 0) → Type 0
+IfTold (Some held) P = P held
+IfTold None P = Unit {0}
+
+-- What a call answers to what its words ask for, by what the library tells and what reads may have given; out and diag hold of
+-- what these got. Each status comes exactly where it is said here, but that a fetch or a put may fail, or memory be wanting.
+pub record AnswersCall (asks : Command → Type 0) (files : Option (List ℕ → Option (List ℕ))) (given : Got → Type 0) (result : Status) (out diag : List ℕ → Type 0) : Type 0 where
+  pub usage : Comes result Usage (AskNothing asks) (AskNothing asks) (OutputFault ∷ [])
+  pub status : (command : Command) → asks command → (status : Status) → IsOfText status → IfTold files (λ held.
+      Comes result status (MayBe (IsOutcomeOf command (Holds held) given) status) (Compels (IsOutcomeOf command (Holds held) given) status) (LibraryFault ∷ OutputFault ∷ Memory ∷ []))
+  pub shown : IsOfText result → IsShown asks files given result out diag
 
 abbrev pub IsLineOf : List ℕ → List (List ℕ) → Type 0
 IsLineOf line [] = ⊥
 IsLineOf line (one ∷ others) = (line ≡ one) ⊎ IsLineOf line others
 
--- what out was to get: nothing, or the bytes of an outcome; and P of it
-pub record ForOut (command : Option Command) (files : Option (List ℕ → Option (List ℕ))) (given : Got → Type 0) (P : List ℕ → Type 0) : Type 0 where
+-- What out and diag were to get where a put failed: a line that says all, or the bytes and the line of an outcome, but not nothing
+-- at all; and what they got of it, where diag may have got the line of the failure.
+pub record WasToShow (asks : Command → Type 0) (files : Option (List ℕ → Option (List ℕ))) (given : Got → Type 0) (out diag : List ℕ → Type 0) : Type 0 where
   pub bytes : List ℕ
-  pub planned : (bytes ≡ []) ⊎ ((outcome : Outcome) × IsOutcome command files given outcome × (bytes ≡ out_of outcome))
-  pub holds : P bytes
-
--- what diag was to get: a line that says all, or the line of an outcome; and P of it
-pub record ForDiag (command : Option Command) (files : Option (List ℕ → Option (List ℕ))) (given : Got → Type 0) (P : List ℕ → Type 0) : Type 0 where
   pub line : List ℕ
-  pub planned : IsLineOf line (output_fault_line ∷ usage_line ∷ library_fault_line ∷ memory_line ∷ []) ⊎ ((outcome : Outcome) × IsOutcome command files given outcome × (line ≡ diag_line outcome))
-  pub holds : P line
+  pub planned : ((bytes ≡ []) × IsLineOf line (usage_line ∷ library_fault_line ∷ memory_line ∷ []))
+      ⊎ ((outcome : Outcome) × IsOutcome asks files given outcome × (bytes ≡ out_of outcome) × (line ≡ diag_line outcome))
+  pub some : bytes ≡ [] → line ≡ [] → ⊥
+  pub on_out : out bytes
+  pub on_diag : diag line ⊎ diag output_fault_line

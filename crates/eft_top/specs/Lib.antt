@@ -2,8 +2,10 @@
 pub mod Codes
 pub mod Lines
 pub mod Words
+pub mod Reading
 pub mod Input
 pub mod Outcome
 pub mod Causes
-pub mod Story
+pub mod Laws
 pub mod Report
+pub mod Story

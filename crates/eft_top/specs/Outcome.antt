@@ -7,13 +7,10 @@ use Rattle.ground.specs.declared.trap.Trap.{Trap}
 use Rattle.ground.specs.declared.trap.Trap.TheVariants.{EndOfInput}
 use Rattle.ports.specs.Records.{output_bytes}
 use Rattle.f66_tree.specs.World.{Record, Shown, End, Ended, GoesOn, Lost, Done, Stopped, Trapped, Wrong}
-use Rattle.f66_tree.specs.Syntax.{Line}
-use Rattle.f66_tree.specs.OneUnit.{executed}
-use Rattle.f66_tree.specs.Agreement.{Agrees}
-use Rattle.rat_tree.specs.Syntax.{Commands}
-use Rattle.rat_lower.specs.OneUnit.{means}
-use Rattle.macro_define.specs.Answers.{Known, Holds, IsOf}
-use Rattle.rat_front.specs.Verdict.{Verdict, Refuses, Accepts, Becomes, file_name}
+use Rattle.f66_tree.specs.Syntax.{Routine}
+use Rattle.macro_define.specs.Answers.{Known, IsOf}
+use Rattle.rat_front.specs.Verdict.{Meaning, Verdict, Refuses, Accepts, Becomes, file_name}
+use Rattle.rat_front.specs.Programs.{IsProgramOf}
 use Rattle.eft_top.specs.declared.status.Status.{Status}
 use Rattle.eft_top.specs.declared.status.Status.TheVariants.{SourceFault, Done as IsDone, Stopped as IsStopped, Trapped as IsTrapped, StepLimit, InputFault, InputTooLong}
 use Rattle.eft_top.specs.Lines.{fault_line, trap_line, stop_line, limit_line, input_fault_line, input_too_long_line}
@@ -27,41 +24,39 @@ pub data Outcome : Type 0 where
   HasLongInput : Outcome
   Runs : List (List ℕ) → ℕ → Bool → Shown → Outcome
 
--- A run of these statements with a limit over an input: it shows what a main unit of FORTRAN does within the limit that agrees,
--- whatever the input holds, with what the statements mean. So where it has ended, they mean the same records and the same end; where it goes
--- on, that unit goes on past so many statements, and its records begin theirs; and whatever they do with a work w where
--- 32 * (w + 1) is within the limit, it has done.
-pub record IsRun (body : Commands) (limit : ℕ) (input : List Record) (shown : Shown) : Type 0 where
-  pub target : List Line
-  pub agrees : (any : List Record) → Agrees (means body any) (executed target any)
-  pub is : shown ≡ executed target input limit
+-- A run with a limit over an input: it shows what a program of the meaning does within the limit, a program of sound FORTRAN
+-- that agrees with the meaning whatever the input holds. So where it has ended, the meaning has the same records and the same
+-- end; where it goes on, that program goes on past so many statements, and its records begin those of the meaning; and
+-- whatever the meaning does with a work w where 32 * (w + 1) is within the limit, the run has done.
+pub record IsRun (meaning : Meaning) (limit : ℕ) (input : List Record) (shown : Shown) : Type 0 where
+  pub units : List Routine
+  pub program : IsProgramOf meaning units
+  pub is : shown ≡ program.run input limit
 
--- what comes of accepted statements and what was got of the input, by whether that is too long
-abbrev pub RunsIn : Bool → List (List ℕ) → Commands → ℕ → Got → Outcome → Type 0
-RunsIn true files body limit got outcome = outcome ≡ HasLongInput
-RunsIn false files body limit got outcome = (shown : Shown) × IsRun body limit (records_of got) shown × (outcome ≡ Runs files limit got.failed shown)
+-- what comes of an accepted text and what was got of the input, by whether that is too long
+abbrev pub RunsIn : Bool → List (List ℕ) → Meaning → ℕ → Got → Outcome → Type 0
+RunsIn true files meaning limit got outcome = outcome ≡ HasLongInput
+RunsIn false files meaning limit got outcome = (shown : Shown) × IsRun meaning limit (records_of got) shown × (outcome ≡ Runs files limit got.failed shown)
 
-abbrev pub RunsOver : List (List ℕ) → Commands → ℕ → Got → Outcome → Type 0
-RunsOver files body limit got outcome = RunsIn (is_too_long got) files body limit got outcome
+abbrev pub RunsOver : List (List ℕ) → Meaning → ℕ → Got → Outcome → Type 0
+RunsOver files meaning limit got outcome = RunsIn (is_too_long got) files meaning limit got outcome
 
 -- a refused text comes to its fault; of an accepted one the input is read, and what was got is what its reads may have given
 abbrev pub ComesOf : Verdict → ℕ → (Got → Type 0) → Outcome → Type 0
 ComesOf (Refuses fault file) limit given outcome = outcome ≡ HasFault fault file
-ComesOf (Accepts files body) limit given outcome = (got : Got) × given got × RunsOver files body limit got outcome
+ComesOf (Accepts files meaning) limit given outcome = (got : Got) × given got × RunsOver files meaning limit got outcome
 
 -- what may come of a command, by what is known of the library and what reads may have given
 abbrev pub IsOutcomeOf : Command → Known → (Got → Type 0) → Outcome → Type 0
 IsOutcomeOf (Run limit file) known given outcome = (verdict : Verdict) × Becomes file known verdict × ComesOf verdict limit given outcome
 
--- the same by what the library tells, or where it tells nothing by what its fetches gave
-abbrev pub IsOutcome : Option Command → Option (List ℕ → Option (List ℕ)) → (Got → Type 0) → Outcome → Type 0
-IsOutcome None files given outcome = ⊥
-IsOutcome (Some command) files given outcome = (known : Known) × IsOf files known × IsOutcomeOf command known given outcome
+-- the same by what the library tells, or, where it tells nothing, by some texts that fetches may have given
+abbrev pub IsOutcomeBy : Command → Option (List ℕ → Option (List ℕ)) → (Got → Type 0) → Outcome → Type 0
+IsOutcomeBy command files given outcome = (known : Known) × IsOf files known × IsOutcomeOf command known given outcome
 
--- where the words ask for a command and the library tells its texts: a fact on what may come of it
-abbrev pub IfAsked : Option Command → Option (List ℕ → Option (List ℕ)) → (Got → Type 0) → ((Outcome → Type 0) → Type 0) → Type 0
-IfAsked (Some command) (Some held) given P = P (IsOutcomeOf command (Holds held) given)
-IfAsked _ _ given P = Unit {0}
+-- the same of the command that words ask for
+abbrev pub IsOutcome : (Command → Type 0) → Option (List ℕ → Option (List ℕ)) → (Got → Type 0) → Outcome → Type 0
+IsOutcome asks files given outcome = (command : Command) × asks command × IsOutcomeBy command files given outcome
 
 abbrev pub is_end_of_input : Trap → Bool
 is_end_of_input EndOfInput = true

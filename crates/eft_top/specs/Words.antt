@@ -1,15 +1,9 @@
 -- What the words ask for: run [--steps N] ratfor FILE, with options anywhere behind the command.
-use Rattle.std.specs.Prelude.{ℕ, ◌+◌, ◌-◌, ◌*◌, nat_le, List, [], ◌∷◌, ◌&&◌, not, Bool, false, codes, Some, None, if◌then◌else◌, ◌==◌, map, fold, take, drop, String, string_bytes, unwrap_or}
+use Rattle.std.specs.Prelude.{◌≡◌, ◌≢◌, ◌⊎◌, ⊤, ℕ, ◌+◌, ◌-◌, ◌*◌, nat_le, List, [], ◌∷◌, ◌++◌, ◌&&◌, not, Bool, false, codes, Some, None, if◌then◌else◌, ◌==◌, map, String, string_bytes}
 use Rattle.std.specs.Str.{bytes_eq}
 use Rattle.std.specs.Char.{is_ascii_digit}
 use Rattle.std.specs.declared.option.Option.{Option}
 use Rattle.std.specs.declared.alloc.Global.{Global}
-use Rattle.std.specs.Borrow.{Bor}
-use Rattle.eft_top.specs.declared.words.Asked.{Asked}
-use Rattle.eft_top.specs.declared.words.Asked.TheVariants.{Run as AskRun}
-use Rattle.eft_top.specs.declared.words.Stage.{Stage}
-use Rattle.eft_top.specs.declared.words.Stage.TheVariants.{Open, Steps, Closed, Wrong}
-use Rattle.eft_top.specs.declared.words.Reading as memory
 
 -- a run of the Ratfor text in a file, of which at most so many statements begin
 pub data Command : Type 0 where
@@ -32,82 +26,89 @@ steps_after n (digit ∷ rest) = if is_ascii_digit digit then steps_after (n * 1
 abbrev pub steps_in : List ℕ → Option ℕ
 steps_in word = steps_after 0 word
 
--- ---- word by word ----
+-- ---- options and operands ----
 
--- what the words behind the command have said so far, and what may come: options and operands, the number of --steps, or
--- operands alone
-pub record Reading : Type 0 where
-  pub stage : Stage
-  pub steps : Option ℕ
-  pub language : Option (List ℕ)
-  pub file : Option (List ℕ)
+-- an operand, or the option --steps with its number in the same word or in the next one
+pub data Piece : Type 0 where
+  Operand : List ℕ → Piece
+  Joined : List ℕ → Piece
+  Apart : List ℕ → Piece
 
-abbrev pub start : Reading
-start = record { stage = Open; steps = None; language = None; file = None }
-
-abbrev pub at_stage : Stage → Reading → Reading
-at_stage stage r = record { stage = stage; steps = r.steps; language = r.language; file = r.file }
-
--- there are two operands
-abbrev pub with_operand : Option (List ℕ) → Option (List ℕ) → List ℕ → Reading → Reading
-with_operand None file word r = record { stage = r.stage; steps = r.steps; language = Some word; file = r.file }
-with_operand (Some language) None word r = record { stage = r.stage; steps = r.steps; language = r.language; file = Some word }
-with_operand (Some language) (Some file) word r = at_stage Wrong r
-
--- --steps stands at most once
-abbrev pub with_steps : Option ℕ → Option ℕ → Reading → Reading
-with_steps (Some n) None r = record { stage = Open; steps = Some n; language = r.language; file = r.file }
-with_steps _ _ r = at_stage Wrong r
+abbrev pub words_of : Piece → List (List ℕ)
+words_of (Operand word) = word ∷ []
+words_of (Joined number) = (codes "--steps=" ++ number) ∷ []
+words_of (Apart number) = codes "--steps" ∷ number ∷ []
 
 -- begins with - and goes on
 abbrev pub is_option : List ℕ → Bool
 is_option [] = false
 is_option (byte ∷ rest) = (byte == 45) && not (bytes_eq rest [])
 
-abbrev pub with_word : List ℕ → Reading → Reading
-with_word word r =
-    if bytes_eq word (codes "--") then at_stage Closed r
-    else (if bytes_eq word (codes "--steps") then at_stage Steps r
-    else (if bytes_eq (take 8 word) (codes "--steps=") then with_steps (steps_in (drop 8 word)) r.steps r
-    else (if is_option word then at_stage Wrong r else with_operand r.language r.file word r)))
+-- no operand looks like an option
+abbrev pub IsPiece : Piece → Type 0
+IsPiece (Operand word) = is_option word ≡ false
+IsPiece (Joined number) = ⊤
+IsPiece (Apart number) = ⊤
 
-abbrev pub read_at : Stage → List ℕ → Reading → Reading
-read_at Open word r = with_word word r
-read_at Steps word r = with_steps (steps_in word) r.steps r
-read_at Closed word r = with_operand r.language r.file word r
-read_at Wrong word r = r
+abbrev pub ArePieces : List Piece → Type 0
+ArePieces [] = ⊤
+ArePieces (piece ∷ pieces) = IsPiece piece × ArePieces pieces
 
-abbrev pub read : Reading → List ℕ → Reading
-read r word = read_at r.stage word r
+abbrev pub all_words : List Piece → List (List ℕ)
+all_words [] = []
+all_words (piece ∷ pieces) = words_of piece ++ all_words pieces
 
--- ---- the end ----
+abbrev pub operands_in : List Piece → List (List ℕ)
+operands_in [] = []
+operands_in (Operand word ∷ pieces) = word ∷ operands_in pieces
+operands_in (Joined number ∷ pieces) = operands_in pieces
+operands_in (Apart number ∷ pieces) = operands_in pieces
 
--- the language is Ratfor, and the file has a name
-abbrev pub operands : ℕ → Option (List ℕ) → Option (List ℕ) → Option Command
-operands steps (Some language) (Some file) = if bytes_eq language (codes "ratfor") && not (bytes_eq file []) then Some (Run steps file) else None
-operands steps _ _ = None
+abbrev pub numbers_in : List Piece → List (List ℕ)
+numbers_in [] = []
+numbers_in (Operand word ∷ pieces) = numbers_in pieces
+numbers_in (Joined number ∷ pieces) = number ∷ numbers_in pieces
+numbers_in (Apart number ∷ pieces) = number ∷ numbers_in pieces
 
-abbrev pub asked_at : Stage → Reading → Option Command
-asked_at Open r = operands (unwrap_or r.steps 10000000) r.language r.file
-asked_at Closed r = operands (unwrap_or r.steps 10000000) r.language r.file
-asked_at _ r = None
+-- what stands at the end of the words: nothing, or -- and operands alone
+abbrev pub IsEnding : List (List ℕ) → List (List ℕ) → Type 0
+IsEnding operands words = ((operands ≡ []) × (words ≡ [])) ⊎ (words ≡ codes "--" ∷ operands)
 
-abbrev pub asked : Reading → Option Command
-asked r = asked_at r.stage r
+-- Words are these operands, with --steps of these numbers anywhere between them.
+pub record AreShuffled (numbers operands words : List (List ℕ)) : Type 0 where
+  pub pieces : List Piece
+  pub last : List (List ℕ)
+  pub ending : List (List ℕ)
+  pub right : ArePieces pieces
+  pub ends : IsEnding last ending
+  pub words_are : words ≡ all_words pieces ++ ending
+  pub numbers_are : numbers ≡ numbers_in pieces
+  pub operands_are : operands ≡ operands_in pieces ++ last
 
-abbrev pub command_of : List (List ℕ) → Option Command
-command_of [] = None
-command_of (command ∷ rest) = if bytes_eq command (codes "run") then asked (fold read start rest) else None
+-- ---- commands ----
 
--- ---- in memory ----
+-- --steps stands at most once, and without it the limit is 10,000,000
+abbrev pub IsLimit : List (List ℕ) → ℕ → Type 0
+IsLimit [] limit = limit ≡ 10000000
+IsLimit (number ∷ []) limit = steps_in number ≡ Some limit
+IsLimit _ limit = ⊥
 
-abbrev pub text_of : Option (Bor (List ℕ)) → Option (List ℕ)
-text_of None = None
-text_of (Some text) = Some text.now
+-- the words behind `run` ask for a run
+pub record AskForRun (limit : ℕ) (file : List ℕ) (words : List (List ℕ)) : Type 0 where
+  pub numbers : List (List ℕ)
+  pub shuffled : AreShuffled numbers (codes "ratfor" ∷ file ∷ []) words
+  pub limits : IsLimit numbers limit
+  pub named : file ≢ []
 
-abbrev pub reading_of : memory.Reading → Reading
-reading_of r = record { stage = r.stage; steps = r.steps; language = text_of r.language; file = text_of r.file }
+-- the words ask for this command
+abbrev pub AskFor : List (List ℕ) → Command → Type 0
+AskFor words (Run limit file) = (rest : List (List ℕ)) × (words ≡ codes "run" ∷ rest) × AskForRun limit file rest
 
--- the command that the program works with
-abbrev pub asked_command : Asked → Command
-asked_command (AskRun steps file) = Run steps file.now
+-- the words ask for no command
+abbrev pub AskNothing : (Command → Type 0) → Type 0
+AskNothing asks = (command : Command) → asks command → ⊥
+
+-- an answer is the command that is asked for, or that there is none
+abbrev pub IsAsked : (Command → Type 0) → Option Command → Type 0
+IsAsked asks (Some command) = asks command
+IsAsked asks None = AskNothing asks

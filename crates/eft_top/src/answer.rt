@@ -1,18 +1,18 @@
 // What a call has to show: the words are read, the text is compiled, the input is read, and the unit is walked over it.
-ghost use Rattle.std.specs.Prelude.{◌≡◌, false, IfOk, IsErrOf};
-ghost use Rattle.ports.specs.Records.{output_bytes};
-ghost use Rattle.eft_top.specs.Words.{command_of, texts, asked_command, Run};
+ghost use Rattle.std.specs.Prelude.{◌≡◌, false, IfOk};
+ghost use Rattle.eft_top.specs.Words.{AskFor, texts, Run};
+ghost use Rattle.eft_top.specs.Reading.{asked_command};
 ghost use Rattle.eft_top.specs.Causes.{NeedsNoInput};
 ghost use Rattle.eft_top.specs.Input.{Got as AllGot, HasGiven, HasRead, got_of, is_too_long};
-ghost use Rattle.eft_top.specs.Story.{Story, Came, Caused};
-ghost use Rattle.eft_top.specs.Report.{ReportsOn, ReportsOutcome, line_bytes};
+ghost use Rattle.eft_top.specs.Story.{Came, CameOf};
+ghost use Rattle.eft_top.specs.Report.{ReportsOn};
 
 use crate::Status;
 use crate::input::{Got, read_input};
 use crate::report::Report;
 use crate::words::{Asked, read_words};
 use ground::Memory;
-use ports::{FetchFault, Library, Source};
+use ports::{Library, Source};
 use rat_front::{Compiled, TextRefusal, compile_text};
 use std::alloc::Global;
 use unit_walk::walk;
@@ -27,8 +27,7 @@ pub fn answer_to<L: Library, S: Source>(
     ensures library { L.becomes library.old library.new }
     ensures input { HasRead (S.left input.old) (S.left input.new) }
     ensures unread { NeedsNoInput result.status → input.new ≡ input.old }
-    ensures story { (story : Story) × Came story (command_of (texts words.now.items)) (L.files library.old) (L.faults library.old) (L.faults library.new)
-        (HasGiven S.left S.faults input.old input.new) result.status (output_bytes result.records) (line_bytes result.line) }
+    ensures came { Came (AskFor (texts words.now.items)) (L.files library.old) (L.faults library.old) (L.faults library.new) (HasGiven S.left S.faults input.old input.new) result }
 {
     let Some(asked) = read_words(words) else {
         return Report::fixed(
@@ -39,8 +38,7 @@ pub fn answer_to<L: Library, S: Source>(
     };
     match report_of(alloc, asked, library, input) {
         Ok(report) => report,
-        Err(FetchFault::Failed) => Report::fixed(alloc, Status::LibraryFault, "library fault\n"),
-        Err(FetchFault::Memory) => Report::fixed(alloc, Status::Memory, "out of memory\n"),
+        Err(Memory) => Report::fixed(alloc, Status::Memory, "out of memory\n"),
     }
 }
 
@@ -49,13 +47,11 @@ fn report_of<L: Library, S: Source>(
     asked: Asked<'_>,
     library: &mut L,
     input: &mut S,
-) -> Result<Report, FetchFault>
-    ensures tells { IfOk result (ReportsOutcome (asked_command asked.entry) (L.files library.old) (HasGiven S.left S.faults input.old input.new)) }
+) -> Result<Report, Memory>
     ensures becomes { L.becomes library.old library.new }
     ensures input { HasRead (S.left input.old) (S.left input.new) }
     ensures unread { IfOk result (λ report. NeedsNoInput report.status → input.new ≡ input.old) }
-    ensures unread_failed { IsErrOf result FetchFault.Failed → input.new ≡ input.old }
-    ensures cause { Caused (L.faults library.old) (L.faults library.new) result }
+    ensures came { IfOk result (CameOf (asked_command asked.entry) (L.files library.old) (L.faults library.old) (L.faults library.new) (HasGiven S.left S.faults input.old input.new)) }
 {
     match asked {
         Asked::Run(limit, file) => run_file(alloc, limit, file, library, input),
@@ -69,22 +65,21 @@ fn run_file<L: Library, S: Source>(
     file: &str,
     library: &mut L,
     input: &mut S,
-) -> Result<Report, FetchFault>
-    ensures tells { IfOk result (ReportsOutcome (Run limit file.now) (L.files library.old) (HasGiven S.left S.faults input.old input.new)) }
+) -> Result<Report, Memory>
     ensures becomes { L.becomes library.old library.new }
     ensures input { HasRead (S.left input.old) (S.left input.new) }
     ensures unread { IfOk result (λ report. NeedsNoInput report.status → input.new ≡ input.old) }
-    ensures unread_failed { IsErrOf result FetchFault.Failed → input.new ≡ input.old }
-    ensures cause { Caused (L.faults library.old) (L.faults library.new) result }
+    ensures came { IfOk result (CameOf (Run limit file.now) (L.files library.old) (L.faults library.old) (L.faults library.new) (HasGiven S.left S.faults input.old input.new)) }
 {
     match compile_text(alloc, file, library) {
-        Ok(compiled) => match read_and_run(alloc, limit, &compiled, input) {
-            Ok(report) => Ok(report),
-            Err(Memory) => Err(FetchFault::Memory),
-        },
+        Ok(compiled) => read_and_run(alloc, limit, &compiled, input),
         Err(TextRefusal::Fault(fault, name)) => Ok(Report::of_fault(alloc, fault, &name)?),
-        Err(TextRefusal::Library) => Err(FetchFault::Failed),
-        Err(TextRefusal::Memory) => Err(FetchFault::Memory),
+        Err(TextRefusal::Library) => Ok(Report::fixed(
+            alloc,
+            Status::LibraryFault,
+            "library fault\n",
+        )),
+        Err(TextRefusal::Memory) => Err(Memory),
     }
 }
 

@@ -12,7 +12,7 @@ const MOST_BYTES: usize = 16_777_216;
 const CHUNK: usize = 65_536;
 
 /// What reads have given: the bytes, and whether the last read has failed.
-#[derive(Debug, Drop)]
+#[derive(Drop)]
 pub struct Got {
     pub bytes: Vec<u8>,
     pub failed: bool,

@@ -4,6 +4,7 @@
 mod answer;
 mod deliver;
 mod input;
+mod laws;
 mod lines;
 mod numbers;
 mod report;
@@ -11,5 +12,6 @@ mod status;
 mod top;
 mod words;
 
+pub use laws::{a_run_misses_nothing, a_run_shows_the_meaning};
 pub use status::Status;
 pub use top::eft;

@@ -2,19 +2,19 @@
 ghost use Rattle.std.specs.Prelude.{◌≡◌, ◌++◌, ◌∷◌, [], true, ℕ, List, IfOk, take};
 ghost use Rattle.f66_tree.specs.World.{Shown};
 ghost use Rattle.unit_walk.specs.Shows.{shown_of};
-ghost use Rattle.rat_front.specs.Verdict.{file_name as name_of_file};
 ghost use Rattle.eft_top.specs.Outcome.{HasFault, Runs};
 ghost use Rattle.eft_top.specs.Report.{IsReport, line_bytes};
 
 use crate::Status;
 use crate::lines::{fault_text, limit_text, stop_text, trap_text};
 use ground::{Fault, Text, Trap};
+use rat_front::name_of;
 use record_tape::Lines;
 use std::alloc::{AllocError, Global};
 use unit_walk::{RunEnd, Walked};
 
 /// A line that was made, or one that the program has.
-#[derive(Debug, Drop)]
+#[derive(Drop)]
 pub enum Line {
     Made(Vec<u8>),
     Fixed(&'static str),
@@ -32,7 +32,7 @@ impl Line {
 }
 
 /// A status, the records for out and the line for diag.
-#[derive(Debug, Drop)]
+#[derive(Drop)]
 pub struct Report {
     pub status: Status,
     pub records: Lines,
@@ -98,15 +98,5 @@ impl Report {
             records,
             line,
         })
-    }
-}
-
-/// The name of the file that has this number.
-fn name_of(files: &[Text], number: u16) -> &[u8]
-    ensures { result.now ≡ name_of_file files.now number }
-{
-    match files.get(usize::from(number)) {
-        Some(name) => name.as_bytes(),
-        None => b"",
     }
 }

@@ -1,15 +1,13 @@
 // The one public call: the words, the library, and the streams.
-ghost use Rattle.std.specs.Prelude.{◌≡◌, ◌≢◌, ◌⊎◌, ℕ, [], ◌∷◌, None, Some, IfSome};
+ghost use Rattle.std.specs.Prelude.{◌≡◌, ◌≢◌, ◌⊎◌, [], IfSome};
 ghost use Rattle.std.specs.Io.KnownBytes.{IsAtEnd};
 ghost use Rattle.ports.specs.Causes.{Rose};
 ghost use Rattle.ports.specs.Puts.{PutsPrefix};
-ghost use Rattle.eft_top.specs.Lines.{output_fault_line};
-ghost use Rattle.eft_top.specs.Outcome.{IfAsked};
-ghost use Rattle.eft_top.specs.Words.{command_of, texts};
-ghost use Rattle.eft_top.specs.Causes.{Comes, MayBe, MustBe, IsOfText, IsShown, ForOut, ForDiag, NeedsNoInput, fixed_line};
-ghost use Rattle.eft_top.specs.Input.{HasGiven, HasRead};
-ghost use Rattle.ground.specs.declared.trap.Trap.{Trap as ATrap};
 ghost use Rattle.ground.specs.declared.trap.Trap.TheVariants.{EndOfInput};
+ghost use Rattle.eft_top.specs.Lines.{output_fault_line};
+ghost use Rattle.eft_top.specs.Words.{AskFor, texts};
+ghost use Rattle.eft_top.specs.Causes.{AnswersCall, IsOfText, WasToShow, NeedsNoInput, fixed_line};
+ghost use Rattle.eft_top.specs.Input.{HasGiven, HasRead};
 
 use crate::Status;
 use crate::answer::answer_to;
@@ -27,22 +25,11 @@ pub fn eft<L: Library, S: Source, K: Sink, D: Sink>(
     out: &mut K,
     diag: &mut D,
 ) -> Status
-    // When each status comes.
-    ensures usage { Comes result Status.Usage (command_of (texts words.now.items) ≡ None) (command_of (texts words.now.items) ≡ None) (Status.OutputFault ∷ []) }
-    ensures source_fault { IfAsked (command_of (texts words.now.items)) (L.files library.old) (HasGiven S.left S.faults input.old input.new) (λ told.
-        Comes result Status.SourceFault (MayBe told Status.SourceFault) (MayBe told Status.SourceFault) (Status.LibraryFault ∷ Status.OutputFault ∷ Status.Memory ∷ [])) }
-    ensures done { IfAsked (command_of (texts words.now.items)) (L.files library.old) (HasGiven S.left S.faults input.old input.new) (λ told.
-        Comes result Status.Done (MayBe told Status.Done) (MustBe told Status.Done) (Status.LibraryFault ∷ Status.OutputFault ∷ Status.Memory ∷ [])) }
-    ensures stopped { (n : ℕ) → IfAsked (command_of (texts words.now.items)) (L.files library.old) (HasGiven S.left S.faults input.old input.new) (λ told.
-        Comes result (Status.Stopped n) (MayBe told (Status.Stopped n)) (MustBe told (Status.Stopped n)) (Status.LibraryFault ∷ Status.OutputFault ∷ Status.Memory ∷ [])) }
-    ensures step_limit { IfAsked (command_of (texts words.now.items)) (L.files library.old) (HasGiven S.left S.faults input.old input.new) (λ told.
-        Comes result Status.StepLimit (MayBe told Status.StepLimit) (MustBe told Status.StepLimit) (Status.LibraryFault ∷ Status.OutputFault ∷ Status.Memory ∷ [])) }
-    ensures trapped { (trap : ATrap) → IfAsked (command_of (texts words.now.items)) (L.files library.old) (HasGiven S.left S.faults input.old input.new) (λ told.
-        Comes result (Status.Trapped trap) (MayBe told (Status.Trapped trap)) (MustBe told (Status.Trapped trap)) (Status.LibraryFault ∷ Status.OutputFault ∷ Status.Memory ∷ [])) }
-    ensures input_too_long { IfAsked (command_of (texts words.now.items)) (L.files library.old) (HasGiven S.left S.faults input.old input.new) (λ told.
-        Comes result Status.InputTooLong (MayBe told Status.InputTooLong) (MustBe told Status.InputTooLong) (Status.LibraryFault ∷ Status.OutputFault ∷ Status.Memory ∷ [])) }
-    ensures input_fault { IfAsked (command_of (texts words.now.items)) (L.files library.old) (HasGiven S.left S.faults input.old input.new) (λ told.
-        Comes result Status.InputFault (MayBe told Status.InputFault) (MustBe told Status.InputFault) (Status.LibraryFault ∷ Status.OutputFault ∷ Status.Memory ∷ [])) }
+    // When each status of a text comes, and what out and diag then have.
+    ensures answer { AnswersCall (AskFor (texts words.now.items)) (L.files library.old) (HasGiven S.left S.faults input.old input.new) result
+        (λ bytes. K.puts out.old bytes out.new) (λ bytes. D.puts diag.old bytes diag.new) }
+
+    // What a fault of the outside has behind it, and the end of the input.
     ensures read_failed { result ≡ Status.InputFault → Rose (S.faults input.old) (S.faults input.new) }
     ensures input_ended { result ≡ Status.Trapped EndOfInput → IsAtEnd (S.left input.new) × (S.faults input.new ≡ S.faults input.old) }
     ensures library_fault { result ≡ Status.LibraryFault → Rose (L.faults library.old) (L.faults library.new) }
@@ -53,14 +40,10 @@ pub fn eft<L: Library, S: Source, K: Sink, D: Sink>(
     ensures all_put_diag { result ≢ Status.OutputFault → D.faults diag.new ≡ D.faults diag.old }
     ensures all_fetched { IsOfText result → L.faults library.new ≡ L.faults library.old }
 
-    // What out and diag got, and nothing else.
-    ensures text_shown { IsOfText result → IsShown (command_of (texts words.now.items)) (L.files library.old) (HasGiven S.left S.faults input.old input.new) result
-        (λ bytes. K.puts out.old bytes out.new) (λ bytes. D.puts diag.old bytes diag.new) }
+    // What out and diag got with any other status, and nothing else.
     ensures line_shown { IfSome (fixed_line result) (λ line. K.puts out.old [] out.new × D.puts diag.old line diag.new) }
-    ensures failed_out { result ≡ Status.OutputFault → ForOut (command_of (texts words.now.items)) (L.files library.old) (HasGiven S.left S.faults input.old input.new) (λ bytes.
-        PutsPrefix K.puts out.old bytes out.new) }
-    ensures failed_front { result ≡ Status.OutputFault → ForDiag (command_of (texts words.now.items)) (L.files library.old) (HasGiven S.left S.faults input.old input.new) (λ line.
-        PutsPrefix D.puts diag.old line diag.new) }
+    ensures failed { result ≡ Status.OutputFault → WasToShow (AskFor (texts words.now.items)) (L.files library.old) (HasGiven S.left S.faults input.old input.new)
+        (λ bytes. PutsPrefix K.puts out.old bytes out.new) (λ bytes. PutsPrefix D.puts diag.old bytes diag.new) }
     ensures failed_diag { result ≡ Status.OutputFault → Rose (D.faults diag.old) (D.faults diag.new) ⊎ D.puts diag.old output_fault_line diag.new }
 
     // What became of the objects.

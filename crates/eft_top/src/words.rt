@@ -1,7 +1,8 @@
 // What the words of the command line ask for.
 ghost use Rattle.std.specs.Prelude.{◌≡◌, fold, unwrap_or};
 ghost use Rattle.std.specs.Option.{option_map};
-ghost use Rattle.eft_top.specs.Words.{asked as asked_of, at_stage, command_of, texts, asked_command, is_option as is_option_word, operands as operands_of, read as read_word, reading_of, start, with_operand as with_operand_word, with_steps as with_number, with_word as with_open_word};
+ghost use Rattle.eft_top.specs.Words.{AskFor, IsAsked, texts, is_option as is_option_word};
+ghost use Rattle.eft_top.specs.Reading.{asked as asked_of, at_stage, command_of, asked_command, operands as operands_of, read as read_word, reading_of, start, with_operand as with_operand_word, with_steps as with_number, with_word as with_open_word};
 
 use crate::numbers::steps_in;
 
@@ -35,9 +36,15 @@ pub struct Reading<'a> {
 
 /// What the words ask for, where they are a command.
 pub fn read_words(words: &Vec<String>) -> Option<Asked<'_>>
-    ensures { option_map asked_command result ≡ command_of (texts words.now.items) }
+    ensures { IsAsked (AskFor (texts words.now.items)) (option_map asked_command result) }
 {
-    match words.as_slice() {
+    read_command(words.as_slice())
+}
+
+fn read_command(words: &[String]) -> Option<Asked<'_>>
+    ensures { option_map asked_command result ≡ command_of (texts words.now) }
+{
+    match words {
         [command, rest @ ..] if command.as_str() == "run" => read_run(rest),
         _ => None,
     }

@@ -1,6 +1,7 @@
 -- What holds at each turn of the loops of `read_run`.
 use Rattle.std.proofs.Common.{◌≡◌, drop, fold}
-use Rattle.eft_top.specs.Words.{texts, start, read, reading_of}
+use Rattle.eft_top.specs.Words.{texts}
+use Rattle.eft_top.specs.Reading.{start, read, reading_of}
 use Rattle.eft_top.proofs.words.read_run.Given as goal
 
 abbrev pub invariant-loop-word : goal.invariant-loop-word

@@ -1,0 +1,60 @@
+-- What the clauses of `eft` say of a run of a text that the library tells and the checks accept: what it shows is what the text
+-- means, and it misses nothing that the text means. Each is said by what reads may have given, and by what holds of the bytes that
+-- out and diag got.
+use Rattle.std.specs.Prelude.{◌≡◌, ◌⊎◌, ℕ, ◌+◌, ◌*◌, ◌≤◌, Bool, true, false, List, [], ◌∷◌, Option, Some}
+use Rattle.ports.specs.Records.{output_bytes}
+use Rattle.f66_tree.specs.World.{Record, Shown, IsPrefix, Finish, Ended, GoesOn}
+use Rattle.f66_tree.specs.Agreement.{Same}
+use Rattle.macro_define.specs.Answers.{Holds}
+use Rattle.rat_front.specs.Verdict.{Meaning, Accepts, Becomes}
+use Rattle.eft_top.specs.declared.status.Status.{Status}
+use Rattle.eft_top.specs.declared.status.Status.TheVariants.{LibraryFault, OutputFault, StepLimit, Memory, InputTooLong}
+use Rattle.eft_top.specs.Input.{Got, is_too_long, records_of}
+use Rattle.eft_top.specs.Words.{AskFor, Run}
+use Rattle.eft_top.specs.Outcome.{end_status, end_line}
+use Rattle.eft_top.specs.Causes.{IsOneOf, IsOfText, AnswersCall}
+
+-- The words ask for a run of at most so many steps of the text in a file; the library tells that text, with its includes, and it is
+-- accepted with this meaning and these names of files; and this was the answer to the call.
+pub record IsRunOf (words : List (List ℕ)) (limit : ℕ) (file : List ℕ) (held : List ℕ → Option (List ℕ)) (files : List (List ℕ)) (meaning : Meaning) (given : Got → Type 0) (result : Status) (out diag : List ℕ → Type 0) : Type 0 where
+  pub asks : AskFor words (Run limit file)
+  pub accepted : Becomes file (Holds held) (Accepts files meaning)
+  pub answer : AnswersCall (AskFor words) (Some held) given result out diag
+
+-- the status is that of the end, out got the records, and diag the line of the end
+pub record Presents (files : List (List ℕ)) (limit : ℕ) (failed : Bool) (run : Shown) (result : Status) (out diag : List ℕ → Type 0) : Type 0 where
+  pub status : Some result ≡ end_status failed run.end
+  pub on_out : out (output_bytes run.records)
+  pub on_diag : diag (end_line files limit failed run.end)
+
+-- ---- what a run shows is what the text means ----
+
+-- a run has the records and the end that are meant; or it stopped at its limit with the first of the records that are meant
+abbrev pub IsMeant : Shown → Shown → Type 0
+IsMeant meant run = Same meant run ⊎ ((run.end ≡ GoesOn) × IsPrefix run.records meant.records)
+
+-- where the input is not too long, it shows a run that is what the text means over the records that were read
+abbrev pub RunShowsMeaning : (Got → Type 0) → (List ℕ → Type 0) → (List ℕ → Type 0) → Type 0
+RunShowsMeaning given out diag =
+    (words : List (List ℕ)) (limit : ℕ) (file : List ℕ) (held : List ℕ → Option (List ℕ)) (files : List (List ℕ)) (meaning : Meaning) (result : Status) →
+    IsRunOf words limit file held files meaning given result out diag → IsOfText result →
+    (got : Got) × given got × (((is_too_long got ≡ true) × (result ≡ InputTooLong))
+    ⊎ ((run : Shown) × IsMeant (meaning (records_of got) limit) run × Presents files limit got.failed run result out diag))
+
+-- ---- a run misses nothing that the text means ----
+
+-- Of what is meant within each bound on the turns of loops. Where it ends with a work w, it is what the call presents, if
+-- 32 * (w + 1) is within the limit; where it goes on, out got its records and may have got more, within the same limit; and where it
+-- goes on at every bound, the limit stops the run.
+pub record MissesNothing (meant : ℕ → Shown) (files : List (List ℕ)) (limit : ℕ) (failed : Bool) (result : Status) (out diag : List ℕ → Type 0) : Type 0 where
+  pub ended : (b : ℕ) (f : Finish) → (meant b).end ≡ Ended f → 32 * ((meant b).work + 1) ≤ limit → Presents files limit failed (meant b) result out diag
+  pub going : (b : ℕ) → (meant b).end ≡ GoesOn → 32 * ((meant b).work + 1) ≤ limit → (records : List Record) × IsPrefix (meant b).records records × out (output_bytes records)
+  pub endless : ((b : ℕ) → (meant b).end ≡ GoesOn) → result ≡ StepLimit
+
+-- unless a fetch or a put failed, or memory was wanting, and where the input is not too long
+abbrev pub RunMissesNothing : (Got → Type 0) → (List ℕ → Type 0) → (List ℕ → Type 0) → Type 0
+RunMissesNothing given out diag =
+    (words : List (List ℕ)) (limit : ℕ) (file : List ℕ) (held : List ℕ → Option (List ℕ)) (files : List (List ℕ)) (meaning : Meaning) (result : Status) →
+    IsRunOf words limit file held files meaning given result out diag →
+    IsOneOf result (LibraryFault ∷ OutputFault ∷ Memory ∷ [])
+    ⊎ ((got : Got) × given got × (is_too_long got ≡ false → MissesNothing (meaning (records_of got)) files limit got.failed result out diag))
