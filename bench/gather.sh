@@ -1,18 +1,8 @@
 #!/bin/sh
-# How fast texts become whole token lists: times the program gather_bench on 4 MiB in one file and on 4 MiB as 400 includes
-# of 10 KiB, and tests that a byte takes at most twice as long as by scan_bench alone. Wants the programs of both crates
-# (`rt run` in their folders makes them).
-here=$(CDPATH= cd -- "$(dirname -- "$0")/.." && pwd) || exit 1
-gather=$here/crates/gather_bench/out/gather_bench
-scan=$here/crates/scan_bench/out/scan_bench
-for program in "$gather" "$scan"; do
-    if [ ! -x "$program" ]; then
-        echo "no program $program: run 'rt run' in its crate first" >&2
-        exit 2
-    fi
-done
-work=$(mktemp -d) || exit 1
-trap 'rm -rf "$work"' EXIT
+# How fast texts become whole token lists: 4 MiB in one file and as 400 includes of 10 KiB beside scanning alone, and uses of
+# a long chain of macros, each of which stands for the one before, beside ten times as many of one of a tenth.
+. "$(dirname "$0")/common.sh"
+wants "$layers"
 cd "$work" || exit 1
 
 # Lines of 64 bytes with two tokens and a LineEnd, so that 4 MiB stay below 200,000 tokens.
@@ -20,30 +10,20 @@ yes 'total_of_the_first_elements total_of_the_second_elements # some ' | head -c
 yes 'total_of_the_first_elements total_of_the_second_elements # some ' | head -c 10240 >part
 for number in $(seq 400); do echo "include part"; done >includes
 
-# The least time of five runs, in microseconds.
-time_of() { # PROGRAM FILE
-    least=
-    for _ in 1 2 3 4 5; do
-        from=$(date +%s%N)
-        "$1" ratfor "$2" >/dev/null || exit 1
-        to=$(date +%s%N)
-        took=$(((to - from) / 1000))
-        if [ -z "$least" ] || [ "$took" -lt "$least" ]; then least=$took; fi
-    done
-    echo "$least"
+# 4,090 macros, of which each but the first stands for the one before, and so many uses of one of them.
+chain() { # USES NUMBER
+    awk -v uses="$1" -v number="$2" 'BEGIN {
+        print "define a0 k"
+        for (i = 1; i < 4090; i++) printf "define a%d a%d\n", i, i - 1
+        for (i = 0; i < uses; i++) printf "a%d\n", number
+    }'
 }
+# In either text 163,600 names are replaced.
+chain 40 4089 >deep
+chain 400 408 >shallow
 
-"$gather" ratfor large
-"$gather" ratfor includes
-scanned=$(time_of "$scan" large)
-whole=$(time_of "$gather" large)
-parts=$(time_of "$gather" includes)
-echo "scan alone: $scanned us; gather of one file: $whole us; gather of 400 includes: $parts us"
-status=0
-for took in "$whole" "$parts"; do
-    if [ "$took" -gt $((2 * scanned)) ]; then
-        echo "gather takes more than twice as long as scan" >&2
-        status=1
-    fi
-done
+scanned=$(layer_time scan ratfor large 5)
+compare "gathering one file, and scanning it" "$(layer_time gather ratfor large 5)" "$scanned" 2
+compare "gathering 400 includes, and scanning as much" "$(layer_time gather ratfor includes 5)" "$scanned" 2
+compare "uses of a chain of 4,090 macros, and ten times as many of one of 409" "$(layer_time gather ratfor deep 5)" "$(layer_time gather ratfor shallow 5)" 2
 exit $status

@@ -1,39 +1,35 @@
 #!/bin/sh
-# How fast trees of Ratfor become units of FORTRAN, their checks included: the time of lowering one unit of 20,000 statements against
-# that of one of 2,000, and whether it is at most 12 times as long. The small unit is one of ten that are lowered in turn, so that
-# both go over as much memory; the time of one that is lowered again and again, which is shorter, stands beside the others. Each is
-# the least of several rounds in one process that keeps its memory from round to round, so that the kernel's work for new pages
-# takes no part. Nor do reading a text and making its tree. Wants crates/lower_bench/out/lower_bench (`rt run` in that folder makes
-# it).
-here=$(CDPATH= cd -- "$(dirname -- "$0")/.." && pwd) || exit 1
-program=$here/crates/lower_bench/out/lower_bench
-if [ ! -x "$program" ]; then
-    echo "no program: run 'rt run' in crates/lower_bench first" >&2
-    exit 2
-fi
+# How fast trees of Ratfor become units of FORTRAN, and how fast units are checked: a unit of nearly 20,000 tokens, the most that
+# one may have, beside one of a tenth. Each time is a layer's own: that of the layers before it is taken off.
+. "$(dirname "$0")/common.sh"
+wants "$layers"
 
-# What glibc's malloc does not give back to the kernel until the process ends.
-kept=1073741824
+# A main unit of so many groups of 20 statements, in which all of Ratfor's forms come in turn.
+unit() { # GROUPS
+    awk -v n="$1" 'BEGIN {
+        for (i = 1; i <= n; i++) {
+            print "k = k + 1"
+            print "if (k < 5) k = k + 1"
+            print "if (k < 5) k = k + 1"; print "else k = k + 1"
+            print "while (k < 5) k = k + 1"
+            print "for (k = k + 1; k < 5; k = k + 1) if (k < 5) next"
+            print "do k = 1, 9"; print "k = k + 1"
+            print "repeat k = k + 1"; print "until (k < 5)"
+            print "switch (k) {"; print "case 1, 2: k = k + 1"; print "default: k = k + 1"; print "}"
+            printf "goto %d\n%d continue\n", i, i
+        }
+        print "end"
+    }'
+}
+unit 145 >"$work/large"
+unit 14 >"$work/small"
 
-# The least time of twenty rounds in each of ten processes, in nanoseconds.
-time_of() { # STATEMENTS TREES
-    for _ in 1 2 3 4 5 6 7 8 9 10; do
-        MALLOC_TRIM_THRESHOLD_=$kept MALLOC_MMAP_THRESHOLD_=$kept "$program" "$1" "$2" 20 || exit 1
-    done | sort -n | sed -n '1s/ ns$//p'
+# The time of a layer without that of the layer before it.
+own_time() { # LAYER BEFORE FILE ROUNDS
+    echo $(($(layer_time "$1" ratfor "$3" "$4") - $(layer_time "$2" ratfor "$3" "$4")))
 }
 
-ten=$(time_of 2000 10)
-large=$(time_of 20000 1)
-again=$(time_of 2000 1)
-if [ -z "$ten" ] || [ -z "$large" ] || [ -z "$again" ]; then
-    echo "lower_bench told no time" >&2
-    exit 1
-fi
-awk -v t="$ten" -v l="$large" -v a="$again" 'BEGIN {
-    printf "2,000 statements, one of ten units: %.2f ms; 20,000: %.2f ms; ratio %.1f\n", t / 1e7, l / 1e6, 10 * l / t
-    printf "2,000 statements again and again: %.2f ms; ratio %.1f\n", a / 1e6, l / a
-}'
-if [ $((10 * large)) -gt $((12 * ten)) ]; then
-    echo "ten times the statements take more than 12 times as long" >&2
-    exit 1
-fi
+compare "lowering 2,900 statements and 280" "$(own_time compile parse "$work/large" 40)" "$(own_time compile parse "$work/small" 200)" 12
+compare "checking 2,900 statements and 280" "$(own_time check compile "$work/large" 40)" "$(own_time check compile "$work/small" 200)" 12
+compare "the whole front, and gathering alone" "$(layer_time compile ratfor "$work/large" 40)" "$(layer_time gather ratfor "$work/large" 40)" 10
+exit $status

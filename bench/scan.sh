@@ -1,14 +1,8 @@
 #!/bin/sh
-# How fast texts become tokens: times the program scan_bench on texts that are made here, and tests that the time grows
-# with the number of bytes alone. Wants crates/scan_bench/out/scan_bench (`rt run` in that folder makes it).
-here=$(CDPATH= cd -- "$(dirname -- "$0")/.." && pwd) || exit 1
-program=$here/crates/scan_bench/out/scan_bench
-if [ ! -x "$program" ]; then
-    echo "no program: run 'rt run' in crates/scan_bench first" >&2
-    exit 2
-fi
-work=$(mktemp -d) || exit 1
-trap 'rm -rf "$work"' EXIT
+# How fast texts become tokens: whether the time grows with the number of bytes alone, and whether a byte of one long line
+# takes about as long as one of many short tokens.
+. "$(dirname "$0")/common.sh"
+wants "$layers"
 
 ratfor_text() {
     cat <<'TEXT'
@@ -33,63 +27,19 @@ for (i = 1, i <= limit_of_all, ++i) {
 TEXT
 }
 
-repeat_text() { # TEXT BYTES
-    yes "$1" | head -c "$2"
-}
-
-ratfor_text >"$work/ratfor"
-efl_text >"$work/efl"
 for language in ratfor efl; do
-    text=$(cat "$work/$language")
-    repeat_text "$text" 409600 >"$work/$language.small"
-    repeat_text "$text" 4194304 >"$work/$language.large"
+    yes "$(${language}_text)" | head -c 409600 >"$work/$language.small"
+    yes "$(${language}_text)" | head -c 4194304 >"$work/$language.large"
+    small=$(layer_time scan $language "$work/$language.small" 10)
+    large=$(layer_time scan $language "$work/$language.large" 5)
+    compare "$language: 4 MiB and 400 KiB" "$large" "$small" 11
+    echo "$language: $((4194304 * 1000 / (large / 1000))) KB a second"
 done
+
 yes 'total = total + list(i) * 36' | tr '\n' ';' | head -c 4194304 >"$work/line"
 yes 'a+b*' | tr -d '\n' | head -c 200000 >"$work/tokens"
-
-# The least time of five runs, in microseconds.
-time_of() { # LANGUAGE FILE
-    least=
-    for _ in 1 2 3 4 5; do
-        from=$(date +%s%N)
-        "$program" "$1" "$2" >/dev/null || exit 1
-        to=$(date +%s%N)
-        took=$(((to - from) / 1000))
-        if [ -z "$least" ] || [ "$took" -lt "$least" ]; then least=$took; fi
-    done
-    echo "$least"
-}
-
-words_time() { # FILE
-    from=$(date +%s%N)
-    LC_ALL=C wc -w "$1" >/dev/null
-    to=$(date +%s%N)
-    echo $(((to - from) / 1000))
-}
-
-status=0
-: >"$work/empty"
-start=$(time_of ratfor "$work/empty")
-echo "start of the program: $start us"
-
-for language in ratfor efl; do
-    small=$(time_of $language "$work/$language.small")
-    large=$(time_of $language "$work/$language.large")
-    words=$(words_time "$work/$language.large")
-    echo "$language: 400 KiB $small us, 4 MiB $large us, $((4194304 * 1000 / large)) KB/s, wc -w $words us, ratio $((large * 100 / (words + 1)))%"
-    if [ "$large" -gt $((11 * small)) ]; then
-        echo "$language: 4 MiB take more than 11 times as long as 400 KiB" >&2
-        status=1
-    fi
-done
-
-line=$(time_of ratfor "$work/line")
-tokens=$(time_of ratfor "$work/tokens")
-per_line=$(((line - start) * 1000000 / 4194304))
-per_token=$(((tokens - start) * 1000000 / 200000))
-echo "one line of 4 MiB: $line us, $per_line ps a byte; 200,000 tokens of one character: $tokens us, $per_token ps a byte"
-if [ "$per_token" -gt $((4 * per_line)) ] || [ "$per_line" -gt $((4 * per_token)) ]; then
-    echo "one line and many tokens differ by more than a factor of 4 a byte" >&2
-    status=1
-fi
+line=$(layer_time scan ratfor "$work/line" 5)
+tokens=$(($(layer_time scan ratfor "$work/tokens" 20) * 4194304 / 200000))
+compare "as many bytes as tokens of one character, and in one line" "$tokens" "$line" 4
+compare "as many bytes in one line, and as tokens of one character" "$line" "$tokens" 4
 exit $status

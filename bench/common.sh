@@ -1,0 +1,37 @@
+# What the scripts of this folder share: the programs, a folder for texts, the least time of a layer, and how figures are told.
+# Each script reads it by `. "$(dirname "$0")/common.sh"`, and ends with `exit $status`.
+here=$(CDPATH= cd -- "$(dirname -- "$0")/.." && pwd) || exit 1
+eft=$here/crates/eft/out/eft
+layers=$here/crates/bench/out/bench
+status=0
+work=$(mktemp -d) || exit 1
+trap 'rm -rf "$work"' EXIT
+
+# Ends the script unless the program is built; `./eft` builds eft, and `rt run` in crates/bench the layers.
+wants() { # PROGRAM
+    [ -x "$1" ] || { echo "$0: $1 is not built" >&2; exit 2; }
+}
+
+# What a layer does with a text, in nanoseconds: the least of so many rounds, all that comes before the layer with it.
+layer_time() { # LAYER LANGUAGE FILE ROUNDS
+    "$layers" "$1" "$2" "$3" "$4" | sed -n 's/ ns$//p'
+}
+
+# The least time of three runs of a command over an input, in nanoseconds. What it writes is left in $work/out.
+command_time() { # INPUT COMMAND...
+    input=$1
+    shift
+    for _ in 1 2 3; do
+        from=$(date +%s%N)
+        "$@" <"$input" 2>"$work/err" | cat >"$work/out"
+        echo $(($(date +%s%N) - from))
+    done | sort -n | head -n 1
+}
+
+# Tells how many times as long one took as another, and whether that is at most what is wanted.
+compare() { # WHAT TOOK BESIDE WANTED
+    awk -v what="$1" -v took="$2" -v beside="$3" -v wanted="$4" 'BEGIN {
+        printf "%s: %.2f ms beside %.2f ms, %.1f times (at most %s wanted)\n", what, took / 1e6, beside / 1e6, took / beside, wanted
+        exit took > wanted * beside
+    }' || status=1
+}

@@ -1,0 +1,85 @@
+// The work of each layer on the text of a file: how many tokens, units or statements it makes.
+
+use anyhow::{Result, bail};
+use f66_check::check_unit;
+use free_scan::scan;
+use ground::{Dialect, Fault};
+use macro_define::{Gathered, TextRefusal, gather};
+use ports::FileLibrary;
+use rat_front::{Compiled, compile_text};
+use rat_parse::parse;
+use std::fs;
+
+/// The tokens of the file alone.
+pub fn scanned(rt: &HostRuntime, dialect: Dialect, path: &str) -> Result<usize> {
+    let text = fs::read(rt, path)?;
+    if text.len() >= 4_294_967_295 {
+        bail!("the text is too long");
+    }
+    match scan(rt.alloc(), dialect, &text, 0) {
+        Ok(all) => Ok(all.tokens.len()),
+        Err(_) => bail!("out of memory"),
+    }
+}
+
+/// The tokens with macros and includes.
+pub fn gathered(rt: &HostRuntime, dialect: Dialect, path: &str) -> Result<usize> {
+    let mut library = FileLibrary::new(rt);
+    match gather(rt.alloc(), dialect, path, &mut library) {
+        Ok(all) => Ok(all.tokens.len()),
+        Err(refusal) => refused(refusal),
+    }
+}
+
+/// The units of the tree.
+pub fn parsed(rt: &HostRuntime, dialect: Dialect, path: &str) -> Result<usize> {
+    let mut library = FileLibrary::new(rt);
+    match gather(rt.alloc(), dialect, path, &mut library) {
+        Ok(Gathered { tokens, files: _ }) => {
+            let program = parse(rt.alloc(), &tokens)?;
+            Ok(program.units.len())
+        }
+        Err(refusal) => refused(refusal),
+    }
+}
+
+/// The statements of the unit that the text becomes.
+pub fn compiled(rt: &HostRuntime, path: &str) -> Result<usize> {
+    let mut library = FileLibrary::new(rt);
+    match compile_text(rt.alloc(), path, &mut library) {
+        Ok(Compiled { unit, files: _ }) => Ok(unit.unit().statements.len()),
+        Err(refusal) => refused(refusal),
+    }
+}
+
+/// The statements of that unit once it has been checked.
+pub fn checked(rt: &HostRuntime, path: &str) -> Result<usize> {
+    let mut library = FileLibrary::new(rt);
+    match compile_text(rt.alloc(), path, &mut library) {
+        Ok(Compiled { unit, files: _ }) => {
+            let unit = check_unit(rt.alloc(), unit.into_unit())?;
+            Ok(unit.unit().statements.len())
+        }
+        Err(refusal) => refused(refusal),
+    }
+}
+
+fn refused(refusal: TextRefusal) -> Result<usize> {
+    match refusal {
+        TextRefusal::Fault(
+            Fault {
+                kind,
+                place,
+                number: _,
+            },
+            _,
+        ) => bail!(
+            "fault {} {} at line {}",
+            kind.number(),
+            kind.word(),
+            place.line
+        ),
+        TextRefusal::Library => bail!("a fetch failed"),
+        TextRefusal::Memory => bail!("out of memory"),
+    }
+}

@@ -1,3 +1,0 @@
-define size 7
-include part.r
-k = size

@@ -1,6 +1,0 @@
-define limit 80
-if (k .ge. limit_ # joined in EFL alone
-    & k <= 200) {
-	call show("it\'s", k)
-}
-% not a line of Ratfor
