@@ -35,6 +35,21 @@ fn of_one_call(rt: HostRuntime) -> Result<(), Fail> {
     )
 }
 
+// A run that writes nothing and ends puts nothing, so no put can fail.
+#[test]
+fn of_no_put(rt: HostRuntime) -> Result<(), Fail> {
+    let texts: Texts<'static> = &[("p.r", b"end\n")];
+    expect_all(
+        &rt,
+        rt.alloc(),
+        texts,
+        &[
+            (&[], (0, 1, 1, 0), (0, "", "")),
+            (&[], (0, 0, 0, 0), (0, "", "")),
+        ],
+    )
+}
+
 // A sink has as much room as the records take, or one byte less.
 #[test]
 fn of_room(rt: HostRuntime) -> Result<(), Fail> {
