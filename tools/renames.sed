@@ -1,6 +1,7 @@
 # The words of specs and the crates that were renamed, for code that was written with the old ones: sed -i -E -f tools/renames.sed FILE..
-# A word is renamed only where it comes from the module that stands above it: where a file has the same word from elsewhere, or where two
-# new words meet, look at what this does. It goes when nothing is left that has the old words.
+# A word is renamed only where it comes from the module that stands above it. tools/renames.py, which reads this list, looks at that for each
+# file; sed does not, so look at what it does where a file has the same word from elsewhere, or where two new words meet. Both go
+# when nothing is left that has the old words.
 
 # crates
 s/\brat_grammar\b/rat_parse/g
