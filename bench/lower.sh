@@ -31,5 +31,5 @@ own_time() { # LAYER BEFORE FILE ROUNDS
 
 compare "lowering 2,900 statements and 280" "$(own_time compile parse "$work/large" 40)" "$(own_time compile parse "$work/small" 200)" 12
 compare "checking 2,900 statements and 280" "$(own_time check compile "$work/large" 40)" "$(own_time check compile "$work/small" 200)" 12
-compare "the whole front, and gathering alone" "$(layer_time compile ratfor "$work/large" 40)" "$(layer_time gather ratfor "$work/large" 40)" 10
+compare "the whole front, and gathering alone" "$(layer_time compile ratfor "$work/large" 40)" "$(layer_time gather ratfor "$work/large" 40)" 2
 exit $status

@@ -1,6 +1,6 @@
 #!/bin/sh
-# How fast the tokens of a Ratfor text become its tree: whether ten times the tokens take at most twelve times as long, and how
-# long gathering alone takes of that.
+# How fast the tokens of a Ratfor text become its tree: whether ten times the tokens take at most twelve times as long, and how many
+# times as long as gathering alone it takes.
 . "$(dirname "$0")/common.sh"
 wants "$layers"
 
@@ -20,6 +20,6 @@ for shape in sums blocks; do
     for number in 1 2 3 4 5 6 7 8 9 10; do cat "$work/$shape.small"; done >"$work/$shape.large"
     large=$(layer_time parse ratfor "$work/$shape.large" 5)
     compare "$shape: 200,000 tokens and 20,000" "$large" "$(layer_time parse ratfor "$work/$shape.small" 10)" 12
-    compare "$shape: 200,000 tokens, and gathering them" "$large" "$(layer_time gather ratfor "$work/$shape.large" 5)" 10
+    compare "$shape: 200,000 tokens, and gathering them" "$large" "$(layer_time gather ratfor "$work/$shape.large" 5)" 2.5
 done
 exit $status
