@@ -1,6 +1,6 @@
 // The rules of order, labels and DO ranges.
 ghost use Rattle.std.specs.Prelude.{◌≡◌, ◌<◌, ℕ, length, false};
-ghost use Rattle.ground.specs.declared.fault.FaultKind.{FaultKind};
+ghost use Rattle.rule_table.specs.declared.rule.Rule.{Rule};
 ghost use Rattle.rule_table.specs.FaultRules.{first_rule};
 ghost use Rattle.f66_tree.specs.Views.{line_of};
 ghost use Rattle.f66_flow.specs.FlowRules.{breaks_flow, breaks_flow_at, header_breaks_flow};
@@ -8,19 +8,19 @@ ghost use Rattle.f66_flow.specs.Under.{lines_under};
 
 use f66_flow::{Flow, Scope, broken_rule, header_rule};
 use f66_tree::Stmt;
-use ground::FaultKind;
+use rule_table::Rule;
 
 /// The rule with the smallest number that the statement with the number i breaks, where no earlier one breaks any.
-pub fn line_breaks(scope: Scope, flow: &Flow, i: usize, statement: &Stmt) -> Option<FaultKind>
+pub fn line_breaks(scope: Scope, flow: &Flow, i: usize, statement: &Stmt) -> Option<Rule>
     requires within { i < length flow.now.labels.statements.now }
-    requires earlier { (j : ℕ) (k : FaultKind) → j < i → breaks_flow_at scope (lines_under flow.now) j k ≡ false }
+    requires earlier { (j : ℕ) (k : Rule) → j < i → breaks_flow_at scope (lines_under flow.now) j k ≡ false }
     ensures { result ≡ first_rule (breaks_flow scope (lines_under flow.now) i (line_of statement.now)) }
 {
     broken_rule(scope, flow, i, statement)
 }
 
 /// The rule that a unit's header breaks.
-pub fn header_breaks(scope: Scope, flow: &Flow) -> Option<FaultKind>
+pub fn header_breaks(scope: Scope, flow: &Flow) -> Option<Rule>
     ensures { result ≡ first_rule (header_breaks_flow scope (lines_under flow.now)) }
 {
     header_rule(scope, flow)

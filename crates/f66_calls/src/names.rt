@@ -9,7 +9,7 @@ ghost use Rattle.f66_names.specs.DeclarationViews.{context_in, acts_in};
 
 use f66_names::{Names, Saying, broken_rule, condition_rule, counting_rule, is_built, names_of};
 use f66_tree::{Expr, Header, Name, Par, StmtKind};
-use ground::FaultKind;
+use rule_table::Rule;
 use std::alloc::{AllocError, Global};
 
 /// The rule with the smallest number that the statement with the number i breaks.
@@ -18,7 +18,7 @@ pub fn saying_breaks(
     names: &Names,
     i: usize,
     kind: &StmtKind,
-) -> Result<Option<FaultKind>, AllocError>
+) -> Result<Option<Rule>, AllocError>
     ensures { IfOk result
         (λ o. o ≡ first_rule (breaks_name (context_in names.now.declarations) (acts_in names.now.declarations) i (act_of kind.now))) }
 {
@@ -30,7 +30,7 @@ pub fn condition_breaks(
     alloc: Global,
     names: &Names,
     e: &Expr,
-) -> Result<Option<FaultKind>, AllocError>
+) -> Result<Option<Rule>, AllocError>
     ensures { IfOk result
         (λ o. (i : ℕ) → o ≡ first_rule (breaks_name (context_in names.now.declarations) (acts_in names.now.declarations) i (When (formula_of e.now) Continue))) }
 {
@@ -45,7 +45,7 @@ pub fn counting_breaks(
     first: &Par,
     last: &Par,
     step: &Par,
-) -> Result<Option<FaultKind>, AllocError>
+) -> Result<Option<Rule>, AllocError>
     ensures { IfOk result
         (λ o. (i l : ℕ) → o ≡ first_rule (breaks_name (context_in names.now.declarations) (acts_in names.now.declarations) i
         (Loop l variable.now (par_of first.now) (par_of last.now) (par_of step.now)))) }

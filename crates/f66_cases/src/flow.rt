@@ -4,13 +4,13 @@ ghost use Rattle.std.specs.Prelude.{◌≡◌, ◌<◌, ℕ, false};
 use crate::reading::statements;
 use crate::runs::FLOW;
 use f66_flow::{Flow, Scope, broken_rule, flow_of, header_rule};
-use ground::FaultKind;
+use rule_table::Rule;
 use std::alloc::{AllocError, Global};
 use std::process::Abort;
 use std::test::Fail;
 
 /// The first part of a unit that breaks one of these rules: 0 for its header, or a statement's number from 1.
-fn first_broken(scope: Scope, flow: &Flow) -> Option<(usize, FaultKind)> {
+fn first_broken(scope: Scope, flow: &Flow) -> Option<(usize, Rule)> {
     if let Some(kind) = header_rule(scope, flow) {
         return Some((0, kind));
     }

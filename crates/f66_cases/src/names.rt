@@ -3,14 +3,14 @@
 use crate::reading::statements;
 use f66_names::{Saying, broken_rule, names_of};
 use f66_tree::{Header, Stmt};
-use ground::{FaultKind, Text};
+use ground::{Rule, Text};
 use name_alloc::Names;
 use std::alloc::{AllocError, Global};
 use std::process::Abort;
 use std::test::Fail;
 
 /// The rule that the last of some statements breaks.
-fn rule_of_last(alloc: Global, statements: &[Stmt]) -> Result<Option<FaultKind>, AllocError> {
+fn rule_of_last(alloc: Global, statements: &[Stmt]) -> Result<Option<Rule>, AllocError> {
     let header = Header::Main;
     let mut sayings = Vec::new(alloc);
     for statement in statements {

@@ -5,9 +5,9 @@ use Rattle.std.specs.declared.alloc.AllocError.{AllocError}
 use Rattle.std.specs.List.{slice_get}
 use Rattle.std.proofs.lemmas.Option.{slice_get-map, slice_get_past}
 use Rattle.std.proofs.lemmas.Bool.{or_parts, cases_lt}
-use Rattle.ground.specs.FaultNames.{fault_number}
-use Rattle.ground.specs.declared.fault.FaultKind.{FaultKind}
-use Rattle.ground.specs.declared.fault.FaultKind.TheVariants.{Unbuilt}
+use Rattle.rule_table.specs.FaultRules.{rule_number}
+use Rattle.rule_table.specs.declared.rule.Rule.{Rule}
+use Rattle.rule_table.specs.declared.rule.Rule.TheVariants.{Unbuilt}
 use Rattle.rule_table.specs.First.{IsFirst, IsClean}
 use Rattle.rule_table.specs.FaultRules.{first_rule}
 use Rattle.rule_table.specs.Words.{first_place, is_some_and}
@@ -37,43 +37,43 @@ part_at w c acts all i s e =
     ap (breaks_part w c acts (lines_of all)) (add-one i)
     ∙ ap (λ o. λ k. is_some_and (λ t. breaks_line w c acts (lines_of all) i t k) o) (slice_get-map line_of all i ∙ ap (option_map line_of) e)
 
-pub statement_first : (w : Scope) (c : Context) (acts : List Act) (all : List Stmt) (i : ℕ) (s : Stmt) (kind : FaultKind) → slice_get all i ≡ Some s →
+pub statement_first : (w : Scope) (c : Context) (acts : List Act) (all : List Stmt) (i : ℕ) (s : Stmt) (kind : Rule) → slice_get all i ≡ Some s →
     Some kind ≡ first_rule (breaks_line w c acts (lines_of all) i (line_of s)) →
-    ((j : ℕ) (k : FaultKind) → j < i + 1 → breaks_part w c acts (lines_of all) j k ≡ false) →
-    IsFirst fault_number (breaks_part w c acts (lines_of all)) (i + 1) kind
+    ((j : ℕ) (k : Rule) → j < i + 1 → breaks_part w c acts (lines_of all) j k ≡ false) →
+    IsFirst rule_number (breaks_part w c acts (lines_of all)) (i + 1) kind
 statement_first w c acts all i s kind e found before =
     part_first (breaks_part w c acts (lines_of all)) (i + 1) kind (found ∙ ap first_rule (sym (part_at w c acts all i s e))) before
 
 pub statement_clean : (w : Scope) (c : Context) (acts : List Act) (all : List Stmt) (i : ℕ) (s : Stmt) → slice_get all i ≡ Some s →
     None ≡ first_rule (breaks_line w c acts (lines_of all) i (line_of s)) →
-    ((j : ℕ) (k : FaultKind) → j < i + 1 → breaks_part w c acts (lines_of all) j k ≡ false) →
-    (j : ℕ) (k : FaultKind) → j < i + 1 + 1 → breaks_part w c acts (lines_of all) j k ≡ false
+    ((j : ℕ) (k : Rule) → j < i + 1 → breaks_part w c acts (lines_of all) j k ≡ false) →
+    (j : ℕ) (k : Rule) → j < i + 1 + 1 → breaks_part w c acts (lines_of all) j k ≡ false
 statement_clean w c acts all i s e found before =
     part_clean (breaks_part w c acts (lines_of all)) (i + 1) (found ∙ ap first_rule (sym (part_at w c acts all i s e))) before
 
 -- a header that breaks no rule
-pub header_clean : (breaks : ℕ → FaultKind → Bool) → None ≡ first_rule (breaks 0) → (j : ℕ) (k : FaultKind) → j < 0 + 1 → breaks j k ≡ false
+pub header_clean : (breaks : ℕ → Rule → Bool) → None ≡ first_rule (breaks 0) → (j : ℕ) (k : Rule) → j < 0 + 1 → breaks j k ≡ false
 header_clean breaks found = part_clean breaks 0 found (λ j k h. absurd (omega arith))
 
 -- there is nothing past the last statement
-past : (w : Scope) (c : Context) (acts : List Act) (all : List Stmt) (i : ℕ) (k : FaultKind) → length all ≤ i → breaks_part w c acts (lines_of all) (suc i) k ≡ false
+past : (w : Scope) (c : Context) (acts : List Act) (all : List Stmt) (i : ℕ) (k : Rule) → length all ≤ i → breaks_part w c acts (lines_of all) (suc i) k ≡ false
 past w c acts all i k h =
     ap (is_some_and (λ s. breaks_line w c acts (lines_of all) i s k)) (slice_get-map line_of all i ∙ ap (option_map line_of) (slice_get_past all i h))
 
 -- a statement that breaks no rule breaks none of order, labels and DO ranges
-flow_clean : (w : Scope) (c : Context) (acts : List Act) (lines : List Line) (j : ℕ) (k : FaultKind) → breaks_part w c acts lines (suc j) k ≡ false → breaks_flow_at w lines j k ≡ false
+flow_clean : (w : Scope) (c : Context) (acts : List Act) (lines : List Line) (j : ℕ) (k : Rule) → breaks_part w c acts lines (suc j) k ≡ false → breaks_flow_at w lines j k ≡ false
 flow_clean w c acts lines j k h = by_line (slice_get lines j) h
   where
     by_line : (o : Option Line) → is_some_and (λ s. breaks_line w c acts lines j s k) o ≡ false → is_some_and (λ s. breaks_flow w lines j s k) o ≡ false
     by_line None e = refl
     by_line (Some s) e = (or_parts (breaks_flow w lines j s k) _ e).0
 
-pub flow_before : (w : Scope) (c : Context) (acts : List Act) (lines : List Line) (i : ℕ) → ((j : ℕ) (k : FaultKind) → j < i + 1 → breaks_part w c acts lines j k ≡ false) →
-    (j : ℕ) (k : FaultKind) → j < i → breaks_flow_at w lines j k ≡ false
+pub flow_before : (w : Scope) (c : Context) (acts : List Act) (lines : List Line) (i : ℕ) → ((j : ℕ) (k : Rule) → j < i + 1 → breaks_part w c acts lines j k ≡ false) →
+    (j : ℕ) (k : Rule) → j < i → breaks_flow_at w lines j k ≡ false
 flow_before w c acts lines i before j k h = flow_clean w c acts lines j k (before (suc j) k (omega arith))
 
 pub all_clean : (w : Scope) (c : Context) (acts : List Act) (all : List Stmt) (n : ℕ) → length all ≤ n →
-    ((j : ℕ) (k : FaultKind) → j < n + 1 → breaks_part w c acts (lines_of all) j k ≡ false) → IsClean (breaks_part w c acts (lines_of all))
+    ((j : ℕ) (k : Rule) → j < n + 1 → breaks_part w c acts (lines_of all) j k ≡ false) → IsClean (breaks_part w c acts (lines_of all))
 all_clean w c acts all n h before zero k = before zero k (omega arith)
 all_clean w c acts all n h before (suc i) k =
     elim (cases_lt i n) [ inl less ↦ before (suc i) k (omega (arith, less)) | inr most ↦ past w c acts all i k (omega (arith, h, most)) ]
@@ -113,27 +113,27 @@ unbuilt_at w u i e found =
 all_built : (u : Routine) → is_main u.header ≡ true → unbuilt_line (context_of u) u.lines ≡ None → first_unbuilt u ≡ None
 all_built u e found = ap (λ b. if b then option_map (λ n. n + 1) (unbuilt_line (context_of u) u.lines) else Some 0) e ∙ ap (option_map (λ n. n + 1)) found
 
-first_told : (w : Scope) (u : Routine) (o : Option (ℕ × FaultKind)) → first_unbuilt u ≡ None →
-    MatchOption o (IsClean (breaks_at w u)) (λ r. IsFirst fault_number (breaks_at w u) r.0 r.1) →
+first_told : (w : Scope) (u : Routine) (o : Option (ℕ × Rule)) → first_unbuilt u ≡ None →
+    MatchOption o (IsClean (breaks_at w u)) (λ r. IsFirst rule_number (breaks_at w u) r.0 r.1) →
     MatchOption o (IsFaultless w u) (λ r. IsFirstKind (first_unbuilt u) w u r.0 r.1)
 first_told w u None built told = record { built = built; clean = told }
 first_told w u (Some r) built told = subst (λ m. IsFirstKind m w u r.0 r.1) (sym built) told
 
 -- what the rules tell of a main whose statements are built
-told_of : (w : Scope) (u : Routine) (c : Context) (acts : List Act) (lines : List Line) (o : Option (ℕ × FaultKind)) → is_main u.header ≡ true →
+told_of : (w : Scope) (u : Routine) (c : Context) (acts : List Act) (lines : List Line) (o : Option (ℕ × Rule)) → is_main u.header ≡ true →
     c ≡ context_of u → acts ≡ acts_in_unit u.lines → lines ≡ u.lines → unbuilt_line (context_of u) u.lines ≡ None →
-    MatchOption o (IsClean (breaks_part w c acts lines)) (λ r. IsFirst fault_number (breaks_part w c acts lines) r.0 r.1) →
+    MatchOption o (IsClean (breaks_part w c acts lines)) (λ r. IsFirst rule_number (breaks_part w c acts lines) r.0 r.1) →
     MatchOption o (IsFaultless w u) (λ r. IsFirstKind (first_unbuilt u) w u r.0 r.1)
 told_of w u c acts lines o main same_context same_acts same_lines found told =
     first_told w u o (all_built u main found)
-    (subst (λ d. MatchOption o (IsClean (breaks_part w d (acts_in_unit u.lines) u.lines)) (λ r. IsFirst fault_number (breaks_part w d (acts_in_unit u.lines) u.lines) r.0 r.1)) same_context
-    (subst (λ xs. MatchOption o (IsClean (breaks_part w c xs u.lines)) (λ r. IsFirst fault_number (breaks_part w c xs u.lines) r.0 r.1)) same_acts
-    (subst (λ ys. MatchOption o (IsClean (breaks_part w c acts ys)) (λ r. IsFirst fault_number (breaks_part w c acts ys) r.0 r.1)) same_lines told)))
+    (subst (λ d. MatchOption o (IsClean (breaks_part w d (acts_in_unit u.lines) u.lines)) (λ r. IsFirst rule_number (breaks_part w d (acts_in_unit u.lines) u.lines) r.0 r.1)) same_context
+    (subst (λ xs. MatchOption o (IsClean (breaks_part w c xs u.lines)) (λ r. IsFirst rule_number (breaks_part w c xs u.lines) r.0 r.1)) same_acts
+    (subst (λ ys. MatchOption o (IsClean (breaks_part w c acts ys)) (λ r. IsFirst rule_number (breaks_part w c acts ys) r.0 r.1)) same_lines told)))
 
 -- the same of what the rules answer, or of want of memory
-pub told_by : (w : Scope) (u : Routine) (c : Context) (acts : List Act) (lines : List Line) (r : Result (Option (ℕ × FaultKind)) AllocError) → is_main u.header ≡ true →
+pub told_by : (w : Scope) (u : Routine) (c : Context) (acts : List Act) (lines : List Line) (r : Result (Option (ℕ × Rule)) AllocError) → is_main u.header ≡ true →
     c ≡ context_of u → acts ≡ acts_in_unit u.lines → lines ≡ u.lines → unbuilt_line (context_of u) u.lines ≡ None →
-    IfOk r (λ o. MatchOption o (IsClean (breaks_part w c acts lines)) (λ p. IsFirst fault_number (breaks_part w c acts lines) p.0 p.1)) →
+    IfOk r (λ o. MatchOption o (IsClean (breaks_part w c acts lines)) (λ p. IsFirst rule_number (breaks_part w c acts lines) p.0 p.1)) →
     IfOk r (λ o. MatchOption o (IsFaultless w u) (λ p. IsFirstKind (first_unbuilt u) w u p.0 p.1))
 told_by w u c acts lines (Ok o) main same_context same_acts same_lines found told = told_of w u c acts lines o main same_context same_acts same_lines found told
 told_by w u c acts lines (Err e) main same_context same_acts same_lines found told = tt

@@ -4,8 +4,8 @@ use Rattle.std.specs.Prelude.{is_some, not, if◌then◌else◌}
 use Rattle.std.specs.List.{slice_get, list_any}
 use Rattle.std.proofs.lemmas.Option.{slice_get-map}
 use Rattle.std.proofs.lemmas.Bool.{or_parts}
-use Rattle.ground.specs.declared.fault.FaultKind.{FaultKind}
-use Rattle.ground.specs.declared.fault.FaultKind.TheVariants.{BadLabel}
+use Rattle.rule_table.specs.declared.rule.Rule.{Rule}
+use Rattle.rule_table.specs.declared.rule.Rule.TheVariants.{BadLabel}
 use Rattle.rule_table.specs.Words.{is_some_and}
 use Rattle.f66_tree.specs.Syntax.{Header, MainUnit, SubUnit, FuncUnit, DataUnit, Act, When, Read, Write, Format, Line, Routine}
 use Rattle.f66_tree.specs.Units.{Note, Context, is_main, is_note, notes_of, format_of}
@@ -62,7 +62,7 @@ line_at lines i a e = by_line (slice_get lines i) refl (sym (slice_get-map (λ s
     by_line None is h = absurd (true≢false (sym (ap is_some h)))
     by_line (Some s) is h = (s, is, cc)
 
-clean_line : (u : Routine) → IsSound u → (i : ℕ) (s : Line) (k : FaultKind) → slice_get u.lines i ≡ Some s →
+clean_line : (u : Routine) → IsSound u → (i : ℕ) (s : Line) (k : Rule) → slice_get u.lines i ≡ Some s →
     (breaks_flow Whole u.lines i s k ≡ false) × (breaks_name (context_of u) (acts_in_unit u.lines) i s.act k ≡ false)
 clean_line u sound i s k is =
     or_parts (breaks_flow Whole u.lines i s k) _

@@ -1,10 +1,10 @@
 -- What the checks of a unit answer: that nothing is at fault, or the first fault.
 use Rattle.std.specs.Prelude.{◌≡◌, ℕ, zero, suc, Option, Some, None, option_map, ⊤}
 use Rattle.std.specs.List.{slice_get}
-use Rattle.ground.specs.FaultNames.{fault_number}
+use Rattle.rule_table.specs.FaultRules.{rule_number}
 use Rattle.ground.specs.declared.place.Place.{Place}
-use Rattle.ground.specs.declared.fault.FaultKind.{FaultKind}
-use Rattle.ground.specs.declared.fault.FaultKind.TheVariants.{Unbuilt}
+use Rattle.rule_table.specs.declared.rule.Rule.{Rule}
+use Rattle.rule_table.specs.declared.rule.Rule.TheVariants.{Unbuilt}
 use Rattle.ground.specs.declared.fault.Fault.{Fault}
 use Rattle.ground.specs.declared.fault.Refusal.{Refusal}
 use Rattle.ground.specs.declared.fault.Refusal.TheVariants.{Fault as AFault, Memory}
@@ -31,9 +31,9 @@ pub record IsSound (u : Routine) : Type 0 where
   pub clean : IsClean (breaks_at Whole u)
 
 -- the first fault of a unit: the first part that is not built, wherever it stands; else that of the rules
-abbrev pub IsFirstKind : Option ℕ → Scope → Routine → ℕ → FaultKind → Type 0
+abbrev pub IsFirstKind : Option ℕ → Scope → Routine → ℕ → Rule → Type 0
 IsFirstKind (Some m) w u n kind = (n ≡ m) × (kind ≡ Unbuilt)
-IsFirstKind None w u n kind = IsFirst fault_number (breaks_at w u) n kind
+IsFirstKind None w u n kind = IsFirst rule_number (breaks_at w u) n kind
 
 -- f is the first fault, and stands at the part with the number n
 pub record IsFirstFault (w : Scope) (u : Routine) (n : ℕ) (f : Fault) : Type 0 where

@@ -11,7 +11,7 @@ use crate::unbuilt::{is_main, sayings_of, unbuilt_statement};
 use f66_flow::{Scope, flow_of};
 use f66_names::names_of;
 use f66_tree::Unit;
-use ground::{Fault, FaultKind, Memory, Place, Refusal};
+use ground::{Fault, Rule, Memory, Place, Refusal};
 use rule_table::limit_of;
 use std::alloc::{AllocError, Global};
 use std::marker::Model;
@@ -21,19 +21,19 @@ fn first_of(
     alloc: Global,
     scope: Scope,
     unit: &Unit,
-) -> Result<Option<(usize, FaultKind)>, AllocError>
+) -> Result<Option<(usize, Rule)>, AllocError>
     ensures within { IfOk result (λ o. IfSome o (λ r. r.0 ≤ length unit.now.statements.items)) }
     ensures first { IfOk result (λ o. MatchOption o (IsFaultless scope (routine_of unit.now))
         (λ r. IsFirstKind (first_unbuilt (routine_of unit.now)) scope (routine_of unit.now) r.0 r.1)) }
 {
     if !is_main(&unit.header) {
-        return Ok(Some((0, FaultKind::Unbuilt)));
+        return Ok(Some((0, Rule::Unbuilt)));
     }
     let sayings = sayings_of(alloc, &unit.statements)?;
     let names = names_of(alloc, &unit.header, &sayings)?;
     let unbuilt = unbuilt_statement(alloc, &names, &unit.statements)?;
     if let Some(i) = unbuilt {
-        return Ok(Some((i + 1, FaultKind::Unbuilt)));
+        return Ok(Some((i + 1, Rule::Unbuilt)));
     }
     let flow = flow_of(alloc, &unit.statements)?;
     first_broken(alloc, scope, &flow, &names)
@@ -51,7 +51,7 @@ fn place_of(unit: &Unit, number: usize) -> Place
 }
 
 /// The fault of a kind at the part with a number.
-fn fault_at(unit: &Unit, number: usize, kind: FaultKind) -> Fault
+fn fault_at(unit: &Unit, number: usize, kind: Rule) -> Fault
     requires { number ≤ length unit.now.statements.items }
     ensures kind { result.kind ≡ kind }
     ensures place { place_at (routine_of unit.now) number ≡ Some result.place }

@@ -1,7 +1,7 @@
 // The first part of a unit that breaks a rule.
 ghost use Rattle.std.specs.Prelude.{◌≡◌, ◌<◌, ◌≤◌, ℕ, false, length, IfOk, IfSome, MatchOption};
-ghost use Rattle.ground.specs.FaultNames.{fault_number};
-ghost use Rattle.ground.specs.declared.fault.FaultKind.{FaultKind};
+ghost use Rattle.rule_table.specs.FaultRules.{rule_number};
+ghost use Rattle.rule_table.specs.declared.rule.Rule.{Rule};
 ghost use Rattle.rule_table.specs.First.{IsFirst, IsClean};
 ghost use Rattle.rule_table.specs.FaultRules.{first_rule};
 ghost use Rattle.f66_tree.specs.Views.{line_of};
@@ -13,7 +13,7 @@ ghost use Rattle.f66_check.specs.CheckRules.{breaks_line, breaks_part};
 use f66_flow::{Flow, Scope, header_rule};
 use f66_names::Names;
 use f66_tree::Stmt;
-use ground::FaultKind;
+use rule_table::Rule;
 use rule_table::lesser;
 use std::alloc::{AllocError, Global};
 
@@ -26,9 +26,9 @@ fn broken_rule(
     names: &Names,
     i: usize,
     statement: &Stmt,
-) -> Result<Option<FaultKind>, AllocError>
+) -> Result<Option<Rule>, AllocError>
     requires within { i < length flow.now.labels.statements.now }
-    requires earlier { (j : ℕ) (k : FaultKind) → j < i → breaks_flow_at scope (lines_under flow.now) j k ≡ false }
+    requires earlier { (j : ℕ) (k : Rule) → j < i → breaks_flow_at scope (lines_under flow.now) j k ≡ false }
     ensures { IfOk result
         (λ o. o ≡ first_rule (breaks_line scope (context_in names.now.declarations) (acts_in names.now.declarations) (lines_under flow.now) i (line_of statement.now))) }
 {
@@ -43,11 +43,11 @@ pub fn first_broken(
     scope: Scope,
     flow: &Flow,
     names: &Names,
-) -> Result<Option<(usize, FaultKind)>, AllocError>
+) -> Result<Option<(usize, Rule)>, AllocError>
     ensures within { IfOk result (λ o. IfSome o (λ r. r.0 ≤ length flow.now.labels.statements.now)) }
     ensures first { IfOk result
         (λ o. MatchOption o (IsClean (breaks_part scope (context_in names.now.declarations) (acts_in names.now.declarations) (lines_under flow.now)))
-        (λ r. IsFirst fault_number (breaks_part scope (context_in names.now.declarations) (acts_in names.now.declarations) (lines_under flow.now)) r.0 r.1)) }
+        (λ r. IsFirst rule_number (breaks_part scope (context_in names.now.declarations) (acts_in names.now.declarations) (lines_under flow.now)) r.0 r.1)) }
 {
     if let Some(kind) = header_rule(scope, flow) {
         return Ok(Some((0, kind)));

@@ -4,8 +4,8 @@ use Rattle.std.specs.Prelude.{nat_lt}
 use Rattle.std.specs.Option.{unwrap_or}
 use Rattle.std.specs.List.{slice_get, list_any}
 use Rattle.std.proofs.lemmas.Option.{slice_get-map, unwrap_or-slice_get}
-use Rattle.ground.specs.declared.fault.FaultKind.{FaultKind}
-use Rattle.ground.specs.declared.fault.FaultKind.TheVariants.{DoNesting}
+use Rattle.rule_table.specs.declared.rule.Rule.{Rule}
+use Rattle.rule_table.specs.declared.rule.Rule.TheVariants.{DoNesting}
 use Rattle.rule_table.specs.Words.{is_some_and}
 use Rattle.f66_tree.specs.Syntax.{Line}
 use Rattle.f66_flow.specs.Acts.{branches}
@@ -39,7 +39,7 @@ nested_at lines d e (Some s) is clean held =
     false_lt (end_at (range_ends lines) e) (range_end lines s.act) (and_true (holds (range_ends lines) e d) _ held this) in
     omega arith
 
-pub nested_by : (lines : List Line) (i : ℕ) → ((j : ℕ) (k : FaultKind) → j < i → breaks_flow_at Whole lines j k ≡ false) → IsNested (range_ends lines) i
+pub nested_by : (lines : List Line) (i : ℕ) → ((j : ℕ) (k : Rule) → j < i → breaks_flow_at Whole lines j k ≡ false) → IsNested (range_ends lines) i
 nested_by lines i clean = record { within = λ d e l held. nested_at lines d e (slice_get lines d) refl (clean d DoNesting l) held }
 
 -- what a statement in memory breaks

@@ -1,8 +1,8 @@
 -- Small units and the faults of their statements, by computation. The answers were worked out by hand from the standard.
 use Rattle.std.proofs.Common.{◌≡◌, ◌+◌, refl}
 use Rattle.std.specs.Prelude.{ℕ, pos, true, List, [], ◌∷◌, Option, Some, None}
-use Rattle.ground.specs.declared.fault.FaultKind.{FaultKind}
-use Rattle.ground.specs.declared.fault.FaultKind.TheVariants.{Syntax, BadLabel, DoNesting}
+use Rattle.rule_table.specs.declared.rule.Rule.{Rule}
+use Rattle.rule_table.specs.declared.rule.Rule.TheVariants.{Syntax, BadLabel, DoNesting}
 use Rattle.ground.specs.declared.place.Place.{Place}
 use Rattle.f66_tree.specs.declared.declaration.TypeWord.TheVariants.{Integer}
 use Rattle.f66_tree.specs.Fields.{NoField}
@@ -41,11 +41,11 @@ abbrev integers : Line
 integers = plain (Typed Integer [])
 
 -- the faults of the statements from a number on
-abbrev faults_from : Scope → List Line → List Line → ℕ → List (Option FaultKind)
+abbrev faults_from : Scope → List Line → List Line → ℕ → List (Option Rule)
 faults_from w lines [] i = []
 faults_from w lines (s ∷ rest) i = first_rule (breaks_flow_at w lines i) ∷ faults_from w lines rest (i + 1)
 
-abbrev faults : Scope → List Line → List (Option FaultKind)
+abbrev faults : Scope → List Line → List (Option Rule)
 faults w lines = first_rule (header_breaks_flow w lines) ∷ faults_from w lines lines 0
 
 doubled_label : faults Whole (pass 10 ∷ pass 10 ∷ halt ∷ []) ≡ None ∷ None ∷ Some BadLabel ∷ None ∷ []

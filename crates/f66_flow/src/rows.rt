@@ -3,8 +3,8 @@ ghost use Rattle.std.specs.Prelude.{◌≡◌, ◌<◌, ◌&&◌, ℕ, length, f
 ghost use Rattle.std.specs.List.{list_any};
 ghost use Rattle.f66_tree.specs.Views.{act_of, line_of};
 ghost use Rattle.f66_flow.specs.Acts.{branches, formats_named};
-ghost use Rattle.ground.specs.declared.fault.FaultKind.{FaultKind};
-ghost use Rattle.ground.specs.declared.fault.FaultKind.TheVariants.{BadLabel};
+ghost use Rattle.rule_table.specs.declared.rule.Rule.{Rule};
+ghost use Rattle.rule_table.specs.declared.rule.Rule.TheVariants.{BadLabel};
 ghost use Rattle.rule_table.specs.FaultRules.{first_rule};
 ghost use Rattle.rule_table.specs.Words.{is_some_and};
 ghost use Rattle.f66_flow.specs.Acts as acts;
@@ -17,7 +17,7 @@ use crate::forms::{ends_no_range, is_executable, is_format, is_specification, is
 use crate::ranges::range_end;
 use crate::{Flow, Labels, Scope};
 use f66_tree::{Stmt, StmtKind};
-use ground::FaultKind;
+use rule_table::Rule;
 use rule_table::is_below;
 
 fn is_whole(scope: Scope) -> bool
@@ -206,7 +206,7 @@ fn nests_wrong(flow: &Flow, i: usize, kind: &StmtKind) -> bool
 
 fn breaks_nesting(scope: Scope, flow: &Flow, i: usize, kind: &StmtKind) -> bool
     requires within { i < length flow.now.labels.statements.now }
-    requires earlier { (j : ℕ) (k : FaultKind) → j < i → rules.breaks_flow_at scope (lines_under flow.now) j k ≡ false }
+    requires earlier { (j : ℕ) (k : Rule) → j < i → rules.breaks_flow_at scope (lines_under flow.now) j k ≡ false }
     ensures { result ≡ (rules.is_whole scope && rules.nests_wrong (lines_under flow.now) i (act_of kind.now)) }
 {
     match scope {
@@ -217,20 +217,20 @@ fn breaks_nesting(scope: Scope, flow: &Flow, i: usize, kind: &StmtKind) -> bool
 
 /// The rule with the smallest number of those on order, labels and DO ranges that the statement with the number i breaks,
 /// where no earlier one breaks any.
-pub fn broken_rule(scope: Scope, flow: &Flow, i: usize, statement: &Stmt) -> Option<FaultKind>
+pub fn broken_rule(scope: Scope, flow: &Flow, i: usize, statement: &Stmt) -> Option<Rule>
     requires within { i < length flow.now.labels.statements.now }
-    requires earlier { (j : ℕ) (k : FaultKind) → j < i → rules.breaks_flow_at scope (lines_under flow.now) j k ≡ false }
+    requires earlier { (j : ℕ) (k : Rule) → j < i → rules.breaks_flow_at scope (lines_under flow.now) j k ≡ false }
     ensures { result ≡ first_rule (rules.breaks_flow scope (lines_under flow.now) i (line_of statement.now)) }
 {
     let kind = &statement.kind;
     if is_late(flow, i, kind) || is_whole(scope) && lacks_transfer(flow, i, kind) {
-        return Some(FaultKind::Syntax);
+        return Some(Rule::Syntax);
     }
     if has_wrong_label(scope, &flow.labels, i, statement) {
-        return Some(FaultKind::BadLabel);
+        return Some(Rule::BadLabel);
     }
     if breaks_nesting(scope, flow, i, kind) {
-        return Some(FaultKind::DoNesting);
+        return Some(Rule::DoNesting);
     }
     None
 }
@@ -245,11 +245,11 @@ fn has_wrong_label(scope: Scope, labels: &Labels, i: usize, statement: &Stmt) ->
 }
 
 /// The rule of these that a unit's header breaks: a unit without an executable statement (X3.9-1966, section 9.1.1).
-pub fn header_rule(scope: Scope, flow: &Flow) -> Option<FaultKind>
+pub fn header_rule(scope: Scope, flow: &Flow) -> Option<Rule>
     ensures { result ≡ first_rule (rules.header_breaks_flow scope (lines_under flow.now)) }
 {
     if is_whole(scope) && flow.first.is_none() {
-        return Some(FaultKind::Syntax);
+        return Some(Rule::Syntax);
     }
     None
 }

@@ -3,8 +3,8 @@ use Rattle.std.proofs.Common.{◌≡◌, ◌&&◌, ◌||◌, ℕ, Bool, true, fa
 use Rattle.std.specs.List.{list_any}
 use Rattle.std.proofs.lemmas.List.{append-nil}
 use Rattle.ground.specs.declared.value.Kind.TheVariants.{Logical}
-use Rattle.ground.specs.declared.fault.FaultKind.{FaultKind}
-use Rattle.ground.specs.declared.fault.FaultKind.TheVariants.{Syntax, NameTooLong, OutOfProfileType, TypeClash, WrongCount, DuplicateName, BadConstant, BadFormat, NotAssignable, Limit}
+use Rattle.rule_table.specs.declared.rule.Rule.{Rule}
+use Rattle.rule_table.specs.declared.rule.Rule.TheVariants.{Syntax, NameTooLong, OutOfProfileType, TypeClash, WrongCount, DuplicateName, BadConstant, BadFormat, NotAssignable, Limit}
 use Rattle.rule_table.specs.FaultRules.{rules, first_rule}
 use Rattle.f66_tree.specs.Syntax.{Formula, Act, When, Continue}
 use Rattle.f66_tree.specs.Units.{Context}
@@ -27,7 +27,7 @@ pub or_false : (a : Bool) → (a || false) ≡ a
 or_false true = refl
 or_false false = refl
 
-condition_breaks : (c : Context) (acts : List Act) (i : ℕ) (e : Formula) (k : FaultKind) → breaks_expression c acts (not (is_kind Logical (kind_in c e))) e k ≡ breaks_name c acts i (When e Continue) k
+condition_breaks : (c : Context) (acts : List Act) (i : ℕ) (e : Formula) (k : Rule) → breaks_expression c acts (not (is_kind Logical (kind_in c e))) e k ≡ breaks_name c acts i (When e Continue) k
 condition_breaks c acts i e Syntax = ap not (sym (and_true (stands 0 e)))
 condition_breaks c acts i e NameTooLong = ap (list_any (λ u. is_long u.name)) (sym (append-nil (uses_of e)))
 condition_breaks c acts i e OutOfProfileType = ap (list_any (λ u. is_other (type_of c u.name))) (sym (append-nil (uses_of e)))

@@ -1,8 +1,8 @@
 -- The rules on small units, by computation.
 use Rattle.std.proofs.Common.{◌≡◌, refl}
 use Rattle.std.specs.Prelude.{ℕ, pos, ◌+◌, Bool, true, false, List, [], ◌∷◌, Option, Some, None, codes}
-use Rattle.ground.specs.declared.fault.FaultKind.{FaultKind}
-use Rattle.ground.specs.declared.fault.FaultKind.TheVariants.{Syntax, NameTooLong, OutOfProfileType, TypeClash, WrongCount, DuplicateName, BadConstant, BadFormat, NotAssignable, Limit}
+use Rattle.rule_table.specs.declared.rule.Rule.{Rule}
+use Rattle.rule_table.specs.declared.rule.Rule.TheVariants.{Syntax, NameTooLong, OutOfProfileType, TypeClash, WrongCount, DuplicateName, BadConstant, BadFormat, NotAssignable, Limit}
 use Rattle.rule_table.specs.FaultRules.{first_rule}
 use Rattle.f66_tree.specs.declared.declaration.TypeWord.TheVariants.{Integer, Logical, Other}
 use Rattle.f66_tree.specs.declared.expression.Operator.TheVariants.{Add, Sub, Mul, Power, Lt, And}
@@ -20,7 +20,7 @@ last [] = (0, Continue)
 last (a ∷ []) = (0, a)
 last (a ∷ b ∷ rest) = ((last (b ∷ rest)).0 + 1, (last (b ∷ rest)).1)
 
-abbrev fault : List Act → Option FaultKind
+abbrev fault : List Act → Option Rule
 fault acts = let at = last acts in first_rule (breaks_name (context_by MainUnit acts) acts at.0 at.1)
 
 abbrev is_built : List Act → Bool
@@ -160,7 +160,7 @@ wide = refl
 
 -- ---- formats ----
 
-abbrev format : Fields → Option FaultKind
+abbrev format : Fields → Option Rule
 format fs = fault (Format fs ∷ [])
 
 abbrev whole : ℕ → ℕ → Fields

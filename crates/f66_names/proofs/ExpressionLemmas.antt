@@ -1,8 +1,8 @@
 -- The rules of an expression, one behind the other.
 use Rattle.std.proofs.Common.{◌≡◌, Bool, true, false, not, cond, Option, Some, None, List, map, ap, sym, ◌∙◌, arith}
 use Rattle.std.specs.List.{list_any}
-use Rattle.ground.specs.declared.fault.FaultKind.{FaultKind}
-use Rattle.ground.specs.declared.fault.FaultKind.TheVariants.{Syntax, NameTooLong, OutOfProfileType, TypeClash, WrongCount, DuplicateName}
+use Rattle.rule_table.specs.declared.rule.Rule.{Rule}
+use Rattle.rule_table.specs.declared.rule.Rule.TheVariants.{Syntax, NameTooLong, OutOfProfileType, TypeClash, WrongCount, DuplicateName}
 use Rattle.f66_names.specs.declared.uses.Use.{Use}
 use Rattle.f66_names.specs.Uses.{Usage}
 use Rattle.f66_names.specs.UseViews.{use_of}
@@ -13,7 +13,7 @@ pub tested : (test : Usage → Bool) (us : List Usage) (items seen : List Use) (
 tested test us items seen result b all same is outcome =
     ap (list_any test) (sym all) ∙ ap (λ xs. list_any test (map use_of xs)) (sym same) ∙ sym is ∙ outcome
 
-abbrev pub chain : Bool → Bool → Bool → Bool → Bool → Bool → Option FaultKind
+abbrev pub chain : Bool → Bool → Bool → Bool → Bool → Bool → Option Rule
 chain s l o f w m =
     cond (not s) (Some Syntax) (cond l (Some NameTooLong) (cond o (Some OutOfProfileType) (cond (not f) (Some TypeClash) (cond w (Some WrongCount) (cond m (Some DuplicateName) None)))))
 

@@ -4,8 +4,8 @@ use Rattle.std.specs.List.{list_any}
 use Rattle.std.proofs.lemmas.List.{append-nil}
 use Rattle.ground.specs.declared.value.Kind.{Kind}
 use Rattle.ground.specs.declared.value.Kind.TheVariants.{Integer, Logical}
-use Rattle.ground.specs.declared.fault.FaultKind.{FaultKind}
-use Rattle.ground.specs.declared.fault.FaultKind.TheVariants.{Syntax, NameTooLong, OutOfProfileType, TypeClash, WrongCount, DuplicateName, NotAssignable}
+use Rattle.rule_table.specs.declared.rule.Rule.{Rule}
+use Rattle.rule_table.specs.declared.rule.Rule.TheVariants.{Syntax, NameTooLong, OutOfProfileType, TypeClash, WrongCount, DuplicateName, NotAssignable}
 use Rattle.rule_table.specs.Words.{is_some_and}
 use Rattle.f66_tree.specs.declared.expression.Operator.TheVariants.{Eq}
 use Rattle.f66_tree.specs.Syntax.{Text, Formula, Ref, Group, Not, Pair, Par, Act, Assign, Goto, Sign, When, Loop, Continue, Stop}
@@ -29,20 +29,20 @@ pub record IsScalar (c : Context) (acts : List Act) (x : Text) : Type 0 where
   pub used : misuses c acts (usage x Alone) ≡ false
 
 module _ (c : Context) (acts : List Act) (i : ℕ) where
-  pub passes_clean : (k : FaultKind) → breaks_name c acts i Continue k ≡ false
+  pub passes_clean : (k : Rule) → breaks_name c acts i Continue k ≡ false
   passes_clean Syntax = refl
   passes_clean _ = refl
 
-  pub goes_clean : (l : ℕ) (k : FaultKind) → breaks_name c acts i (Goto l) k ≡ false
+  pub goes_clean : (l : ℕ) (k : Rule) → breaks_name c acts i (Goto l) k ≡ false
   goes_clean l Syntax = refl
   goes_clean l _ = refl
 
-  pub stops_clean : (k : FaultKind) → breaks_name c acts i (Stop None) k ≡ false
+  pub stops_clean : (k : Rule) → breaks_name c acts i (Stop None) k ≡ false
   stops_clean Syntax = refl
   stops_clean _ = refl
 
   -- the label of a DO's end is no matter of names
-  pub loops_alike : (l m : ℕ) (x : Text) (p q r : Par) (k : FaultKind) → breaks_name c acts i (Loop l x p q r) k ≡ breaks_name c acts i (Loop m x p q r) k
+  pub loops_alike : (l m : ℕ) (x : Text) (p q r : Par) (k : Rule) → breaks_name c acts i (Loop l x p q r) k ≡ breaks_name c acts i (Loop m x p q r) k
   loops_alike l m x p q r Syntax = refl
   loops_alike l m x p q r _ = refl
 
@@ -51,7 +51,7 @@ module _ (c : Context) (acts : List Act) (i : ℕ) where
   denied_kind true = refl
   denied_kind false = refl
 
-  pub denied_breaks : (e : Formula) (l : ℕ) (k : FaultKind) → breaks_name c acts i (When (Not (Group e)) (Goto l)) k ≡ breaks_name c acts i (When e Continue) k
+  pub denied_breaks : (e : Formula) (l : ℕ) (k : Rule) → breaks_name c acts i (When (Not (Group e)) (Goto l)) k ≡ breaks_name c acts i (When e Continue) k
   denied_breaks e l TypeClash = ap (λ b. not b || false) (denied_kind (is_kind Logical (kind_in c e)))
   denied_breaks e l _ = refl
 
@@ -63,7 +63,7 @@ module _ (c : Context) (acts : List Act) (i : ℕ) where
     compared_kind : (o : Option Kind) (b : Bool) → o ≡ Some Integer → not (is_kind Logical (when (is_kind Integer o && b) Logical)) ≡ not b
     compared_kind o b e = ap (λ p. not (is_kind Logical (when (is_kind Integer p && b) Logical))) e ∙ ap not (denied_kind b)
 
-    pub compared_breaks : (e : Formula) (l m n q : ℕ) (k : FaultKind) → breaks_name c acts i (When (Pair Eq (Ref x) (Group e)) (Goto l)) k ≡ breaks_name c acts i (Sign e m n q) k
+    pub compared_breaks : (e : Formula) (l m n q : ℕ) (k : Rule) → breaks_name c acts i (When (Pair Eq (Ref x) (Group e)) (Goto l)) k ≡ breaks_name c acts i (Sign e m n q) k
     compared_breaks e l m n q Syntax = ap (λ b. not ((b && stands 0 e) && true)) scalar.named ∙ ap not (and_true (stands 0 e))
     compared_breaks e l m n q NameTooLong = ap (λ b. b || list_any (λ (u : Usage). is_long u.name) (uses_of e ++ [])) scalar.short ∙ ap (list_any (λ (u : Usage). is_long u.name)) (append-nil (uses_of e))
     compared_breaks e l m n q OutOfProfileType = ap (λ b. b || list_any (λ (u : Usage). is_other (type_of c u.name)) (uses_of e ++ [])) scalar.typed ∙ ap (list_any (λ (u : Usage). is_other (type_of c u.name))) (append-nil (uses_of e))
@@ -77,7 +77,7 @@ module _ (c : Context) (acts : List Act) (i : ℕ) where
     stored_kind None = refl
     stored_kind (Some k) = ap (λ b. b || same_kind (kind_of c x) k) scalar.plain ∙ ap (λ y. same_kind y k) scalar.kind
 
-    pub stored_breaks : (e : Formula) (m n q : ℕ) (k : FaultKind) → breaks_name c acts i (Assign (Ref x) e) k ≡ breaks_name c acts i (Sign e m n q) k
+    pub stored_breaks : (e : Formula) (m n q : ℕ) (k : Rule) → breaks_name c acts i (Assign (Ref x) e) k ≡ breaks_name c acts i (Sign e m n q) k
     stored_breaks e m n q Syntax = ap (λ b. not (b && stands 0 e)) scalar.named
     stored_breaks e m n q NameTooLong = ap (λ b. b || list_any (λ (u : Usage). is_long u.name) (uses_of e)) scalar.short
     stored_breaks e m n q OutOfProfileType = ap (λ b. b || list_any (λ (u : Usage). is_other (type_of c u.name)) (uses_of e)) scalar.typed

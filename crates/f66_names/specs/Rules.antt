@@ -1,7 +1,7 @@
 -- The rules of names, types, counts, constants and stores, one row for each fault.
 use Rattle.std.specs.Prelude.{ℕ, Bool, false, not, List}
-use Rattle.ground.specs.declared.fault.FaultKind.{FaultKind}
-use Rattle.ground.specs.declared.fault.FaultKind.TheVariants.{Syntax, NameTooLong, OutOfProfileType, TypeClash, WrongCount, DuplicateName, BadConstant, BadFormat, NotAssignable, Limit}
+use Rattle.rule_table.specs.declared.rule.Rule.{Rule}
+use Rattle.rule_table.specs.declared.rule.Rule.TheVariants.{Syntax, NameTooLong, OutOfProfileType, TypeClash, WrongCount, DuplicateName, BadConstant, BadFormat, NotAssignable, Limit}
 use Rattle.std.specs.List.{list_any}
 use Rattle.f66_tree.specs.Syntax.{Act, Formula}
 use Rattle.f66_tree.specs.Units.{Context}
@@ -13,7 +13,7 @@ use Rattle.f66_names.specs.NameRules.{has_name, is_long, is_other, has_other_typ
 use Rattle.f66_names.specs.StoreRules.{has_bad_constant, has_bad_format, stores_wrong, has_large_array}
 
 -- what the statement a with the number i breaks, of a unit with these statements
-abbrev pub breaks_name : Context → List Act → ℕ → Act → FaultKind → Bool
+abbrev pub breaks_name : Context → List Act → ℕ → Act → Rule → Bool
 breaks_name c acts i a Syntax = not (has_shape a)
 breaks_name c acts i a NameTooLong = has_name is_long a
 breaks_name c acts i a OutOfProfileType = has_other_type c a
@@ -27,7 +27,7 @@ breaks_name c acts i a Limit = has_large_array a
 breaks_name c acts i a _ = false
 
 -- what an expression breaks of which a type is asked, as a condition or a value: the clash is that it has another
-abbrev pub breaks_expression : Context → List Act → Bool → Formula → FaultKind → Bool
+abbrev pub breaks_expression : Context → List Act → Bool → Formula → Rule → Bool
 breaks_expression c acts clash e Syntax = not (stands 0 e)
 breaks_expression c acts clash e NameTooLong = list_any (λ u. is_long u.name) (uses_of e)
 breaks_expression c acts clash e OutOfProfileType = list_any (λ u. is_other (type_of c u.name)) (uses_of e)

@@ -24,7 +24,7 @@ use crate::sorts::is_array;
 use crate::store_rules::{has_bad_constant, has_large_array, stores_wrong};
 use crate::uses::{Use, uses_of_counting, uses_of_expression, uses_of_statement};
 use f66_tree::{Expr, Name, Par, StmtKind};
-use ground::{FaultKind, Kind};
+use ground::{Rule, Kind};
 use std::alloc::{AllocError, Global};
 
 /// The rule with the smallest number that the statement with the number i breaks, of those on names, types, counts,
@@ -34,41 +34,41 @@ pub fn broken_rule(
     names: &Names,
     i: usize,
     kind: &StmtKind,
-) -> Result<Option<FaultKind>, AllocError>
+) -> Result<Option<Rule>, AllocError>
     ensures { IfOk result
         (λ o. o ≡ first_rule (breaks_name (context_in names.now.declarations) (acts_in names.now.declarations) i (act_of kind.now))) }
 {
     let uses = uses_of_statement(alloc, kind)?;
     let duplicate = is_duplicate(alloc, names, i, kind, &uses)?;
     if !has_shape(kind) {
-        return Ok(Some(FaultKind::Syntax));
+        return Ok(Some(Rule::Syntax));
     }
     if has_long_name(kind, &uses) {
-        return Ok(Some(FaultKind::NameTooLong));
+        return Ok(Some(Rule::NameTooLong));
     }
     if has_other_type(&names.declarations, kind, &uses) {
-        return Ok(Some(FaultKind::OutOfProfileType));
+        return Ok(Some(Rule::OutOfProfileType));
     }
     if clashes(&names.declarations, kind) {
-        return Ok(Some(FaultKind::TypeClash));
+        return Ok(Some(Rule::TypeClash));
     }
     if has_wrong_count(&names.declarations, kind, &uses) {
-        return Ok(Some(FaultKind::WrongCount));
+        return Ok(Some(Rule::WrongCount));
     }
     if duplicate {
-        return Ok(Some(FaultKind::DuplicateName));
+        return Ok(Some(Rule::DuplicateName));
     }
     if has_bad_constant(kind) {
-        return Ok(Some(FaultKind::BadConstant));
+        return Ok(Some(Rule::BadConstant));
     }
     if has_bad_format(kind) {
-        return Ok(Some(FaultKind::BadFormat));
+        return Ok(Some(Rule::BadFormat));
     }
     if stores_wrong(&names.declarations, kind) {
-        return Ok(Some(FaultKind::NotAssignable));
+        return Ok(Some(Rule::NotAssignable));
     }
     if has_large_array(kind) {
-        return Ok(Some(FaultKind::Limit));
+        return Ok(Some(Rule::Limit));
     }
     Ok(None)
 }
@@ -79,7 +79,7 @@ pub fn saying_rule(
     names: &Names,
     i: usize,
     saying: &Saying,
-) -> Result<Option<FaultKind>, AllocError>
+) -> Result<Option<Rule>, AllocError>
     ensures { IfOk result
         (λ o. o ≡ first_rule (breaks_name (context_in names.now.declarations) (acts_in names.now.declarations) i (act_said saying.now))) }
 {
@@ -98,7 +98,7 @@ pub fn condition_rule(
     alloc: Global,
     names: &Names,
     e: &Expr,
-) -> Result<Option<FaultKind>, AllocError>
+) -> Result<Option<Rule>, AllocError>
     ensures { IfOk result
         (λ o. (i : ℕ) → o ≡ first_rule (breaks_name (context_in names.now.declarations) (acts_in names.now.declarations) i (When (formula_of e.now) Continue))) }
 {
@@ -107,7 +107,7 @@ pub fn condition_rule(
 }
 
 /// What an integer value breaks, as that of an arithmetic IF (section 7.1.2.2).
-pub fn value_rule(alloc: Global, names: &Names, e: &Expr) -> Result<Option<FaultKind>, AllocError>
+pub fn value_rule(alloc: Global, names: &Names, e: &Expr) -> Result<Option<Rule>, AllocError>
     ensures { IfOk result
         (λ o. (i l m k : ℕ) → o ≡ first_rule (breaks_name (context_in names.now.declarations) (acts_in names.now.declarations) i (Sign (formula_of e.now) l m k))) }
 {
@@ -121,28 +121,28 @@ fn expression_rule(
     names: &Names,
     fits: bool,
     e: &Expr,
-) -> Result<Option<FaultKind>, AllocError>
+) -> Result<Option<Rule>, AllocError>
     ensures { IfOk result
         (λ o. o ≡ first_rule (breaks_expression (context_in names.now.declarations) (acts_in names.now.declarations) (not fits) (formula_of e.now))) }
 {
     let uses = uses_of_expression(alloc, e)?;
     if !stands(0, e) {
-        return Ok(Some(FaultKind::Syntax));
+        return Ok(Some(Rule::Syntax));
     }
     if has_long_use(&uses) {
-        return Ok(Some(FaultKind::NameTooLong));
+        return Ok(Some(Rule::NameTooLong));
     }
     if has_other_use(&names.declarations, &uses) {
-        return Ok(Some(FaultKind::OutOfProfileType));
+        return Ok(Some(Rule::OutOfProfileType));
     }
     if !fits {
-        return Ok(Some(FaultKind::TypeClash));
+        return Ok(Some(Rule::TypeClash));
     }
     if has_wrong_use(&names.declarations, &uses) {
-        return Ok(Some(FaultKind::WrongCount));
+        return Ok(Some(Rule::WrongCount));
     }
     if has_misuse(names, &uses) {
-        return Ok(Some(FaultKind::DuplicateName));
+        return Ok(Some(Rule::DuplicateName));
     }
     Ok(None)
 }
@@ -155,32 +155,32 @@ pub fn counting_rule(
     first: &Par,
     last: &Par,
     step: &Par,
-) -> Result<Option<FaultKind>, AllocError>
+) -> Result<Option<Rule>, AllocError>
     ensures { IfOk result
         (λ o. (i l : ℕ) → o ≡ first_rule (breaks_name (context_in names.now.declarations) (acts_in names.now.declarations) i
         (Loop l variable.now (par_of first.now) (par_of last.now) (par_of step.now)))) }
 {
     let uses = uses_of_counting(alloc, variable, first, last, step)?;
     if !is_counting(variable, first, last, step) {
-        return Ok(Some(FaultKind::Syntax));
+        return Ok(Some(Rule::Syntax));
     }
     if has_long_use(&uses) {
-        return Ok(Some(FaultKind::NameTooLong));
+        return Ok(Some(Rule::NameTooLong));
     }
     if has_other_use(&names.declarations, &uses) {
-        return Ok(Some(FaultKind::OutOfProfileType));
+        return Ok(Some(Rule::OutOfProfileType));
     }
     if !counts(&names.declarations, variable, first, last, step) {
-        return Ok(Some(FaultKind::TypeClash));
+        return Ok(Some(Rule::TypeClash));
     }
     if has_wrong_use(&names.declarations, &uses) {
-        return Ok(Some(FaultKind::WrongCount));
+        return Ok(Some(Rule::WrongCount));
     }
     if has_misuse(names, &uses) {
-        return Ok(Some(FaultKind::DuplicateName));
+        return Ok(Some(Rule::DuplicateName));
     }
     if is_array(&names.declarations, variable) {
-        return Ok(Some(FaultKind::NotAssignable));
+        return Ok(Some(Rule::NotAssignable));
     }
     Ok(None)
 }

@@ -1,8 +1,8 @@
 -- Main units that are sound, and for each thing that is asked of a sound unit and matters here one that lacks it and goes wrong.
 use Rattle.std.proofs.Common.{◌≡◌, ℕ, zero, suc, true, false, List, [], ◌∷◌, Option, Some, None, slice_get, codes, refl, subst}
 use Rattle.std.specs.Prelude.{pos, ⊤}
-use Rattle.ground.specs.declared.fault.FaultKind.{FaultKind}
-use Rattle.ground.specs.declared.fault.FaultKind.TheVariants.{Syntax}
+use Rattle.rule_table.specs.declared.rule.Rule.{Rule}
+use Rattle.rule_table.specs.declared.rule.Rule.TheVariants.{Syntax}
 use Rattle.f66_tree.specs.declared.declaration.TypeWord.TheVariants.{Logical}
 use Rattle.f66_tree.specs.declared.expression.Operator.TheVariants.{Add, Lt}
 use Rattle.f66_tree.specs.declared.editing.EditKind.TheVariants as edits
@@ -74,7 +74,7 @@ each_at P (b ∷ rest) h zero a e = subst (P 0) (some_same e) h.0
 each_at P (b ∷ rest) h (suc n) a e = each_at (λ m. P (suc m)) rest h.1 n a e
 
 abbrev Unbroken : List Line → ℕ → Act → Type 0
-Unbroken code n a = (kind : FaultKind) → breaks_name (main_context code) (acts_in_unit code) n a kind ≡ false
+Unbroken code n a = (kind : Rule) → breaks_name (main_context code) (acts_in_unit code) n a kind ≡ false
 
 abbrev act_at : List Line → ℕ → Act
 act_at code n = or_passes (slice_get (acts_in_unit code) n)

@@ -4,7 +4,7 @@ use Rattle.std.specs.Prelude.{if◌then◌else◌, ⊤}
 use Rattle.std.specs.List.{list_any}
 use Rattle.std.specs.Str.{bytes_eq}
 use Rattle.std.proofs.lemmas.Bool.{and_parts, or_parts, not-false}
-use Rattle.ground.specs.declared.fault.FaultKind.TheVariants.{Syntax, TypeClash, WrongCount, BadConstant, NotAssignable}
+use Rattle.rule_table.specs.declared.rule.Rule.TheVariants.{Syntax, TypeClash, WrongCount, BadConstant, NotAssignable}
 use Rattle.f66_tree.specs.declared.declaration.TypeWord.{TypeWord}
 use Rattle.f66_tree.specs.Syntax.{Text, Par, Declared, MainUnit, Act, Typed, Dimension, Common, Line}
 use Rattle.f66_tree.specs.World.{Wrong, Ended, Out, Gives, Halts, shown}

@@ -1,6 +1,6 @@
 -- Which main units the rules of names let pass, and the law of them: no run of one ends Wrong.
 use Rattle.std.specs.Prelude.{◌≡◌, ◌≢◌, ℕ, Bool, true, false, List, map, Some, is_some, slice_get}
-use Rattle.ground.specs.declared.fault.FaultKind.{FaultKind}
+use Rattle.rule_table.specs.declared.rule.Rule.{Rule}
 use Rattle.f66_tree.specs.Syntax.{MainUnit, Act, When, Read, Write, Line}
 use Rattle.f66_tree.specs.World.{Record, Wrong, Ended}
 use Rattle.f66_tree.specs.Units.{Note, Context, notes_of, format_of}
@@ -31,7 +31,7 @@ finds_format notes _ = true
 -- stores; and each READ and WRITE finds its FORMAT. Nothing else is asked of labels, nor of the order of statements or of DO loops.
 pub record IsSoundMain (c : Context) (code : List Line) : Type 0 where
   pub built : (i : ℕ) (a : Act) → slice_get (acts_in_unit code) i ≡ Some a → is_built c a ≡ true
-  pub clean : (i : ℕ) (a : Act) → slice_get (acts_in_unit code) i ≡ Some a → (k : FaultKind) → breaks_name c (acts_in_unit code) i a k ≡ false
+  pub clean : (i : ℕ) (a : Act) → slice_get (acts_in_unit code) i ≡ Some a → (k : Rule) → breaks_name c (acts_in_unit code) i a k ≡ false
   pub formats : (i : ℕ) (a : Act) → slice_get (acts_in_unit code) i ≡ Some a → finds_format (notes_of code) a ≡ true
 
 -- no run of the unit goes wrong, on any input and at any bound

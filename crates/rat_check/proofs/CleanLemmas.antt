@@ -4,8 +4,8 @@ use Rattle.std.specs.Prelude.{not, ◌&&◌, if◌then◌else◌, ⊤}
 use Rattle.std.proofs.lemmas.Bool.{or_parts}
 use Rattle.std.proofs.lemmas.Option.{none-some}
 use Rattle.ground.specs.declared.place.Place.{Place}
-use Rattle.ground.specs.declared.fault.FaultKind.{FaultKind}
-use Rattle.ground.specs.declared.fault.FaultKind.TheVariants.{Syntax, BadLabel, BadBreak, DuplicateCase}
+use Rattle.rule_table.specs.declared.rule.Rule.{Rule}
+use Rattle.rule_table.specs.declared.rule.Rule.TheVariants.{Syntax, BadLabel, BadBreak, DuplicateCase}
 use Rattle.rule_table.proofs.RuleLemmas.{first_rule-least}
 use Rattle.rat_check.specs.Parts.{Part}
 use Rattle.rat_check.specs.Said.{said_by, context_of_parts}
@@ -26,7 +26,7 @@ or_none : {A : Type 0} (a b : Option A) → or_else a b ≡ None → (a ≡ None
 or_none None b e = (refl, e)
 or_none (Some x) b e = absurd (none-some x (sym e))
 
-no_rule : (p : Place) (o : Option FaultKind) → fault_if p o ≡ None → o ≡ None
+no_rule : (p : Place) (o : Option Rule) → fault_if p o ≡ None → o ≡ None
 no_rule p None e = refl
 no_rule p (Some kind) e = absurd (none-some _ (sym e))
 
@@ -47,12 +47,12 @@ pub record Keeps (u : UnitRules) (b : Before) (v : Part) : Type 0 where
   pub found : finds_labels u.formats v.reached v.form ≡ true
   pub inside : v.inside ≡ true
   pub single : is_second_default v.form ≡ false
-  pub named : (k : FaultKind) → break_names u.context u.said b.said (said_by v.form) k ≡ false
+  pub named : (k : Rule) → break_names u.context u.said b.said (said_by v.form) k ≡ false
 
 keeps : (u : UnitRules) (b : Before) (v : Part) → broken_rule u b v ≡ None → Keeps u b v
 keeps u b v e =
-    let clean : (k : FaultKind) → breaks u b v k ≡ false = first_rule-least (breaks u b v) None (sym e) in
-    let rule : (k : FaultKind) → (breaks_own u.formats b v k ≡ false) × (break_names u.context u.said b.said (said_by v.form) k ≡ false) = λ k. or_parts (breaks_own u.formats b v k) _ (clean k) in
+    let clean : (k : Rule) → breaks u b v k ≡ false = first_rule-least (breaks u b v) None (sym e) in
+    let rule : (k : Rule) → (breaks_own u.formats b v k ≡ false) × (break_names u.context u.said b.said (said_by v.form) k ≡ false) = λ k. or_parts (breaks_own u.formats b v k) _ (clean k) in
     let labels = and_true (is_own_label b.labels v.label) (finds_labels u.formats v.reached v.form) (not_false _ (rule BadLabel).0) in
     record { early = (rule Syntax).0; own = labels.0; found = labels.1; inside = not_false v.inside (rule BadBreak).0; single = (rule DuplicateCase).0; named = λ k. (rule k).1 }
 

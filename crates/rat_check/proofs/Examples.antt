@@ -2,8 +2,8 @@
 use Rattle.std.proofs.Common.{◌≡◌, true, false, refl}
 use Rattle.std.specs.Prelude.{ℕ, pos, List, [], ◌∷◌, Option, Some, None, codes}
 use Rattle.ground.specs.declared.fault.Fault.{Fault}
-use Rattle.ground.specs.declared.fault.FaultKind.{FaultKind}
-use Rattle.ground.specs.declared.fault.FaultKind.TheVariants.{Syntax, NameTooLong, OutOfProfileType, TypeClash, WrongCount, DuplicateName, BadLabel, BadBreak, DuplicateCase, BadConstant, NotAssignable, Limit, Unbuilt}
+use Rattle.rule_table.specs.declared.rule.Rule.{Rule}
+use Rattle.rule_table.specs.declared.rule.Rule.TheVariants.{Syntax, NameTooLong, OutOfProfileType, TypeClash, WrongCount, DuplicateName, BadLabel, BadBreak, DuplicateCase, BadConstant, NotAssignable, Limit, Unbuilt}
 use Rattle.f66_tree.specs.declared.declaration.TypeWord.TheVariants.{Integer, Logical}
 use Rattle.f66_tree.specs.declared.expression.Operator.TheVariants.{Lt, And}
 use Rattle.f66_tree.specs.Syntax.{Text, Item, Pair, NoFormula, AndFormula, Constant, Declared, Act, Assign, Goto, Computed, Typed, Dimension, Invoke}
@@ -25,7 +25,7 @@ block p cs = Block (here p) (all cs)
 abbrev first : List Command → Option Fault
 first cs = fault_of_parts (unit_parts (all cs))
 
-abbrev at : ℕ → FaultKind → Option Fault
+abbrev at : ℕ → Rule → Option Fault
 at p kind = Some (fault_at (here p) kind)
 
 abbrev l : Text

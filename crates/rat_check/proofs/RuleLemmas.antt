@@ -1,8 +1,8 @@
 -- What is told of the parts one after another.
 use Rattle.std.proofs.Common.{◌≡◌, ℕ, suc, ◌+◌, ◌<◌, Option, Some, None, List, ◌∷◌, length, length-append, drop, get_or, ap, sym, ◌∙◌, arith}
 use Rattle.std.proofs.Math.Seq.{drop-cons}
-use Rattle.ground.specs.declared.fault.FaultKind.{FaultKind}
-use Rattle.ground.specs.declared.fault.FaultKind.TheVariants.{Unbuilt}
+use Rattle.rule_table.specs.declared.rule.Rule.{Rule}
+use Rattle.rule_table.specs.declared.rule.Rule.TheVariants.{Unbuilt}
 use Rattle.ground.specs.declared.fault.Fault.{Fault}
 use Rattle.ground.specs.declared.place.Place.{Place}
 use Rattle.rule_table.specs.FaultRules.{first_rule, lesser}
@@ -47,11 +47,11 @@ format_passed v rest fs gs next = ap (λ ls. with_formats rest (is_among ls)) ne
 pub rule_passed : (u : UnitRules) (b c : Before) (v : Part) (rest : List Part) → None ≡ broken_rule u b v → c ≡ behind b v → first_broken u c rest ≡ first_broken u b (v ∷ rest)
 rule_passed u b c v rest fine next = ap (λ d. first_broken u d rest) next ∙ ap (λ o. or_else (fault_if v.place o) (first_broken u (behind b v) rest)) fine
 
-pub rule_broken : (u : UnitRules) (b : Before) (v : Part) (rest : List Part) (kind : FaultKind) (f : Fault) → Some kind ≡ broken_rule u b v → f ≡ fault_at v.place kind → first_broken u b (v ∷ rest) ≡ Some f
+pub rule_broken : (u : UnitRules) (b : Before) (v : Part) (rest : List Part) (kind : Rule) (f : Fault) → Some kind ≡ broken_rule u b v → f ≡ fault_at v.place kind → first_broken u b (v ∷ rest) ≡ Some f
 rule_broken u b v rest kind f told is = ap (λ o. or_else (fault_if v.place o) (first_broken u (behind b v) rest)) (sym told) ∙ ap Some (sym is)
 
 -- one saying more, whose rule is taken together with those before
-rules_passed : (c : Context) (said : List Act) (n : ℕ) (a : Act) (more : List Act) (broken rule : Option FaultKind) → rule ≡ first_rule (breaks_name c said n a) →
+rules_passed : (c : Context) (said : List Act) (n : ℕ) (a : Act) (more : List Act) (broken rule : Option Rule) → rule ≡ first_rule (breaks_name c said n a) →
     lesser (lesser broken rule) (first_rule (break_names c said (n + 1) more)) ≡ lesser broken (first_rule (break_names c said n (a ∷ more)))
 rules_passed c said n a more broken rule is =
     lesser-assoc broken rule (first_rule (break_names c said (n + 1) more))
@@ -63,7 +63,7 @@ next_saying sayings i s lt is =
     let e : suc i ≡ i + 1 = omega arith in
     ap acts_of (drop-cons sayings i s lt) ∙ ap (λ t. act_said t ∷ acts_of (drop (suc i) sayings)) (sym is) ∙ ap (λ m. act_said s ∷ acts_of (drop m sayings)) e
 
-pub rules_on : (c : Context) (said : List Act) (n : ℕ) (sayings : List Saying) (i : ℕ) (s : Saying) (broken rule : Option FaultKind) → i < length sayings → s ≡ get_or sayings i s →
+pub rules_on : (c : Context) (said : List Act) (n : ℕ) (sayings : List Saying) (i : ℕ) (s : Saying) (broken rule : Option Rule) → i < length sayings → s ≡ get_or sayings i s →
     rule ≡ first_rule (breaks_name c said (n + i) (act_said s)) →
     lesser (lesser broken rule) (first_rule (break_names c said (n + (i + 1)) (acts_of (drop (i + 1) sayings)))) ≡ lesser broken (first_rule (break_names c said (n + i) (acts_of (drop i sayings))))
 rules_on c said n sayings i s broken rule lt is told =

@@ -4,7 +4,7 @@ use Rattle.std.specs.Prelude.{is_some, ◌&&◌, ⊤}
 use Rattle.std.specs.List.{slice_get, list_all}
 use Rattle.std.proofs.lemmas.Bool.{or_parts}
 use Rattle.std.proofs.lemmas.List.Folds.{list_all-append}
-use Rattle.ground.specs.declared.fault.FaultKind.{FaultKind}
+use Rattle.rule_table.specs.declared.rule.Rule.{Rule}
 use Rattle.rule_table.specs.Words.{is_some_and}
 use Rattle.f66_tree.specs.Syntax.{Act}
 use Rattle.f66_tree.specs.Units.{Context}
@@ -20,9 +20,9 @@ use Rattle.rat_check.proofs.CleanLemmas.{and_true, AllKeep}
 -- none of these, the first of which is the n-th of the unit, breaks a rule
 abbrev pub AllClean : Context → List Act → ℕ → List Act → Type 0
 AllClean c said n [] = ⊤
-AllClean c said n (a ∷ rest) = ((k : FaultKind) → breaks_name c said n a k ≡ false) × AllClean c said (n + 1) rest
+AllClean c said n (a ∷ rest) = ((k : Rule) → breaks_name c said n a k ≡ false) × AllClean c said (n + 1) rest
 
-none_broken : (c : Context) (said : List Act) (n : ℕ) (acts : List Act) → ((k : FaultKind) → break_names c said n acts k ≡ false) → AllClean c said n acts
+none_broken : (c : Context) (said : List Act) (n : ℕ) (acts : List Act) → ((k : Rule) → break_names c said n acts k ≡ false) → AllClean c said n acts
 none_broken c said n [] h = tt
 none_broken c said n (a ∷ rest) h =
     (λ k. (or_parts (breaks_name c said n a k) _ (h k)).0, none_broken c said (n + 1) rest (λ k. (or_parts (breaks_name c said n a k) _ (h k)).1))
@@ -38,7 +38,7 @@ said_clean u b [] h = tt
 said_clean u b (v ∷ vs) h =
     both_clean u.context u.said b.said (said_by v.form) (said_in vs) (none_broken u.context u.said b.said (said_by v.form) h.1.named) (said_clean u (behind b v) vs h.2)
 
-pub clean_at : (c : Context) (said : List Act) (n : ℕ) (acts : List Act) (i : ℕ) (a : Act) (k : FaultKind) → AllClean c said n acts → slice_get acts i ≡ Some a → breaks_name c said (n + i) a k ≡ false
+pub clean_at : (c : Context) (said : List Act) (n : ℕ) (acts : List Act) (i : ℕ) (a : Act) (k : Rule) → AllClean c said n acts → slice_get acts i ≡ Some a → breaks_name c said (n + i) a k ≡ false
 clean_at c said n [] i a k h e = absurd (true≢false (sym (ap is_some e)))
 clean_at c said n (x ∷ xs) zero a k h e =
     let same : n + 0 ≡ n = omega arith in

@@ -3,8 +3,8 @@
 use Rattle.std.specs.Prelude.{ℕ, List, [], ◌∷◌, Option, Some, None, Result, Ok, Err, ◌≡◌, ⊤, if◌then◌else◌}
 use Rattle.ground.specs.declared.place.Place.{Place}
 use Rattle.ground.specs.declared.fault.Fault.{Fault}
-use Rattle.ground.specs.declared.fault.FaultKind.{FaultKind}
-use Rattle.ground.specs.declared.fault.FaultKind.TheVariants.{Unbuilt}
+use Rattle.rule_table.specs.declared.rule.Rule.{Rule}
+use Rattle.rule_table.specs.declared.rule.Rule.TheVariants.{Unbuilt}
 use Rattle.rule_table.specs.FaultRules.{limit_of}
 use Rattle.ground.specs.declared.fault.Refusal.{Refusal}
 use Rattle.ground.specs.declared.fault.Refusal.TheVariants.{Fault as Faulty, Memory}
@@ -15,7 +15,7 @@ use Rattle.rat_check.specs.Parts.{Form, Statement, Labels, no_label, with_label,
 use Rattle.rat_check.specs.Said.{said_in, context_of_parts}
 use Rattle.rat_check.specs.Rules.{is_built_form, Before, nothing_before, behind, UnitRules, broken_rule}
 
-abbrev pub fault_at : Place → FaultKind → Fault
+abbrev pub fault_at : Place → Rule → Fault
 fault_at p kind = record { kind = kind; place = p; number = limit_of kind }
 
 abbrev pub or_else : {A : Type 0} → Option A → Option A → Option A
@@ -38,7 +38,7 @@ abbrev pub with_formats : List Part → Labels → Labels
 with_formats [] ls = ls
 with_formats (v ∷ vs) ls = with_formats vs (with_label (format_label v.label v.form) ls)
 
-abbrev pub fault_if : Place → Option FaultKind → Option Fault
+abbrev pub fault_if : Place → Option Rule → Option Fault
 fault_if p None = None
 fault_if p (Some kind) = Some (fault_at p kind)
 

@@ -2,8 +2,8 @@
 -- rules, so that they speak of built parts alone.
 use Rattle.std.specs.Prelude.{ℕ, ◌+◌, nat_le, Bool, true, false, not, ◌&&◌, ◌||◌, List, [], ◌∷◌, length, Option, Some, None}
 use Rattle.std.specs.List.{list_all}
-use Rattle.ground.specs.declared.fault.FaultKind.{FaultKind}
-use Rattle.ground.specs.declared.fault.FaultKind.TheVariants.{Syntax, BadLabel, BadBreak, DuplicateCase}
+use Rattle.rule_table.specs.declared.rule.Rule.{Rule}
+use Rattle.rule_table.specs.declared.rule.Rule.TheVariants.{Syntax, BadLabel, BadBreak, DuplicateCase}
 use Rattle.rule_table.specs.FaultRules.{first_rule}
 use Rattle.f66_tree.specs.Syntax.{Act, Assign, Sign, When, Loop, Read, Write}
 use Rattle.f66_tree.specs.Units.{Context}
@@ -88,7 +88,7 @@ is_second_default (CaseList es second) = second
 is_second_default _ = false
 
 -- the rules of Ratfor itself, one row for each fault
-abbrev pub breaks_own : Labels → Before → Part → FaultKind → Bool
+abbrev pub breaks_own : Labels → Before → Part → Rule → Bool
 breaks_own formats b v Syntax = is_late_form b.begun v.form
 breaks_own formats b v BadLabel = not (is_own_label b.labels v.label && finds_labels formats v.reached v.form)
 breaks_own formats b v BadBreak = not v.inside
@@ -96,13 +96,13 @@ breaks_own formats b v DuplicateCase = is_second_default v.form
 breaks_own formats b v _ = false
 
 -- what is said of names, from the n-th of the unit on, breaks a rule of names, types, counts, constants and stores
-abbrev pub break_names : Context → List Act → ℕ → List Act → FaultKind → Bool
+abbrev pub break_names : Context → List Act → ℕ → List Act → Rule → Bool
 break_names c said n [] k = false
 break_names c said n (a ∷ more) k = breaks_name c said n a k || break_names c said (n + 1) more k
 
-abbrev pub breaks : UnitRules → Before → Part → FaultKind → Bool
+abbrev pub breaks : UnitRules → Before → Part → Rule → Bool
 breaks u b v k = breaks_own u.formats b v k || break_names u.context u.said b.said (said_by v.form) k
 
 -- of the rules that a part breaks, that with the smallest number
-abbrev pub broken_rule : UnitRules → Before → Part → Option FaultKind
+abbrev pub broken_rule : UnitRules → Before → Part → Option Rule
 broken_rule u b v = first_rule (breaks u b v)

@@ -13,7 +13,7 @@ use crate::{Before, Form, LabelSet, Part};
 use f66_flow::is_specification;
 use f66_names::{Names, Saying, saying_rule};
 use f66_tree::StmtKind;
-use ground::FaultKind;
+use rule_table::Rule;
 use rule_table::lesser;
 use std::alloc::{AllocError, Global};
 
@@ -25,7 +25,7 @@ pub fn broken_rule(
     before: &Before,
     part: &Part,
     sayings: &[Saying],
-) -> Result<Option<FaultKind>, AllocError>
+) -> Result<Option<Rule>, AllocError>
     requires said { acts_of sayings.now ≡ said_by (form_of part.now.form) }
     requires within { before.now.said + length sayings.now < 2 ^ 64 }
     ensures { IfOk result (λ o. o ≡ rule_broken (whole_by names.now formats.now) (before_of before.now) (part_of part.now)) }
@@ -36,22 +36,22 @@ pub fn broken_rule(
 }
 
 /// The rules of Ratfor itself.
-fn own_rule(formats: &LabelSet, before: &Before, part: &Part) -> Option<FaultKind>
+fn own_rule(formats: &LabelSet, before: &Before, part: &Part) -> Option<Rule>
     ensures { result ≡ first_rule (breaks_own (is_among formats.now) (before_of before.now) (part_of part.now)) }
 {
     if is_late(before.begun, part.form) {
-        return Some(FaultKind::Syntax);
+        return Some(Rule::Syntax);
     }
     if !is_own_label(&before.labels, part.label)
         || !finds_labels(formats, part.reached, part.form)
     {
-        return Some(FaultKind::BadLabel);
+        return Some(Rule::BadLabel);
     }
     if !part.inside {
-        return Some(FaultKind::BadBreak);
+        return Some(Rule::BadBreak);
     }
     if part.form.is_second_default() {
-        return Some(FaultKind::DuplicateCase);
+        return Some(Rule::DuplicateCase);
     }
     None
 }
@@ -62,7 +62,7 @@ fn names_rule(
     names: &Names,
     n: usize,
     sayings: &[Saying],
-) -> Result<Option<FaultKind>, AllocError>
+) -> Result<Option<Rule>, AllocError>
     requires { n + length sayings.now < 2 ^ 64 }
     ensures { IfOk result
         (λ o. o ≡ first_rule (break_names (context_in names.now.declarations) (acts_in names.now.declarations) n (acts_of sayings.now))) }

@@ -17,7 +17,7 @@ use crate::{
 };
 use f66_names::{Names, Saying, names_of};
 use f66_tree::{Header, StmtKind};
-use ground::{Fault, FaultKind, List, Place, Refusal};
+use ground::{Fault, Rule, List, Place, Refusal};
 use rat_tree::{RatStmt, RatUnit};
 use rule_table::limit_of;
 use std::alloc::{AllocError, Global};
@@ -29,7 +29,7 @@ pub fn check(alloc: Global, unit: &RatUnit) -> Result<List<u32>, Refusal>
 {
     match unit.header {
         Header::Main => check_body(alloc, &unit.body),
-        _ => Err(Refusal::Fault(fault_at(unit.place, FaultKind::Unbuilt))),
+        _ => Err(Refusal::Fault(fault_at(unit.place, Rule::Unbuilt))),
     }
 }
 
@@ -44,13 +44,13 @@ fn check_body(alloc: Global, body: &[RatStmt]) -> Result<List<u32>, Refusal>
     let names = names_of(alloc, &header, &sayings)?;
     let unbuilt = first_unbuilt(alloc, &names, &parts)?;
     if let Some(place) = unbuilt {
-        return Err(Refusal::Fault(fault_at(place, FaultKind::Unbuilt)));
+        return Err(Refusal::Fault(fault_at(place, Rule::Unbuilt)));
     }
     let formats = formats_in(alloc, &parts)?;
     check_parts(alloc, &names, &formats, &parts)
 }
 
-fn fault_at(place: Place, kind: FaultKind) -> Fault
+fn fault_at(place: Place, kind: Rule) -> Fault
     ensures { result ≡ fault_of place kind }
 {
     Fault {

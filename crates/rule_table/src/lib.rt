@@ -1,7 +1,7 @@
 //! Rules as a table, and the first fault by it: the words that rules and the code's tables share.
 #![tactic(auto)]
 
-mod kinds;
+mod rule;
 
 ghost use Rattle.std.specs.Prelude.{◌≡◌, List, ℕ, OnOk, Some, None, nat_eq, if◌then◌else◌};
 ghost use Rattle.std.specs.HashMap.{get, get_by};
@@ -9,7 +9,7 @@ ghost use Rattle.std.specs.Option.{option_or};
 ghost use Rattle.std.specs.Str.{bytes_eq};
 ghost use Rattle.rule_table.specs.Words.{is_below as is_below_seen};
 
-pub use kinds::{lesser, limit_of};
+pub use rule::{Rule, lesser};
 use std::alloc::AllocError;
 use std::collections::HashMap;
 

@@ -4,7 +4,7 @@ use Rattle.std.specs.Prelude.{pos, negsuc, ⊤}
 use Rattle.std.specs.List.{list_any, list_all}
 use Rattle.std.specs.Str.{bytes_eq}
 use Rattle.std.proofs.lemmas.Bool.{and_parts, and_from, or_parts, not-false, eqb-true, leb-true, le-leb, ltb-false}
-use Rattle.ground.specs.declared.fault.FaultKind.TheVariants.{Syntax, TypeClash, WrongCount, BadConstant, BadFormat, NotAssignable, Limit}
+use Rattle.rule_table.specs.declared.rule.Rule.TheVariants.{Syntax, TypeClash, WrongCount, BadConstant, BadFormat, NotAssignable, Limit}
 use Rattle.f66_tree.specs.declared.editing.Way.{Way}
 use Rattle.f66_tree.specs.declared.editing.Way.TheVariants.{Reading, Writing}
 use Rattle.f66_tree.specs.Fields.{Fields, NoField, Single, Group}

@@ -4,8 +4,8 @@ use Rattle.std.specs.Prelude.{not, ◌&&◌, ◌||◌}
 use Rattle.std.specs.List.{list_any}
 use Rattle.ground.specs.declared.value.Kind.{Kind}
 use Rattle.ground.specs.declared.value.Kind.TheVariants.{Integer, Logical}
-use Rattle.ground.specs.declared.fault.FaultKind.{FaultKind}
-use Rattle.ground.specs.declared.fault.FaultKind.TheVariants.{Syntax, NameTooLong, OutOfProfileType, TypeClash, WrongCount, DuplicateName, BadConstant, BadFormat, NotAssignable, Limit}
+use Rattle.rule_table.specs.declared.rule.Rule.{Rule}
+use Rattle.rule_table.specs.declared.rule.Rule.TheVariants.{Syntax, NameTooLong, OutOfProfileType, TypeClash, WrongCount, DuplicateName, BadConstant, BadFormat, NotAssignable, Limit}
 use Rattle.rule_table.specs.Words.{is_some_and}
 use Rattle.f66_tree.specs.declared.editing.Way.{Way}
 use Rattle.f66_tree.specs.declared.editing.Way.TheVariants.{Reading, Writing}
@@ -201,8 +201,8 @@ module _ (c d : Context) (K : Text → Type 0) (forms : (x : Text) → K x → n
   measured a h = ap (λ b. has_wrong_sizes a || b) (any_use (miscounts d) (miscounts c) miscounted (uses_in a) h)
 
   -- what breaks no rule breaks none in the other unit, where it declares nothing again and uses each name in its class
-  pub clean_alike : (acts said : List Act) (i j : ℕ) (a : Act) → AllUsed K (uses_in a) → AllDeclared K (declared_in a) → ((k : FaultKind) → breaks_name c said i a k ≡ false) → is_duplicate d acts j a ≡ false →
-      (k : FaultKind) → breaks_name d acts j a k ≡ false
+  pub clean_alike : (acts said : List Act) (i j : ℕ) (a : Act) → AllUsed K (uses_in a) → AllDeclared K (declared_in a) → ((k : Rule) → breaks_name c said i a k ≡ false) → is_duplicate d acts j a ≡ false →
+      (k : Rule) → breaks_name d acts j a k ≡ false
   clean_alike acts said i j a h g clean once Syntax = clean Syntax
   clean_alike acts said i j a h g clean once NameTooLong = clean NameTooLong
   clean_alike acts said i j a h g clean once OutOfProfileType = typed a h g ∙ clean OutOfProfileType

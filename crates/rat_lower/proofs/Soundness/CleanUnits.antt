@@ -7,8 +7,8 @@ use Rattle.std.proofs.lemmas.Bool.{or_from, or_parts, le-leb}
 use Rattle.std.proofs.lemmas.Slice.Eq.{bytes_eq-Decides}
 use Rattle.ground.specs.declared.place.Place.{Place}
 use Rattle.rule_table.specs.Words.{repeats}
-use Rattle.ground.specs.declared.fault.FaultKind.{FaultKind}
-use Rattle.ground.specs.declared.fault.FaultKind.TheVariants.{DuplicateName}
+use Rattle.rule_table.specs.declared.rule.Rule.{Rule}
+use Rattle.rule_table.specs.declared.rule.Rule.TheVariants.{DuplicateName}
 use Rattle.f66_tree.specs.declared.declaration.TypeWord.TheVariants.{Integer}
 use Rattle.f66_tree.specs.Syntax.{Text, Par, Declared, Act, Typed, Dimension, Common, MainUnit, Line}
 use Rattle.f66_tree.specs.Units.{is_note, Note, Context, notes_of, if_any, sizes_in, sizes_by, sizes_of, type_in, by_letter, kind_by}
@@ -140,7 +140,7 @@ no_array (e ∷ es) q = by (bytes_eq e.0 q) (no_array es q)
 
 -- a place in the source where the statement breaks no rule
 abbrev CleanThere : Context → List Act → Act → Type 0
-CleanThere c said a = (n : ℕ) × ((k : FaultKind) → breaks_name c said n a k ≡ false)
+CleanThere c said a = (n : ℕ) × ((k : Rule) → breaks_name c said n a k ≡ false)
 
 clean_there : (c : Context) (said : List Act) (n : ℕ) (acts : List Act) → AllClean c said n acts → AllOf (CleanThere c said) acts
 clean_there c said n [] h = tt

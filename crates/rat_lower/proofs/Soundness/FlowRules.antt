@@ -4,8 +4,8 @@ use Rattle.std.specs.Prelude.{nat_lt, not, ◌&&◌, ◌||◌, ◌==◌, cond, i
 use Rattle.std.specs.Option.{option_or}
 use Rattle.std.specs.List.{slice_get, list_any}
 use Rattle.std.proofs.lemmas.Bool.{or_from, or_parts, and_left, and_right, le-ltb, lt-ltb}
-use Rattle.ground.specs.declared.fault.FaultKind.{FaultKind}
-use Rattle.ground.specs.declared.fault.FaultKind.TheVariants.{Syntax, BadLabel, DoNesting}
+use Rattle.rule_table.specs.declared.rule.Rule.{Rule}
+use Rattle.rule_table.specs.declared.rule.Rule.TheVariants.{Syntax, BadLabel, DoNesting}
 use Rattle.rule_table.specs.First.{IsClean}
 use Rattle.rule_table.specs.Words.{first_place, last_place, is_some_and, is_below, is_number}
 use Rattle.f66_tree.specs.Syntax.{Act, Loop, Line}
@@ -178,7 +178,7 @@ none_first (x ∷ rest) e other = by (is_note x.act) refl (first_place Runs rest
 
 -- neither the header nor a statement breaks a rule on order, labels or DO ranges (X3.9-1966, sections 3.4, 7.1.2, 7.2 and 9.1)
 pub record KeepsFlow (lines : List Line) : Type 0 where
-  pub header : (k : FaultKind) → header_breaks_flow Whole lines k ≡ false
+  pub header : (k : Rule) → header_breaks_flow Whole lines k ≡ false
   pub statements : IsClean (breaks_flow_at Whole lines)
 
 -- what is asked of the statements of a unit besides where they lead
@@ -377,7 +377,7 @@ module _ (code : List Line) (unique : AreUnique code) (IsEnd : ℕ → Type 0) (
             at true e = and_right _ (not (is_transfer s.act)) (ap not (right.some m s f (ap (slice_get code) (equal m i e) ∙ is)))
             at false e = and_left _ _ (ap (is_number i) f ∙ e)
 
-    rule_kept : (k : FaultKind) → breaks_flow Whole code i s k ≡ false
+    rule_kept : (k : Rule) → breaks_flow Whole code i s k ≡ false
     rule_kept Syntax = or_from (is_late code i s.act) _ (orderly.early i s is) not_last
     rule_kept BadLabel =
         let r = ranges_right s.act lead_here.ending in
@@ -390,14 +390,14 @@ module _ (code : List Line) (unique : AreUnique code) (IsEnd : ℕ → Type 0) (
     rule_kept _ = refl
 
   -- no rule is broken
-  statements_kept : (i : ℕ) (k : FaultKind) → breaks_flow_at Whole code i k ≡ false
+  statements_kept : (i : ℕ) (k : Rule) → breaks_flow_at Whole code i k ≡ false
   statements_kept i k = by (slice_get code i) refl
     where
       by : (o : Option Line) → slice_get code i ≡ o → is_some_and (λ s. breaks_flow Whole code i s k) o ≡ false
       by None e = refl
       by (Some s) e = rule_kept i s e k
 
-  header_kept : (k : FaultKind) → header_breaks_flow Whole code k ≡ false
+  header_kept : (k : Rule) → header_breaks_flow Whole code k ≡ false
   header_kept Syntax = by (first_place Runs code) refl
     where
       by : (o : Option ℕ) → first_place Runs code ≡ o → is_none o ≡ false

@@ -5,8 +5,8 @@ use Rattle.std.specs.List.{slice_get, list_any}
 use Rattle.std.proofs.lemmas.Bool.{or_from, or_parts, le-ltb}
 use Rattle.std.proofs.lemmas.List.{append-nil}
 use Rattle.ground.specs.declared.place.Place.{Place}
-use Rattle.ground.specs.declared.fault.FaultKind.{FaultKind}
-use Rattle.ground.specs.declared.fault.FaultKind.TheVariants.{Syntax, NameTooLong, OutOfProfileType, TypeClash, WrongCount, DuplicateName, BadConstant, BadFormat, NotAssignable, Limit}
+use Rattle.rule_table.specs.declared.rule.Rule.{Rule}
+use Rattle.rule_table.specs.declared.rule.Rule.TheVariants.{Syntax, NameTooLong, OutOfProfileType, TypeClash, WrongCount, DuplicateName, BadConstant, BadFormat, NotAssignable, Limit}
 use Rattle.rule_table.specs.Words.{first_place, is_some_and, is_below}
 use Rattle.f66_tree.specs.Syntax.{Text, MainUnit, Act, Line, Routine}
 use Rattle.f66_tree.specs.Units.{Context}
@@ -33,7 +33,7 @@ use Rattle.rat_lower.proofs.Soundness.Redeclared.{declaration}
 
 -- what breaks no rule of names where it stands before all others
 abbrev pub IsCleanAct : Context → List Act → Act → Type 0
-IsCleanAct c acts a = (k : FaultKind) → breaks_name c acts 0 a k ≡ false
+IsCleanAct c acts a = (k : Rule) → breaks_name c acts 0 a k ≡ false
 
 abbrev pub IsBuiltAct : Context → Act → Type 0
 IsBuiltAct c a = is_built c a ≡ true
@@ -55,7 +55,7 @@ module _ (c : Context) (acts : List Act) where
   }
 
   -- and elsewhere, where it declares nothing again
-  at_place : (a : Act) (i : ℕ) → IsCleanAct c acts a → redeclares acts i a ≡ false → (k : FaultKind) → breaks_name c acts i a k ≡ false
+  at_place : (a : Act) (i : ℕ) → IsCleanAct c acts a → redeclares acts i a ≡ false → (k : Rule) → breaks_name c acts i a k ≡ false
   at_place a i h once Syntax = h Syntax
   at_place a i h once NameTooLong = h NameTooLong
   at_place a i h once OutOfProfileType = h OutOfProfileType
@@ -73,7 +73,7 @@ module _ (c : Context) (acts : List Act) where
   none_before None = refl
   none_before (Some m) = le-ltb m 0 (omega arith)
 
-  declaration_clean : (spare : Text) → IsScalar c acts spare → (k : FaultKind) → breaks_name c acts 0 (declaration spare) k ≡ false
+  declaration_clean : (spare : Text) → IsScalar c acts spare → (k : Rule) → breaks_name c acts 0 (declaration spare) k ≡ false
   declaration_clean spare scalar Syntax = ap (λ b. not ((b && true) && true)) scalar.named
   declaration_clean spare scalar NameTooLong = ap (λ b. (b || false) || false) scalar.short
   declaration_clean spare scalar OutOfProfileType = ap (λ b. (b || false) || false) scalar.typed
@@ -143,18 +143,18 @@ module _ (made : ℕ → ℕ) (spare : Text) (first last place : Place) (ss : Co
     lines_built false = code1_built
 
     line_clean : (v : Bool) → have_switch ss ≡ v → ((i : ℕ) (s : Line) → slice_get (declared_if v first spare code1) i ≡ Some s → redeclares acts i s.act ≡ false) →
-        (i : ℕ) (s : Line) → slice_get (declared_if v first spare code1) i ≡ Some s → (k : FaultKind) → breaks_name means_here acts i s.act k ≡ false
+        (i : ℕ) (s : Line) → slice_get (declared_if v first spare code1) i ≡ Some s → (k : Rule) → breaks_name means_here acts i s.act k ≡ false
     line_clean true e once zero s is k = let same : record { label = None; place = first; act = declaration spare } ≡ s = cc in subst (λ (y : Line). breaks_name means_here acts 0 y.act k ≡ false) same (declaration_clean means_here acts spare (scalar e) k)
     line_clean true e once (suc i) s is k = at_place means_here acts s.act (suc i) (said_at (IsCleanAct means_here acts) code1 i s code1_clean is) (once (suc i) s is) k
     line_clean false e once i s is k = at_place means_here acts s.act i (said_at (IsCleanAct means_here acts) code1 i s code1_clean is) (once i s is) k
 
-    kept : (i : ℕ) (o : Option Line) → slice_get lines i ≡ o → (k : FaultKind) → is_some_and (λ s. breaks_flow Whole lines i s k) o ≡ false → is_some_and (λ s. breaks_line Whole means_here acts lines i s k) o ≡ false
+    kept : (i : ℕ) (o : Option Line) → slice_get lines i ≡ o → (k : Rule) → is_some_and (λ s. breaks_flow Whole lines i s k) o ≡ false → is_some_and (λ s. breaks_line Whole means_here acts lines i s k) o ≡ false
     kept i None e k h = refl
     kept i (Some s) e k h = or_from (breaks_flow Whole lines i s k) _ h (line_clean (have_switch ss) refl anew i s e k)
 
     pub unit_sound : IsSound unit
     unit_sound = record { built = ap (option_map (λ i. i + 1)) (all_built means_here lines (lines_built (have_switch ss))); clean = part }
       where
-        part : (n : ℕ) (k : FaultKind) → breaks_at Whole unit n k ≡ false
+        part : (n : ℕ) (k : Rule) → breaks_at Whole unit n k ≡ false
         part zero k = flow.header k
         part (suc i) k = kept i (slice_get lines i) refl k (flow.statements i k)

@@ -7,7 +7,7 @@ use Rattle.std.specs.Str.{bytes_eq}
 use Rattle.std.proofs.lemmas.Bool.{or_parts, lt-ltb}
 use Rattle.std.proofs.lemmas.List.{append_assoc}
 use Rattle.std.proofs.lemmas.Slice.Eq.{bytes_eq-Decides}
-use Rattle.ground.specs.declared.fault.FaultKind.TheVariants.{DuplicateName}
+use Rattle.rule_table.specs.declared.rule.Rule.TheVariants.{DuplicateName}
 use Rattle.rule_table.specs.Words.{first_place, is_below, repeats}
 use Rattle.f66_tree.specs.declared.declaration.TypeWord.TheVariants.{Integer}
 use Rattle.f66_tree.specs.Syntax.{Text, Declared, Act, Typed, Dimension}

@@ -1,6 +1,6 @@
 -- Why `breaks_nesting` keeps its clauses.
 use Rattle.std.proofs.Common.{◌≡◌, ◌<◌, ℕ, false, subst}
-use Rattle.ground.specs.declared.fault.FaultKind.{FaultKind}
+use Rattle.rule_table.specs.declared.rule.Rule.{Rule}
 use Rattle.f66_flow.specs.FlowRules.{breaks_flow_at}
 use Rattle.f66_flow.specs.Under.{lines_under}
 use Rattle.f66_flow.specs.declared.scope.Scope.{Scope}
@@ -10,4 +10,4 @@ use Rattle.f66_flow.proofs.rows.breaks_nesting.Goals as goal
 pub nests_wrong-requires-clause-nested : goal.nests_wrong-requires-clause-nested
 nests_wrong-requires-clause-nested c =
     nested_by (lines_under c.args.flow.now) c.args.i
-    (subst (λ (w : Scope). (j : ℕ) (k : FaultKind) → j < c.args.i → breaks_flow_at w (lines_under c.args.flow.now) j k ≡ false) c.in-Whole.is c.requires.earlier)
+    (subst (λ (w : Scope). (j : ℕ) (k : Rule) → j < c.args.i → breaks_flow_at w (lines_under c.args.flow.now) j k ≡ false) c.in-Whole.is c.requires.earlier)

@@ -1,7 +1,7 @@
 -- The tests that did not hold, and the one that did.
 use Rattle.std.proofs.Common.{◌≡◌, Some, None, true, false, cond, sym, ap, ◌∙◌}
 use Rattle.std.specs.List.{list_any}
-use Rattle.ground.specs.declared.fault.FaultKind.TheVariants.{WrongCount, DuplicateName}
+use Rattle.rule_table.specs.declared.rule.Rule.TheVariants.{WrongCount, DuplicateName}
 use Rattle.f66_tree.specs.Views.{formula_of}
 use Rattle.f66_names.specs.Shapes.{stands}
 use Rattle.f66_names.specs.Sorts.{type_of}
