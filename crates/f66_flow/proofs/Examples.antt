@@ -6,7 +6,7 @@ use Rattle.rule_table.specs.declared.rule.Rule.TheVariants.{Syntax, BadLabel, Do
 use Rattle.ground.specs.declared.place.Place.{Place}
 use Rattle.f66_tree.specs.declared.declaration.TypeWord.TheVariants.{Integer}
 use Rattle.f66_tree.specs.Fields.{NoField}
-use Rattle.f66_tree.specs.Syntax.{Act, Truth, Constant, NoEntry, Goto, Computed, Sign, When, Loop, Continue, Stop, Write, Format, Typed, Preset, Line, unlabelled_line, labelled_line}
+use Rattle.f66_tree.specs.Syntax.{Header, MainUnit, DataUnit, Act, Truth, Constant, NoEntry, Goto, Computed, Sign, When, Loop, Continue, Stop, Write, Format, Typed, Preset, Line, unlabelled_line, labelled_line}
 use Rattle.rule_table.specs.FaultRules.{first_rule}
 use Rattle.f66_flow.specs.declared.scope.Scope.{Scope}
 use Rattle.f66_flow.specs.declared.scope.Scope.TheVariants.{Whole, Part}
@@ -41,12 +41,16 @@ abbrev integers : Line
 integers = plain (Typed Integer [])
 
 -- the faults of the statements from a number on
-abbrev faults_from : Scope → List Line → List Line → ℕ → List (Option Rule)
-faults_from w lines [] i = []
-faults_from w lines (s ∷ rest) i = first_rule (breaks_flow_at w lines i) ∷ faults_from w lines rest (i + 1)
+abbrev faults_from : Scope → Header → List Line → List Line → ℕ → List (Option Rule)
+faults_from w h lines [] i = []
+faults_from w h lines (s ∷ rest) i = first_rule (breaks_flow_at w h lines i) ∷ faults_from w h lines rest (i + 1)
 
+abbrev faults_under : Scope → Header → List Line → List (Option Rule)
+faults_under w h lines = first_rule (header_breaks_flow w h lines) ∷ faults_from w h lines lines 0
+
+-- those of a main unit
 abbrev faults : Scope → List Line → List (Option Rule)
-faults w lines = first_rule (header_breaks_flow w lines) ∷ faults_from w lines lines 0
+faults w lines = faults_under w MainUnit lines
 
 doubled_label : faults Whole (pass 10 ∷ pass 10 ∷ halt ∷ []) ≡ None ∷ None ∷ Some BadLabel ∷ None ∷ []
 doubled_label = refl
@@ -109,6 +113,14 @@ no_last_transfer = refl
 
 nothing_executed : faults Whole (integers ∷ []) ≡ Some Syntax ∷ None ∷ []
 nothing_executed = refl
+
+-- BLOCK DATA has specifications and DATA alone
+block_data : faults_under Whole DataUnit (integers ∷ plain (Preset []) ∷ format 9 ∷ halt ∷ [])
+    ≡ None ∷ None ∷ None ∷ Some Syntax ∷ Some Syntax ∷ []
+block_data = refl
+
+empty_block_data : faults_under Whole DataUnit [] ≡ None ∷ []
+empty_block_data = refl
 
 -- of the first statements of a unit, where the rest is not there yet
 part : faults Part (loop 10 ∷ pass 20 ∷ []) ≡ None ∷ None ∷ None ∷ []

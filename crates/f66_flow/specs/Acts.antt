@@ -1,6 +1,6 @@
 -- The forms of statements that the rules on order, labels and DO ranges tell apart (X3.9-1966, section 7).
-use Rattle.std.specs.Prelude.{ℕ, Bool, true, false, not, List, [], ◌∷◌}
-use Rattle.f66_tree.specs.Syntax.{Act, Goto, Computed, Sign, When, Loop, Stop, Return, Read, Write, Format, Typed, Dimension, Common, Equivalence, Preset}
+use Rattle.std.specs.Prelude.{ℕ, Bool, true, false, not, ◌||◌, List, [], ◌∷◌}
+use Rattle.f66_tree.specs.Syntax.{Header, DataUnit, Act, Goto, Computed, Sign, When, Loop, Stop, Return, Read, Write, Format, Typed, Dimension, Common, Equivalence, Preset}
 use Rattle.f66_tree.specs.Units.{is_note}
 
 -- an executable statement (7.1)
@@ -24,6 +24,16 @@ is_data _ = false
 abbrev pub is_format : Act → Bool
 is_format (Format f) = true
 is_format _ = false
+
+-- a statement that BLOCK DATA does not have, which has specifications and DATA alone (7.2.2 and 8.5)
+abbrev pub is_misplaced : Header → Act → Bool
+is_misplaced DataUnit a = is_executable a || is_format a
+is_misplaced _ a = false
+
+-- a unit has an executable statement, unless it is BLOCK DATA (9.1.1)
+abbrev pub needs_executable : Header → Bool
+needs_executable DataUnit = false
+needs_executable _ = true
 
 -- a statement behind which no other one comes: GO TO, computed GO TO, arithmetic IF, RETURN or STOP (7.1.2)
 abbrev pub is_transfer : Act → Bool

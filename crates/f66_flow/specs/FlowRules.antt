@@ -3,9 +3,9 @@ use Rattle.std.specs.Prelude.{ℕ, Bool, true, false, not, nat_lt, ◌==◌, ◌
 use Rattle.std.specs.List.{slice_get, list_any}
 use Rattle.rule_table.specs.declared.rule.Rule.{Rule}
 use Rattle.rule_table.specs.declared.rule.Rule.TheVariants.{Syntax, BadLabel, DoNesting}
-use Rattle.f66_tree.specs.Syntax.{Act, Loop, Line}
+use Rattle.f66_tree.specs.Syntax.{Header, Act, Loop, Line}
 use Rattle.rule_table.specs.Words.{first_place, last_place, is_some_and, is_below, is_number}
-use Rattle.f66_flow.specs.Acts.{is_executable, is_specification, is_data, is_format, is_transfer, ends_no_range, branches, formats_named}
+use Rattle.f66_flow.specs.Acts.{is_executable, is_specification, is_data, is_format, is_misplaced, needs_executable, is_transfer, ends_no_range, branches, formats_named}
 use Rattle.f66_flow.specs.Ranges.{label_place, named, range_end, range_ends, end_at, holds, some_below}
 use Rattle.f66_flow.specs.declared.scope.Scope.{Scope}
 use Rattle.f66_flow.specs.declared.scope.Scope.TheVariants.{Whole, Part}
@@ -73,17 +73,21 @@ abbrev pub is_whole : Scope → Bool
 is_whole Whole = true
 is_whole Part = false
 
-abbrev pub breaks_flow : Scope → List Line → ℕ → Line → Rule → Bool
-breaks_flow w lines i s Syntax = is_late lines i s.act || (is_whole w && lacks_transfer lines i s.act)
-breaks_flow w lines i s BadLabel = has_bad_label lines i s || (leads_wrong lines s.act || (is_whole w && has_no_end lines s.act))
-breaks_flow w lines i s DoNesting = is_whole w && nests_wrong lines i s.act
-breaks_flow w lines i s _ = false
+-- its own label, or one that it names
+abbrev pub has_wrong_label : Scope → List Line → ℕ → Line → Bool
+has_wrong_label w lines i s = has_bad_label lines i s || (leads_wrong lines s.act || (is_whole w && has_no_end lines s.act))
+
+abbrev pub breaks_flow : Scope → Header → List Line → ℕ → Line → Rule → Bool
+breaks_flow w h lines i s Syntax = is_misplaced h s.act || (is_late lines i s.act || (is_whole w && lacks_transfer lines i s.act))
+breaks_flow w h lines i s BadLabel = has_wrong_label w lines i s
+breaks_flow w h lines i s DoNesting = is_whole w && nests_wrong lines i s.act
+breaks_flow w h lines i s _ = false
 
 -- the statement with a number, where there is one
-abbrev pub breaks_flow_at : Scope → List Line → ℕ → Rule → Bool
-breaks_flow_at w lines i k = is_some_and (λ s. breaks_flow w lines i s k) (slice_get lines i)
+abbrev pub breaks_flow_at : Scope → Header → List Line → ℕ → Rule → Bool
+breaks_flow_at w h lines i k = is_some_and (λ s. breaks_flow w h lines i s k) (slice_get lines i)
 
 -- what a unit without an executable statement breaks (section 9.1.1)
-abbrev pub header_breaks_flow : Scope → List Line → Rule → Bool
-header_breaks_flow w lines Syntax = is_whole w && is_none (first_place (λ s. is_executable s.act) lines)
-header_breaks_flow w lines _ = false
+abbrev pub header_breaks_flow : Scope → Header → List Line → Rule → Bool
+header_breaks_flow w h lines Syntax = needs_executable h && (is_whole w && is_none (first_place (λ s. is_executable s.act) lines))
+header_breaks_flow w h lines _ = false

@@ -1,9 +1,9 @@
 // The forms of statements that the rules tell apart.
 ghost use Rattle.std.specs.Prelude.{◌≡◌};
-ghost use Rattle.f66_tree.specs.Views.{act_of};
+ghost use Rattle.f66_tree.specs.Views.{header_of, act_of};
 ghost use Rattle.f66_flow.specs.Acts as acts;
 
-use f66_tree::StmtKind;
+use f66_tree::{Header, StmtKind};
 
 pub(crate) fn is_executable(kind: &StmtKind) -> bool
     ensures { result ≡ acts.is_executable (act_of kind.now) }
@@ -35,6 +35,22 @@ pub fn is_format(kind: &StmtKind) -> bool
     ensures { result ≡ acts.is_format (act_of kind.now) }
 {
     matches!(kind, StmtKind::Format(_))
+}
+
+/// Whether BLOCK DATA does not have it.
+pub(crate) fn is_misplaced(header: &Header, kind: &StmtKind) -> bool
+    ensures { result ≡ acts.is_misplaced (header_of header.now) (act_of kind.now) }
+{
+    match header {
+        Header::Block => is_executable(kind) || is_format(kind),
+        _ => false,
+    }
+}
+
+pub(crate) fn needs_executable(header: &Header) -> bool
+    ensures { result ≡ acts.needs_executable (header_of header.now) }
+{
+    !matches!(header, Header::Block)
 }
 
 pub(crate) fn is_transfer(kind: &StmtKind) -> bool

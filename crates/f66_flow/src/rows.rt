@@ -1,10 +1,9 @@
 // The rules, row by row.
-ghost use Rattle.std.specs.Prelude.{◌≡◌, ◌<◌, ◌&&◌, ℕ, length, false, nat_lt};
+ghost use Rattle.std.specs.Prelude.{◌≡◌, ◌<◌, ◌&&◌, ◌||◌, ℕ, length, false, nat_lt};
 ghost use Rattle.std.specs.List.{list_any};
-ghost use Rattle.f66_tree.specs.Views.{act_of, line_of};
+ghost use Rattle.f66_tree.specs.Views.{header_of, act_of, line_of};
 ghost use Rattle.f66_flow.specs.Acts.{branches, formats_named};
 ghost use Rattle.rule_table.specs.declared.rule.Rule.{Rule};
-ghost use Rattle.rule_table.specs.declared.rule.Rule.TheVariants.{BadLabel};
 ghost use Rattle.rule_table.specs.FaultRules.{first_rule};
 ghost use Rattle.rule_table.specs.Words.{is_some_and};
 ghost use Rattle.f66_flow.specs.Acts as acts;
@@ -13,12 +12,14 @@ ghost use Rattle.f66_flow.specs.Innermost.{IsNested};
 ghost use Rattle.f66_flow.specs.Ranges.{named, range_ends};
 ghost use Rattle.f66_flow.specs.Under.{lines_named, lines_under};
 
-use crate::forms::{ends_no_range, is_executable, is_format, is_specification, is_transfer};
+use crate::forms::{
+    ends_no_range, is_executable, is_format, is_misplaced, is_specification, is_transfer,
+    needs_executable,
+};
 use crate::ranges::range_end;
 use crate::{Flow, Labels, Scope};
-use f66_tree::{Stmt, StmtKind};
-use rule_table::Rule;
-use rule_table::is_below;
+use f66_tree::{Header, Stmt, StmtKind};
+use rule_table::{Rule, is_below};
 
 fn is_whole(scope: Scope) -> bool
     ensures { result ≡ rules.is_whole scope }
@@ -36,6 +37,13 @@ fn lacks_transfer(flow: &Flow, i: usize, kind: &StmtKind) -> bool
     ensures { result ≡ rules.lacks_transfer (lines_under flow.now) i (act_of kind.now) }
 {
     flow.last == Some(i) && !is_transfer(kind)
+}
+
+fn breaks_order(scope: Scope, flow: &Flow, i: usize, kind: &StmtKind) -> bool
+    ensures { result
+        ≡ (rules.is_late (lines_under flow.now) i (act_of kind.now) || (rules.is_whole scope && rules.lacks_transfer (lines_under flow.now) i (act_of kind.now))) }
+{
+    is_late(flow, i, kind) || is_whole(scope) && lacks_transfer(flow, i, kind)
 }
 
 fn has_bad_label(labels: &Labels, i: usize, statement: &Stmt) -> bool
@@ -204,9 +212,9 @@ fn nests_wrong(flow: &Flow, i: usize, kind: &StmtKind) -> bool
     ends_wrong(&flow.labels, i, kind) || (overlaps(flow, i, kind) || branches_into(flow, i, kind))
 }
 
-fn breaks_nesting(scope: Scope, flow: &Flow, i: usize, kind: &StmtKind) -> bool
+fn breaks_nesting(scope: Scope, header: &Header, flow: &Flow, i: usize, kind: &StmtKind) -> bool
     requires within { i < length flow.now.labels.statements.now }
-    requires earlier { (j : ℕ) (k : Rule) → j < i → rules.breaks_flow_at scope (lines_under flow.now) j k ≡ false }
+    requires earlier { (j : ℕ) (k : Rule) → j < i → rules.breaks_flow_at scope (header_of header.now) (lines_under flow.now) j k ≡ false }
     ensures { result ≡ (rules.is_whole scope && rules.nests_wrong (lines_under flow.now) i (act_of kind.now)) }
 {
     match scope {
@@ -217,26 +225,32 @@ fn breaks_nesting(scope: Scope, flow: &Flow, i: usize, kind: &StmtKind) -> bool
 
 /// The rule with the smallest number of those on order, labels and DO ranges that the statement with the number i breaks,
 /// where no earlier one breaks any.
-pub fn broken_rule(scope: Scope, flow: &Flow, i: usize, statement: &Stmt) -> Option<Rule>
+pub fn broken_rule(
+    scope: Scope,
+    header: &Header,
+    flow: &Flow,
+    i: usize,
+    statement: &Stmt,
+) -> Option<Rule>
     requires within { i < length flow.now.labels.statements.now }
-    requires earlier { (j : ℕ) (k : Rule) → j < i → rules.breaks_flow_at scope (lines_under flow.now) j k ≡ false }
-    ensures { result ≡ first_rule (rules.breaks_flow scope (lines_under flow.now) i (line_of statement.now)) }
+    requires earlier { (j : ℕ) (k : Rule) → j < i → rules.breaks_flow_at scope (header_of header.now) (lines_under flow.now) j k ≡ false }
+    ensures { result ≡ first_rule (rules.breaks_flow scope (header_of header.now) (lines_under flow.now) i (line_of statement.now)) }
 {
     let kind = &statement.kind;
-    if is_late(flow, i, kind) || is_whole(scope) && lacks_transfer(flow, i, kind) {
+    if is_misplaced(header, kind) || breaks_order(scope, flow, i, kind) {
         return Some(Rule::Syntax);
     }
     if has_wrong_label(scope, &flow.labels, i, statement) {
         return Some(Rule::BadLabel);
     }
-    if breaks_nesting(scope, flow, i, kind) {
+    if breaks_nesting(scope, header, flow, i, kind) {
         return Some(Rule::DoNesting);
     }
     None
 }
 
 fn has_wrong_label(scope: Scope, labels: &Labels, i: usize, statement: &Stmt) -> bool
-    ensures { result ≡ rules.breaks_flow scope (lines_named labels.now) i (line_of statement.now) BadLabel }
+    ensures { result ≡ rules.has_wrong_label scope (lines_named labels.now) i (line_of statement.now) }
 {
     let kind = &statement.kind;
     has_bad_label(labels, i, statement)
@@ -245,10 +259,10 @@ fn has_wrong_label(scope: Scope, labels: &Labels, i: usize, statement: &Stmt) ->
 }
 
 /// The rule of these that a unit's header breaks: a unit without an executable statement (X3.9-1966, section 9.1.1).
-pub fn header_rule(scope: Scope, flow: &Flow) -> Option<Rule>
-    ensures { result ≡ first_rule (rules.header_breaks_flow scope (lines_under flow.now)) }
+pub fn header_rule(scope: Scope, header: &Header, flow: &Flow) -> Option<Rule>
+    ensures { result ≡ first_rule (rules.header_breaks_flow scope (header_of header.now) (lines_under flow.now)) }
 {
-    if is_whole(scope) && flow.first.is_none() {
+    if needs_executable(header) && (is_whole(scope) && flow.first.is_none()) {
         return Some(Rule::Syntax);
     }
     None
