@@ -2,13 +2,13 @@
 use Rattle.std.proofs.Common.{◌≡◌, refl}
 use Rattle.std.specs.Prelude.{ℕ, pos, ◌+◌, Bool, true, false, List, [], ◌∷◌, Option, Some, None, codes}
 use Rattle.rule_table.specs.declared.rule.Rule.{Rule}
-use Rattle.rule_table.specs.declared.rule.Rule.TheVariants.{Syntax, NameTooLong, OutOfProfileType, TypeClash, WrongCount, DuplicateName, BadConstant, BadFormat, NotAssignable, Limit}
+use Rattle.rule_table.specs.declared.rule.Rule.TheVariants.{Syntax, NameTooLong, OutOfProfileType, TypeClash, WrongCount, DuplicateName, BadConstant, BadFormat, NotAssignable, LargeArray}
 use Rattle.rule_table.specs.FaultRules.{first_rule}
 use Rattle.f66_tree.specs.declared.declaration.TypeWord.TheVariants.{Integer, Logical, Other}
 use Rattle.f66_tree.specs.declared.expression.Operator.TheVariants.{Add, Sub, Mul, Power, Lt, And}
 use Rattle.f66_tree.specs.declared.editing.EditKind.TheVariants as edits
 use Rattle.f66_tree.specs.Fields.{Takes, Blanks, Chars, Slash, Fields, NoField, Single, Group}
-use Rattle.f66_tree.specs.Syntax.{Text, Formula, Int, Truth, Ref, Item, Not, Pair, NoFormula, AndFormula, Constant, Named, Declared, MainUnit, Entry, One, Many, NoEntry, AndEntry, Act, Assign, Computed, When, Loop, Continue, Stop, Read, Write, Format, Typed, Dimension, Invoke}
+use Rattle.f66_tree.specs.Syntax.{Text, Formula, Int, Truth, Ref, Item, Not, Pair, NoFormula, AndFormula, Constant, Named, Declared, Header, MainUnit, SubUnit, Entry, One, Many, NoEntry, AndEntry, Act, Assign, Computed, When, Loop, Continue, Stop, Read, Write, Format, Typed, Dimension, Invoke}
 use Rattle.f66_names.specs.Declaring.{context_by}
 use Rattle.f66_names.specs.BuiltActs as built
 use Rattle.f66_names.specs.Rules.{breaks_name}
@@ -20,8 +20,11 @@ last [] = (0, Continue)
 last (a ∷ []) = (0, a)
 last (a ∷ b ∷ rest) = ((last (b ∷ rest)).0 + 1, (last (b ∷ rest)).1)
 
+abbrev fault_under : Header → List Act → Option Rule
+fault_under h acts = let at = last acts in first_rule (breaks_name (context_by h acts) acts at.0 at.1)
+
 abbrev fault : List Act → Option Rule
-fault acts = let at = last acts in first_rule (breaks_name (context_by MainUnit acts) acts at.0 at.1)
+fault acts = fault_under MainUnit acts
 
 abbrev is_built : List Act → Bool
 is_built acts = let at = last acts in built.is_built (context_by MainUnit acts) at.1
@@ -95,6 +98,23 @@ real = refl
 
 real_type : fault (Typed Other (scalar i ∷ []) ∷ []) ≡ Some OutOfProfileType
 real_type = refl
+
+-- REAL I and REAL K(10) are at fault there alone, and their values clash with nothing
+abbrev reals : Act
+reals = Typed Other (scalar i ∷ sized k 10 ∷ [])
+
+real_stored : fault (reals ∷ set (Ref i) (Truth true) ∷ []) ≡ None
+real_stored = refl
+
+real_tested : fault (reals ∷ When (Pair And (Ref i) (with_one k (num 1))) Continue ∷ []) ≡ None
+real_tested = refl
+
+-- a sum is an integer
+real_added : fault (reals ∷ logical ∷ set (Ref l) (Pair Add (Ref i) (num 1)) ∷ []) ≡ Some TypeClash
+real_added = refl
+
+real_sized : fault (Typed Other (scalar k ∷ []) ∷ array ∷ []) ≡ None
+real_sized = refl
 
 -- a declaration counts for the whole unit
 declared_later : fault (Typed Integer (scalar (codes "X") ∷ []) ∷ set (Ref i) (Ref (codes "X")) ∷ []) ≡ None
@@ -271,7 +291,7 @@ function_as_target = refl
 array_as_counter : fault (array ∷ Loop 9 k (Constant (pos 1)) (Constant (pos 2)) (Constant (pos 1)) ∷ []) ≡ Some NotAssignable
 array_as_counter = refl
 
-many_places : fault (Dimension (sized k 32768 ∷ []) ∷ []) ≡ Some Limit
+many_places : fault (Dimension (sized k 32768 ∷ []) ∷ []) ≡ Some LargeArray
 many_places = refl
 
 function_unbuilt : is_built (set (Ref i) (with_one k (num 1)) ∷ []) ≡ false
@@ -282,3 +302,21 @@ target_built = refl
 
 call_unbuilt : is_built (When (Truth true) (Invoke k NoFormula) ∷ []) ≡ false
 call_unbuilt = refl
+
+-- ---- adjustable dimensions ----
+
+-- K(N) in a subroutine of these dummies
+abbrev adjusted : List Text → Act → Option Rule
+adjusted dummies a = fault_under (SubUnit (codes "SUB") dummies) (a ∷ [])
+
+abbrev by_name : Text → Act
+by_name n = Dimension (record { name = k; sizes = Named n ∷ [] } ∷ [])
+
+dummy_size : adjusted (k ∷ codes "N" ∷ []) (by_name (codes "N")) ≡ None
+dummy_size = refl
+
+own_size : adjusted (k ∷ []) (by_name (codes "N")) ≡ Some BadConstant
+own_size = refl
+
+own_array : adjusted (codes "N" ∷ []) (by_name (codes "N")) ≡ Some BadConstant
+own_array = refl

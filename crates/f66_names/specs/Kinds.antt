@@ -1,8 +1,7 @@
 -- The types of expressions, and where a statement has another than it asks for (X3.9-1966, sections 5.1.3.3, 6, 7.1 and 8.2).
-use Rattle.std.specs.Prelude.{Bool, true, false, not, ◌&&◌, ◌||◌, Option, Some, None, if◌then◌else◌}
+use Rattle.std.specs.Prelude.{Bool, true, false, not, ◌&&◌, ◌||◌, if◌then◌else◌}
 use Rattle.ground.specs.declared.value.Kind.{Kind}
 use Rattle.ground.specs.declared.value.Kind.TheVariants.{Integer, Logical}
-use Rattle.rule_table.specs.Words.{is_some_and}
 use Rattle.f66_tree.specs.declared.expression.Operator.{Operator}
 use Rattle.f66_tree.specs.declared.expression.Operator.TheVariants.{Add, Sub, Mul, And, Or}
 use Rattle.f66_tree.specs.declared.editing.Way.{Way}
@@ -12,7 +11,7 @@ use Rattle.f66_tree.specs.Units.{Context, kind_of}
 use Rattle.f66_tree.specs.Built.{is_arithmetic}
 use Rattle.f66_names.specs.declared.name_form.NameForm.{NameForm}
 use Rattle.f66_names.specs.declared.name_form.NameForm.TheVariants as forms
-use Rattle.f66_names.specs.Sorts.{name_form, is_array_name, is_counter, is_integer}
+use Rattle.f66_names.specs.Sorts.{name_form, is_array_name, is_foreign, is_counter, is_integer}
 
 -- ---- subscripts: c*v+k, c*v-k, c*v, v+k, v-k, v or k ----
 
@@ -59,9 +58,9 @@ same_kind Integer Integer = true
 same_kind Logical Logical = true
 same_kind _ _ = false
 
--- there is a type, and it is this one
-abbrev pub is_kind : Kind → Option Kind → Bool
-is_kind k o = is_some_and (same_kind k) o
+-- a name may have values of a type: it has that type, or one outside the profile
+abbrev pub may_be : Context → Text → Kind → Bool
+may_be c x k = same_kind (kind_of c x) k || is_foreign c x
 
 abbrev pub is_connective : Operator → Bool
 is_connective And = true
@@ -75,43 +74,42 @@ operand op = if is_connective op then Logical else Integer
 abbrev pub outcome : Operator → Kind
 outcome op = if is_arithmetic op then Integer else Logical
 
--- a type, where its condition holds
-abbrev pub when : Bool → Kind → Option Kind
-when true k = Some k
-when false k = None
-
--- an element with fit subscripts, or an intrinsic function of integers
-abbrev pub kind_applied : NameForm → Kind → Bool → Bool → Option Kind
-kind_applied (forms.Array n) k fit whole = when fit k
-kind_applied (forms.Intrinsic a) k fit whole = when (is_integer k && whole) Integer
-kind_applied forms.Plain k fit whole = None
+-- of a name with parentheses: what holds of an element, or of an intrinsic function's value
+abbrev pub applied : NameForm → Bool → Bool → Bool
+applied (forms.Array n) element value = element
+applied (forms.Intrinsic a) element value = value
+applied forms.Plain element value = false
 
 abbrev mutual
-  -- the type of an expression, or None where its operands clash
-  pub kind_in : Context → Formula → Option Kind
-  kind_in c (Int z) = Some Integer
-  kind_in c (Truth b) = Some Logical
-  kind_in c (Letter l) = None
-  kind_in c (Ref x) = when (not (is_array_name c x)) (kind_of c x)
-  kind_in c (Item x es) = kind_applied (name_form c x) (kind_of c x) (are_subscripts c es) (are_integers c es)
-  kind_in c (Group a) = kind_in c a
-  kind_in c (Plus a) = when (is_kind Integer (kind_in c a)) Integer
-  kind_in c (Minus a) = when (is_kind Integer (kind_in c a)) Integer
-  kind_in c (Not a) = when (is_kind Logical (kind_in c a)) Logical
-  kind_in c (Pair op a b) = when (is_kind (operand op) (kind_in c a) && is_kind (operand op) (kind_in c b)) (outcome op)
+  -- the expression may have this type: its operands have the types that its operators ask for, and an element fit subscripts
+  pub fits : Context → Formula → Kind → Bool
+  fits c (Int z) k = same_kind Integer k
+  fits c (Truth b) k = same_kind Logical k
+  fits c (Letter l) k = false
+  fits c (Ref x) k = not (is_array_name c x) && may_be c x k
+  fits c (Item x es) k = applied (name_form c x) (are_subscripts c es && may_be c x k) (is_integer (kind_of c x) && are_integers c es && same_kind Integer k)
+  fits c (Group a) k = fits c a k
+  fits c (Plus a) k = same_kind Integer k && fits c a Integer
+  fits c (Minus a) k = same_kind Integer k && fits c a Integer
+  fits c (Not a) k = same_kind Logical k && fits c a Logical
+  fits c (Pair op a b) k = same_kind (outcome op) k && (fits c a (operand op) && fits c b (operand op))
 
   pub are_integers : Context → Formulas → Bool
   are_integers c NoFormula = true
-  are_integers c (AndFormula e es) = is_kind Integer (kind_in c e) && are_integers c es
+  are_integers c (AndFormula e es) = fits c e Integer && are_integers c es
 
 -- ---- statements ----
 
 -- A target takes a value of this type. A whole array, and a name with parentheses that is no array, are no targets,
 -- which is another rule.
 abbrev pub takes_kind : Context → Formula → Kind → Bool
-takes_kind c (Ref x) k = is_array_name c x || same_kind (kind_of c x) k
-takes_kind c (Item x es) k = not (is_array_name c x) || (are_subscripts c es && same_kind (kind_of c x) k)
+takes_kind c (Ref x) k = is_array_name c x || may_be c x k
+takes_kind c (Item x es) k = not (is_array_name c x) || (are_subscripts c es && may_be c x k)
 takes_kind c _ k = true
+
+-- an assignment of values of a type
+abbrev pub assigns : Context → Formula → Formula → Kind → Bool
+assigns c x e k = takes_kind c x k && fits c e k
 
 abbrev pub is_counting : Context → Par → Bool
 is_counting c (Constant z) = true
@@ -140,10 +138,10 @@ abbrev mutual
 
 -- the statement has an operand, a subscript, an argument or a value of another type than it asks for
 abbrev pub clashes : Context → Act → Bool
-clashes c (Assign x e) = not (is_some_and (takes_kind c x) (kind_in c e))
+clashes c (Assign x e) = not (assigns c x e Integer || assigns c x e Logical)
 clashes c (Computed ls x) = not (is_counter c x)
-clashes c (Sign e l m k) = not (is_kind Integer (kind_in c e))
-clashes c (When e a) = not (is_kind Logical (kind_in c e)) || clashes c a
+clashes c (Sign e l m k) = not (fits c e Integer)
+clashes c (When e a) = not (fits c e Logical) || clashes c a
 clashes c (Loop l x p q r) = not (counts c x p q r)
 clashes c (Read u l es) = not (is_counting c u && are_entries Reading c es)
 clashes c (Write u l es) = not (is_counting c u && are_entries Writing c es)

@@ -3,8 +3,6 @@ use Rattle.std.specs.Prelude.{ℕ, Bool, true, false, not, ◌||◌, nat_lt, Lis
 use Rattle.std.specs.List.{list_any, flat_map}
 use Rattle.std.specs.Str.{bytes_eq}
 use Rattle.rule_table.specs.Words.{first_place, find_map, is_below, is_some_and, repeats}
-use Rattle.f66_tree.specs.declared.declaration.TypeWord.{TypeWord}
-use Rattle.f66_tree.specs.declared.declaration.TypeWord.TheVariants as words
 use Rattle.f66_tree.specs.Syntax.{Text, Declared, Act, Typed, Dimension}
 use Rattle.f66_tree.specs.Units.{Context}
 use Rattle.f66_names.specs.declared.name_form.NameForm.{NameForm}
@@ -14,7 +12,7 @@ use Rattle.f66_names.specs.declared.name_form.Class.TheVariants.{Scalar, Functio
 use Rattle.f66_names.specs.declared.name_form.Manner.{Manner}
 use Rattle.f66_names.specs.declared.name_form.Manner.TheVariants.{Alone, With, Stored}
 use Rattle.f66_names.specs.Declaring.{types, sizes, typed_in, declared_in, sized_in, is_sized}
-use Rattle.f66_names.specs.Sorts.{name_form, type_of, takes}
+use Rattle.f66_names.specs.Sorts.{name_form, is_other, is_real_by_letter, takes}
 use Rattle.f66_names.specs.Uses.{Usage, uses_in}
 
 -- a name passes a test that the statement declares or uses
@@ -25,17 +23,14 @@ has_name test a = list_any (λ d. test d.name) (declared_in a) || list_any (λ u
 abbrev pub is_long : Text → Bool
 is_long x = nat_lt 6 (length x)
 
--- a type is outside the profile
-abbrev pub is_other : TypeWord → Bool
-is_other words.Other = true
-is_other _ = false
-
+-- a type statement gives a type outside the profile
 abbrev pub gives_other : Act → Bool
 gives_other (Typed t ds) = is_other t
 gives_other _ = false
 
+-- it does, or it has an undeclared name that would be real
 abbrev pub has_other_type : Context → Act → Bool
-has_other_type c a = gives_other a || has_name (λ x. is_other (type_of c x)) a
+has_other_type c a = gives_other a || has_name (is_real_by_letter c) a
 
 -- a type statement gives at most three dimensions, and DIMENSION one to three
 abbrev pub has_many_sizes : Declared → Bool

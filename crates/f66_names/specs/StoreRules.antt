@@ -4,21 +4,21 @@ use Rattle.std.specs.List.{list_any}
 use Rattle.f66_tree.specs.declared.editing.Way.{Way}
 use Rattle.f66_tree.specs.declared.editing.Way.TheVariants.{Reading, Writing}
 use Rattle.f66_tree.specs.Fields.{Step, Takes, Blanks, Chars, Slash, Fields, NoField, Single, Group}
-use Rattle.f66_tree.specs.Syntax.{Formula, Ref, Item, Par, Constant, Named, Declared, Entry, One, Many, Entries, NoEntry, AndEntry, Act, Assign, When, Loop, Read, Write, Format}
+use Rattle.f66_tree.specs.Syntax.{Text, Formula, Ref, Item, Par, Constant, Named, Declared, Entry, One, Many, Entries, NoEntry, AndEntry, Act, Assign, When, Loop, Read, Write, Format}
 use Rattle.f66_tree.specs.Units.{Context, places_of}
 use Rattle.f66_names.specs.Declaring.{declared_in}
-use Rattle.f66_names.specs.Sorts.{is_array_name}
+use Rattle.f66_names.specs.Sorts.{is_array_name, is_dummy, is_counter}
 
--- a dimension of zero, or one that is a name: in a main unit no dimension is adjustable
-abbrev pub is_bad_size : Par → Bool
-is_bad_size (Constant z) = int_le z (pos 0)
-is_bad_size (Named x) = true
+-- a dimension of zero, or a name that is no adjustable dimension: that of a dummy is an integer dummy
+abbrev pub is_bad_size : Context → Text → Par → Bool
+is_bad_size c x (Constant z) = int_le z (pos 0)
+is_bad_size c x (Named n) = not (is_dummy c x && (is_dummy c n && is_counter c n))
 
-abbrev pub has_bad_size : Declared → Bool
-has_bad_size d = list_any is_bad_size d.sizes
+abbrev pub has_bad_size : Context → Declared → Bool
+has_bad_size c d = list_any (is_bad_size c d.name) d.sizes
 
-abbrev pub has_bad_constant : Act → Bool
-has_bad_constant a = list_any has_bad_size (declared_in a)
+abbrev pub has_bad_constant : Context → Act → Bool
+has_bad_constant c a = list_any (has_bad_size c) (declared_in a)
 
 -- ---- formats ----
 

@@ -1,15 +1,15 @@
 // The types of expressions, and where statements have others than they ask for.
-ghost use Rattle.std.specs.Prelude.{◌≡◌};
-ghost use Rattle.rule_table.specs.Words.{is_some_and};
+ghost use Rattle.std.specs.Prelude.{◌≡◌, ◌||◌};
+ghost use Rattle.ground.specs.declared.value.Kind.TheVariants.{Integer, Logical};
 ghost use Rattle.f66_tree.specs.Views.{formula_of, formulas_of, par_of, entry_of, entries_of, act_of};
 ghost use Rattle.f66_tree.specs.Syntax.{Item, Many};
 ghost use Rattle.f66_tree.specs.Built.{is_arithmetic};
-ghost use Rattle.f66_names.specs.Kinds.{is_number, is_index, is_times, is_plus_or_minus, is_multiple, is_shifted, is_subscript, are_subscripts, same_kind, is_kind, is_connective, operand, outcome, when, kind_applied, kind_in, are_integers, takes_kind, is_counting, is_listed, counts, is_entry, are_entries, clashes};
+ghost use Rattle.f66_names.specs.Kinds.{is_number, is_index, is_times, is_plus_or_minus, is_multiple, is_shifted, is_subscript, are_subscripts, same_kind, may_be, is_connective, operand, outcome, applied, fits, are_integers, takes_kind, assigns, is_counting, is_listed, counts, is_entry, are_entries, clashes};
 ghost use Rattle.f66_names.specs.DeclarationViews.{context_in};
 
 use crate::NameForm;
 use crate::declarations::Declarations;
-use crate::sorts::{form_of, is_array, is_counter, is_integer, kind_of};
+use crate::sorts::{form_of, is_array, is_counter, is_foreign, is_integer, kind_of};
 use f66_tree::{Entry, Expr, Name, Operator, Par, StmtKind, Way};
 use ground::Kind;
 
@@ -21,9 +21,9 @@ pub fn clashes(declarations: &Declarations, kind: &StmtKind) -> bool
     match kind {
         StmtKind::Assign(target, value) => !takes_value(declarations, target, value),
         StmtKind::Computed(_, index) => !is_counter(declarations, index),
-        StmtKind::Sign(e, _, _, _) => !has_kind(declarations, Kind::Integer, e),
+        StmtKind::Sign(e, _, _, _) => !fits(declarations, e, Kind::Integer),
         StmtKind::When(test, inner) => {
-            !has_kind(declarations, Kind::Logical, test) || clashes(declarations, inner)
+            !fits(declarations, test, Kind::Logical) || clashes(declarations, inner)
         }
         StmtKind::Loop(_, variable, first, last, step) => {
             !counts(declarations, variable, first, last, step)
@@ -53,75 +53,63 @@ pub fn counts(
             && (is_counting(declarations, last) && is_counting(declarations, step)))
 }
 
-/// The type of an expression, or None where its operands clash (sections 6 and 8.2).
-#[cycle(kind_in)]
-fn kind_in(declarations: &Declarations, e: &Expr) -> Option<Kind>
-    ensures { result ≡ kind_in (context_in declarations.now) (formula_of e.now) }
+/// Whether an expression may have a type (sections 6 and 8.2).
+#[cycle(fits)]
+pub fn fits(declarations: &Declarations, e: &Expr, kind: Kind) -> bool
+    ensures { result ≡ fits (context_in declarations.now) (formula_of e.now) kind }
 {
     match e {
-        Expr::Int(_) => Some(Kind::Integer),
-        Expr::Truth(_) => Some(Kind::Logical),
-        Expr::Letter(_) => None,
-        Expr::Ref(name) => when(!is_array(declarations, name), kind_of(declarations, name)),
-        Expr::Item(name, list) => kind_of_item(declarations, name, list),
-        Expr::Group(a) => kind_in(declarations, a),
-        Expr::Plus(a) => when(
-            is_kind(Kind::Integer, kind_in(declarations, a)),
-            Kind::Integer,
-        ),
-        Expr::Minus(a) => when(
-            is_kind(Kind::Integer, kind_in(declarations, a)),
-            Kind::Integer,
-        ),
-        Expr::Not(a) => when(
-            is_kind(Kind::Logical, kind_in(declarations, a)),
-            Kind::Logical,
-        ),
+        Expr::Int(_) => same_kind(Kind::Integer, kind),
+        Expr::Truth(_) => same_kind(Kind::Logical, kind),
+        Expr::Letter(_) => false,
+        Expr::Ref(name) => !is_array(declarations, name) && may_be(declarations, name, kind),
+        Expr::Item(name, list) => fits_item(declarations, name, list, kind),
+        Expr::Group(a) => fits(declarations, a, kind),
+        Expr::Plus(a) => same_kind(Kind::Integer, kind) && fits(declarations, a, Kind::Integer),
+        Expr::Minus(a) => same_kind(Kind::Integer, kind) && fits(declarations, a, Kind::Integer),
+        Expr::Not(a) => same_kind(Kind::Logical, kind) && fits(declarations, a, Kind::Logical),
         Expr::Pair(operator, a, b) => {
-            let left = is_kind(operand(*operator), kind_in(declarations, a));
-            let right = is_kind(operand(*operator), kind_in(declarations, b));
-            when(left && right, outcome(*operator))
+            let asked = operand(*operator);
+            same_kind(outcome(*operator), kind)
+                && (fits(declarations, a, asked) && fits(declarations, b, asked))
         }
     }
 }
 
-#[cycle(kind_in)]
-fn kind_of_item(declarations: &Declarations, name: &Name, list: &[Expr]) -> Option<Kind>
-    ensures { result ≡ kind_in (context_in declarations.now) (Item name.now (formulas_of list.now)) }
+/// Whether an element, or a value of an intrinsic function, may have a type.
+#[cycle(fits)]
+fn fits_item(declarations: &Declarations, name: &Name, list: &[Expr], kind: Kind) -> bool
+    ensures { result ≡ fits (context_in declarations.now) (Item name.now (formulas_of list.now)) kind }
 {
-    let fit = are_subscripts(declarations, list);
-    let whole = are_integers(declarations, list);
-    let kind = kind_of(declarations, name);
-    kind_applied(form_of(declarations, name), kind, fit, whole)
+    match form_of(declarations, name) {
+        NameForm::Array(_) => are_subscripts(declarations, list)
+            && may_be(declarations, name, kind),
+        NameForm::Intrinsic(_) => {
+            is_integer(kind_of(declarations, name))
+                && are_integers(declarations, list)
+                && same_kind(Kind::Integer, kind)
+        }
+        NameForm::Plain => false,
+    }
 }
 
-#[cycle(kind_in)]
+#[cycle(fits)]
 fn are_integers(declarations: &Declarations, list: &[Expr]) -> bool
     ensures { result ≡ are_integers (context_in declarations.now) (formulas_of list.now) }
 {
     for e in list {
-        if !is_kind(Kind::Integer, kind_in(declarations, e)) {
+        if !fits(declarations, e, Kind::Integer) {
             return false;
         }
     }
     true
 }
 
-/// Whether an expression has this type.
-pub fn has_kind(declarations: &Declarations, kind: Kind, e: &Expr) -> bool
-    ensures { result ≡ is_kind kind (kind_in (context_in declarations.now) (formula_of e.now)) }
+/// Whether a name may have values of a type.
+fn may_be(declarations: &Declarations, name: &Name, kind: Kind) -> bool
+    ensures { result ≡ may_be (context_in declarations.now) name.now kind }
 {
-    is_kind(kind, kind_in(declarations, e))
-}
-
-/// Whether there is a type, and it is this one.
-fn is_kind(kind: Kind, found: Option<Kind>) -> bool
-    ensures { result ≡ is_kind kind found }
-{
-    match found {
-        Some(other) => same_kind(kind, other),
-        None => false,
-    }
+    same_kind(kind_of(declarations, name), kind) || is_foreign(declarations, name)
 }
 
 fn same_kind(a: Kind, b: Kind) -> bool
@@ -130,23 +118,6 @@ fn same_kind(a: Kind, b: Kind) -> bool
     match (a, b) {
         (Kind::Integer, Kind::Integer) | (Kind::Logical, Kind::Logical) => true,
         (Kind::Integer, Kind::Logical) | (Kind::Logical, Kind::Integer) => false,
-    }
-}
-
-fn when(holds: bool, kind: Kind) -> Option<Kind>
-    ensures { result ≡ when holds kind }
-{
-    if holds { Some(kind) } else { None }
-}
-
-/// The type of an element with fit subscripts, or of a value of an intrinsic function.
-fn kind_applied(form: NameForm, kind: Kind, fit: bool, whole: bool) -> Option<Kind>
-    ensures { result ≡ kind_applied form kind fit whole }
-{
-    match form {
-        NameForm::Array(_) => when(fit, kind),
-        NameForm::Intrinsic(_) => when(is_integer(kind) && whole, Kind::Integer),
-        NameForm::Plain => None,
     }
 }
 
@@ -256,12 +227,18 @@ fn are_subscripts(declarations: &Declarations, list: &[Expr]) -> bool
 }
 
 fn takes_value(declarations: &Declarations, target: &Expr, value: &Expr) -> bool
-    ensures { result ≡ is_some_and (takes_kind (context_in declarations.now) (formula_of target.now)) (kind_in (context_in declarations.now) (formula_of value.now)) }
+    ensures { result
+        ≡ (assigns (context_in declarations.now) (formula_of target.now) (formula_of value.now) Integer
+        || assigns (context_in declarations.now) (formula_of target.now) (formula_of value.now) Logical) }
 {
-    match kind_in(declarations, value) {
-        Some(kind) => takes_kind(declarations, target, kind),
-        None => false,
-    }
+    assigns(declarations, target, value, Kind::Integer)
+        || assigns(declarations, target, value, Kind::Logical)
+}
+
+fn assigns(declarations: &Declarations, target: &Expr, value: &Expr, kind: Kind) -> bool
+    ensures { result ≡ assigns (context_in declarations.now) (formula_of target.now) (formula_of value.now) kind }
+{
+    takes_kind(declarations, target, kind) && fits(declarations, value, kind)
 }
 
 /// Whether a target takes a value of this type, or is none.
@@ -269,9 +246,7 @@ fn takes_kind(declarations: &Declarations, target: &Expr, kind: Kind) -> bool
     ensures { result ≡ takes_kind (context_in declarations.now) (formula_of target.now) kind }
 {
     match target {
-        Expr::Ref(name) => {
-            is_array(declarations, name) || same_kind(kind_of(declarations, name), kind)
-        }
+        Expr::Ref(name) => { is_array(declarations, name) || may_be(declarations, name, kind) }
         Expr::Item(name, list) => takes_element(declarations, name, list, kind),
         _ => true,
     }
@@ -281,7 +256,7 @@ fn takes_element(declarations: &Declarations, name: &Name, list: &[Expr], kind: 
     ensures { result ≡ takes_kind (context_in declarations.now) (Item name.now (formulas_of list.now)) kind }
 {
     !is_array(declarations, name)
-        || (are_subscripts(declarations, list) && same_kind(kind_of(declarations, name), kind))
+        || (are_subscripts(declarations, list) && may_be(declarations, name, kind))
 }
 
 fn is_counting(declarations: &Declarations, par: &Par) -> bool

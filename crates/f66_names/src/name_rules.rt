@@ -5,18 +5,18 @@ ghost use Rattle.f66_tree.specs.Views.{declared_of, act_of};
 ghost use Rattle.f66_names.specs.Declaring.{is_sized};
 ghost use Rattle.f66_names.specs.Uses.{uses_in};
 ghost use Rattle.f66_names.specs.UseViews.{use_of};
-ghost use Rattle.f66_names.specs.Sorts.{type_of};
-ghost use Rattle.f66_names.specs.NameRules.{has_name, is_long, is_other, gives_other, has_other_type, has_many_sizes, has_wrong_sizes, miscounts_by, miscounts, has_wrong_count, misuses};
+ghost use Rattle.f66_names.specs.Sorts.{is_real_by_letter};
+ghost use Rattle.f66_names.specs.NameRules.{has_name, is_long, gives_other, has_other_type, has_many_sizes, has_wrong_sizes, miscounts_by, miscounts, has_wrong_count, misuses};
 ghost use Rattle.f66_names.specs.DeclarationViews.{context_in, acts_in};
 
 use crate::classes::{class_used, has_other_class};
 use crate::declarations::Declarations;
 use crate::names::Names;
-use crate::sorts::{form_of, takes, type_of};
+use crate::sorts::{form_of, is_other, is_real_by_letter, takes};
 use crate::tables::declared_in;
 use crate::uses::Use;
 use crate::{Manner, NameForm};
-use f66_tree::{Declared, Name, StmtKind, TypeWord};
+use f66_tree::{Declared, Name, StmtKind};
 
 /// Whether a name of a statement has more than six characters (X3.9-1966, section 3.5).
 #[tactic(auto, using(rule_table::proofs::WordLemmas::list_any_map))]
@@ -72,12 +72,6 @@ fn has_long_declaration(list: &[Declared]) -> bool
     list.iter().any(|d| is_long(&d.name))
 }
 
-fn is_other(word: TypeWord) -> bool
-    ensures { result ≡ is_other word }
-{
-    matches!(word, TypeWord::Other)
-}
-
 fn gives_other(kind: &StmtKind) -> bool
     ensures { result ≡ gives_other (act_of kind.now) }
 {
@@ -87,29 +81,24 @@ fn gives_other(kind: &StmtKind) -> bool
     }
 }
 
-fn is_foreign(declarations: &Declarations, name: &Name) -> bool
-    ensures { result ≡ is_other (type_of (context_in declarations.now) name.now) }
-{
-    is_other(type_of(declarations, name))
-}
-
 #[tactic(auto, using(rule_table::proofs::WordLemmas::list_any_map))]
 pub fn has_other_use(declarations: &Declarations, uses: &[Use]) -> bool
-    ensures { result ≡ list_any (λ u. is_other (type_of (context_in declarations.now) u.name)) (map use_of uses.now) }
+    ensures { result ≡ list_any (λ u. is_real_by_letter (context_in declarations.now) u.name) (map use_of uses.now) }
 {
     are_some_other(declarations, uses)
 }
 
 fn are_some_other(declarations: &Declarations, uses: &[Use]) -> bool
-    ensures { result ≡ list_any (λ u. is_other (type_of (context_in declarations.now) u.name.now)) uses.now }
+    ensures { result ≡ list_any (λ u. is_real_by_letter (context_in declarations.now) u.name.now) uses.now }
 {
-    uses.iter().any(|u| is_foreign(declarations, u.name))
+    uses.iter().any(|u| is_real_by_letter(declarations, u.name))
 }
 
 fn has_other_declaration(declarations: &Declarations, list: &[Declared]) -> bool
-    ensures { result ≡ list_any (λ d. is_other (type_of (context_in declarations.now) d.name)) list.now }
+    ensures { result ≡ list_any (λ d. is_real_by_letter (context_in declarations.now) d.name) list.now }
 {
-    list.iter().any(|d| is_foreign(declarations, &d.name))
+    list.iter()
+        .any(|d| is_real_by_letter(declarations, &d.name))
 }
 
 fn has_many_sizes(declared: &Declared) -> bool

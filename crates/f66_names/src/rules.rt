@@ -12,7 +12,7 @@ ghost use Rattle.f66_names.specs.DeclarationViews.{context_in, acts_in};
 
 use crate::Saying;
 use crate::formats::has_bad_format;
-use crate::kinds::{clashes, counts, has_kind};
+use crate::kinds::{clashes, counts, fits};
 use crate::name_rules::{
     has_long_name, has_long_use, has_misuse, has_other_type, has_other_use, has_wrong_count,
     has_wrong_use,
@@ -24,7 +24,8 @@ use crate::sorts::is_array;
 use crate::store_rules::{has_bad_constant, has_large_array, stores_wrong};
 use crate::uses::{Use, uses_of_counting, uses_of_expression, uses_of_statement};
 use f66_tree::{Expr, Name, Par, StmtKind};
-use ground::{Rule, Kind};
+use ground::Kind;
+use rule_table::Rule;
 use std::alloc::{AllocError, Global};
 
 /// The rule with the smallest number that the statement with the number i breaks, of those on names, types, counts,
@@ -58,7 +59,7 @@ pub fn broken_rule(
     if duplicate {
         return Ok(Some(Rule::DuplicateName));
     }
-    if has_bad_constant(kind) {
+    if has_bad_constant(&names.declarations, kind) {
         return Ok(Some(Rule::BadConstant));
     }
     if has_bad_format(kind) {
@@ -68,7 +69,7 @@ pub fn broken_rule(
         return Ok(Some(Rule::NotAssignable));
     }
     if has_large_array(kind) {
-        return Ok(Some(Rule::Limit));
+        return Ok(Some(Rule::LargeArray));
     }
     Ok(None)
 }
@@ -94,15 +95,11 @@ pub fn saying_rule(
 }
 
 /// What a condition breaks, as that of a logical IF (section 7.1.2.3).
-pub fn condition_rule(
-    alloc: Global,
-    names: &Names,
-    e: &Expr,
-) -> Result<Option<Rule>, AllocError>
+pub fn condition_rule(alloc: Global, names: &Names, e: &Expr) -> Result<Option<Rule>, AllocError>
     ensures { IfOk result
         (λ o. (i : ℕ) → o ≡ first_rule (breaks_name (context_in names.now.declarations) (acts_in names.now.declarations) i (When (formula_of e.now) Continue))) }
 {
-    let fits = has_kind(&names.declarations, Kind::Logical, e);
+    let fits = fits(&names.declarations, e, Kind::Logical);
     expression_rule(alloc, names, fits, e)
 }
 
@@ -111,7 +108,7 @@ pub fn value_rule(alloc: Global, names: &Names, e: &Expr) -> Result<Option<Rule>
     ensures { IfOk result
         (λ o. (i l m k : ℕ) → o ≡ first_rule (breaks_name (context_in names.now.declarations) (acts_in names.now.declarations) i (Sign (formula_of e.now) l m k))) }
 {
-    let fits = has_kind(&names.declarations, Kind::Integer, e);
+    let fits = fits(&names.declarations, e, Kind::Integer);
     expression_rule(alloc, names, fits, e)
 }
 

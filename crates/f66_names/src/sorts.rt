@@ -1,10 +1,11 @@
 // What names are in a unit: their types and forms.
 ghost use Rattle.std.specs.Prelude.{◌≡◌};
+ghost use Rattle.std.specs.List.{list_any};
 ghost use Rattle.std.specs.Str.{bytes_eq};
-ghost use Rattle.f66_tree.specs.Units.{by_header, by_letter, kind_by, kind_of};
+ghost use Rattle.f66_tree.specs.Units.{type_in, by_header, by_letter, kind_by, kind_of};
 ghost use Rattle.f66_tree.specs.Views.{header_of};
 ghost use Rattle.f66_tree.specs.Evaluation.{known, intrinsics};
-ghost use Rattle.f66_names.specs.Sorts.{form_by, name_form, is_array_name, type_of, takes_many, takes, is_integer, is_counter};
+ghost use Rattle.f66_names.specs.Sorts.{form_by, name_form, is_array_name, type_of, is_other, given_by, is_foreign, is_real_by_letter, is_dummy, takes_many, takes, is_integer, is_counter};
 ghost use Rattle.f66_names.specs.DeclarationViews.{context_in};
 
 use crate::declarations::Declarations;
@@ -28,14 +29,41 @@ pub fn is_array(declarations: &Declarations, name: &Name) -> bool
     matches!(form_of(declarations, name), NameForm::Array(_))
 }
 
-/// The type of a name (X3.9-1966, section 5.3).
-pub fn type_of(declarations: &Declarations, name: &Name) -> TypeWord
-    ensures { result ≡ type_of (context_in declarations.now) name.now }
+/// The type that a statement gives a name, or else this one (X3.9-1966, section 7.2.1.6).
+fn type_or(declarations: &Declarations, name: &Name, unsaid: TypeWord) -> TypeWord
+    ensures { result ≡ type_in name.now (context_in declarations.now).notes unsaid }
 {
     match declarations.words.get(name.as_bytes()) {
         Some(word) => *word,
-        None => by_header(declarations.header, name),
+        None => unsaid,
     }
+}
+
+/// The type of a name (X3.9-1966, section 5.3).
+fn type_of(declarations: &Declarations, name: &Name) -> TypeWord
+    ensures { result ≡ type_of (context_in declarations.now) name.now }
+{
+    type_or(declarations, name, by_header(declarations.header, name))
+}
+
+pub fn is_other(word: TypeWord) -> bool
+    ensures { result ≡ is_other word }
+{
+    matches!(word, TypeWord::Other)
+}
+
+/// Whether a name is declared of a type outside the profile.
+pub fn is_foreign(declarations: &Declarations, name: &Name) -> bool
+    ensures { result ≡ is_foreign (context_in declarations.now) name.now }
+{
+    is_other(type_or(declarations, name, given_by(declarations.header, name)))
+}
+
+/// Whether it is an undeclared name that would be real.
+pub fn is_real_by_letter(declarations: &Declarations, name: &Name) -> bool
+    ensures { result ≡ is_real_by_letter (context_in declarations.now) name.now }
+{
+    is_other(type_of(declarations, name)) && !is_foreign(declarations, name)
 }
 
 pub fn kind_of(declarations: &Declarations, name: &Name) -> Kind
@@ -99,6 +127,33 @@ fn intrinsic_form(name: &Name) -> NameForm
     } else {
         NameForm::Plain
     }
+}
+
+/// The type that a header gives a name, or INTEGER.
+fn given_by(header: &Header, name: &Name) -> TypeWord
+    ensures { result ≡ given_by name.now (header_of header.now) }
+{
+    match header {
+        Header::Func(Some(word), own, _) if name.is_same(own) => *word,
+        _ => TypeWord::Integer,
+    }
+}
+
+/// Whether a name is a dummy of the unit.
+pub fn is_dummy(declarations: &Declarations, name: &Name) -> bool
+    ensures { result ≡ is_dummy (context_in declarations.now) name.now }
+{
+    match declarations.header {
+        Header::Sub(_, dummies) => is_among(dummies, name),
+        Header::Func(_, _, dummies) => is_among(dummies, name),
+        Header::Main | Header::Block => false,
+    }
+}
+
+fn is_among(names: &[Name], name: &Name) -> bool
+    ensures { result ≡ list_any (bytes_eq name.now) names.now }
+{
+    names.iter().any(|other| name.is_same(other))
 }
 
 /// The type of a name that no statement declares.

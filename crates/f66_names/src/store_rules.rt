@@ -1,50 +1,60 @@
 // The rules of constants, stores and sizes.
-ghost use Rattle.std.specs.Prelude.{◌≡◌, ◌≤◌, ◌*◌, map, min};
+ghost use Rattle.std.specs.Prelude.{◌≡◌, ◌≤◌, ◌*◌, ◌&&◌, map, min};
 ghost use Rattle.std.specs.List.{list_any};
 ghost use Rattle.f66_tree.specs.Views.{formula_of, par_of, declared_of, entry_of, entries_of, act_of};
 ghost use Rattle.f66_tree.specs.Syntax.{Par as Bounded, Many};
 ghost use Rattle.f66_names.specs.StoreRules.{is_bad_size, has_bad_size, has_bad_constant, is_assignable, is_readable, stores_item, stores_entry, store_entries, stores_wrong, is_large, has_large_array, capped_size};
+ghost use Rattle.f66_names.specs.Sorts.{is_dummy, is_counter};
 ghost use Rattle.f66_names.specs.DeclarationViews.{context_in};
 
 use crate::declarations::Declarations;
-use crate::sorts::is_array;
+use crate::sorts::{is_array, is_counter, is_dummy};
 use crate::tables::declared_in;
 use f66_tree::{Declared, Entry, Expr, Name, Par, StmtKind, Way};
 
-/// Whether a dimension is zero, or a name (X3.9-1966, section 7.2.1.1).
+/// Whether a dimension is zero, or a name and no adjustable dimension (X3.9-1966, section 7.2.1.1).
 #[tactic(auto, using(rule_table::proofs::WordLemmas::list_any_map))]
-pub fn has_bad_constant(kind: &StmtKind) -> bool
-    ensures { result ≡ has_bad_constant (act_of kind.now) }
+pub fn has_bad_constant(declarations: &Declarations, kind: &StmtKind) -> bool
+    ensures { result ≡ has_bad_constant (context_in declarations.now) (act_of kind.now) }
 {
-    are_some_bad(declared_in(kind))
+    are_some_bad(declarations, declared_in(kind))
 }
 
-fn is_bad_size(size: &Par) -> bool
-    ensures { result ≡ is_bad_size (par_of size.now) }
+fn is_bad_size(declarations: &Declarations, name: &Name, size: &Par) -> bool
+    ensures { result ≡ is_bad_size (context_in declarations.now) name.now (par_of size.now) }
 {
     match size {
         Par::Number(value) => *value <= 0,
-        Par::Variable(_) => true,
+        Par::Variable(variable) => !is_adjustable(declarations, name, variable),
     }
 }
 
+/// Whether a variable may be a dimension of a name: both are dummies, and it is an integer.
+fn is_adjustable(declarations: &Declarations, name: &Name, variable: &Name) -> bool
+    ensures { result
+        ≡ (is_dummy (context_in declarations.now) name.now && (is_dummy (context_in declarations.now) variable.now && is_counter (context_in declarations.now) variable.now)) }
+{
+    is_dummy(declarations, name)
+        && (is_dummy(declarations, variable) && is_counter(declarations, variable))
+}
+
 #[tactic(auto, using(rule_table::proofs::WordLemmas::list_any_map))]
-fn has_bad_size(declared: &Declared) -> bool
-    ensures { result ≡ has_bad_size (declared_of declared.now) }
+fn has_bad_size(declarations: &Declarations, declared: &Declared) -> bool
+    ensures { result ≡ has_bad_size (context_in declarations.now) (declared_of declared.now) }
 {
-    are_some_zero(&declared.sizes)
+    are_some_unfit(declarations, &declared.name, &declared.sizes)
 }
 
-fn are_some_zero(sizes: &[Par]) -> bool
-    ensures { result ≡ list_any (λ n. is_bad_size (par_of n)) sizes.now }
+fn are_some_unfit(declarations: &Declarations, name: &Name, sizes: &[Par]) -> bool
+    ensures { result ≡ list_any (λ n. is_bad_size (context_in declarations.now) name.now (par_of n)) sizes.now }
 {
-    sizes.iter().any(|n| is_bad_size(n))
+    sizes.iter().any(|n| is_bad_size(declarations, name, n))
 }
 
-fn are_some_bad(list: &[Declared]) -> bool
-    ensures { result ≡ list_any (λ d. has_bad_size (declared_of d)) list.now }
+fn are_some_bad(declarations: &Declarations, list: &[Declared]) -> bool
+    ensures { result ≡ list_any (λ d. has_bad_size (context_in declarations.now) (declared_of d)) list.now }
 {
-    list.iter().any(|d| has_bad_size(d))
+    list.iter().any(|d| has_bad_size(declarations, d))
 }
 
 /// Whether a statement stores into a whole array, or into what is no variable and no element (section 7.1.1).

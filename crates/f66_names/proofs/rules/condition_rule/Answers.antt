@@ -13,5 +13,5 @@ returns c =
     let unit = c.args.names.now.declarations in
     let e = formula_of c.args.e.now in
     IfOk-weaker c.expression_rule.result _ _
-    (λ o seen i. seen ∙ ap (λ b. first_rule (breaks_expression (context_in unit) (acts_in unit) (not b) e)) c.has_kind-fits.ensures ∙ condition_first (context_in unit) (acts_in unit) i e)
+    (λ o seen i. seen ∙ ap (λ b. first_rule (breaks_expression (context_in unit) (acts_in unit) (not b) e)) c.fits-fits.ensures ∙ condition_first (context_in unit) (acts_in unit) i e)
     c.expression_rule.ensures

@@ -11,5 +11,5 @@ pub returns : goal.returns
 returns c =
     let unit = c.args.names.now.declarations in
     IfOk-weaker c.expression_rule.result _ _
-    (λ o seen i l m k. seen ∙ ap (λ b. first_rule (breaks_expression (context_in unit) (acts_in unit) (not b) (formula_of c.args.e.now))) c.has_kind-fits.ensures)
+    (λ o seen i l m k. seen ∙ ap (λ b. first_rule (breaks_expression (context_in unit) (acts_in unit) (not b) (formula_of c.args.e.now))) c.fits-fits.ensures)
     c.expression_rule.ensures
