@@ -14,7 +14,7 @@ use Rattle.f66_tree.specs.Execution.{runnable, has_label, from_label, Progress, 
 use Rattle.f66_tree.specs.OneUnit.{one_unit}
 use Rattle.f66_names.specs.Shapes.{stands, is_parameter, are_items, is_branch, has_shape}
 use Rattle.f66_names.specs.Uses.{uses_of, uses_of_par, uses_of_target, uses_of_entries, uses_in}
-use Rattle.f66_names.specs.Sorts.{is_integer}
+use Rattle.f66_names.specs.Sorts.{is_foreign, is_integer}
 use Rattle.f66_names.specs.Kinds.{is_counting, are_entries, clashes}
 use Rattle.f66_names.specs.NameRules.{miscounts}
 use Rattle.f66_names.specs.StoreRules.{store_entries, stores_wrong}
@@ -22,7 +22,7 @@ use Rattle.f66_names.specs.BuiltActs.{is_built_form}
 use Rattle.f66_soundness.specs.Rightly.{NeverWrong}
 use Rattle.f66_soundness.specs.SoundUnits.{in_main, finds_format}
 use Rattle.f66_soundness.proofs.RightlyLemmas.{bind_any, choose_rightly, if_both}
-use Rattle.f66_soundness.proofs.KindLemmas.{is_kind_some, none_of_both}
+use Rattle.f66_soundness.proofs.KindLemmas.{none_of_both}
 use Rattle.f66_soundness.proofs.ValueLemmas.{FitSizes, Main, setting_of, FitCounts, asks_rightly}
 use Rattle.f66_soundness.proofs.StatementLemmas.{assigns_rightly, selects_rightly, signs_rightly, start_rightly, turn_rightly}
 use Rattle.f66_soundness.proofs.RecordLemmas.{record_rightly}
@@ -135,7 +135,7 @@ module _ (m : Main) where
       pub perform_rightly : (a : Act) → FitAct c m.notes a → (w : World) → NeverWrong (perform s f code l a rest go pr w)
       perform_rightly (When e a) h w =
           let counts = none_of_both (miscounts c) (uses_of e) (uses_in a) h.counts in
-          bind_any (λ _ _. ⊤) (asks s f e w) _ (asks_rightly m f e (is_kind_some Logical _ (not-false _ (or_parts _ _ h.kinds).0)) counts.0 w) (λ holds w1.
+          bind_any (λ _ _. ⊤) (asks s f e w) _ (asks_rightly m f e (not-false _ (or_parts _ _ h.kinds).0) counts.0 w) (λ holds w1.
           choose_rightly (λ _ _. ⊤) holds (go (stand (record { label = l; place = f.place; act = a } ∷ rest) pr) w1) (leads s f code l rest go pr Normal w1)
           (goes (record { label = l; place = f.place; act = a } ∷ rest) (inner_fit c m.notes e a h, r) pr w1) (leads_rightly l rest r pr Normal w1))
       perform_rightly (Loop k x p q t) h w =
@@ -167,7 +167,7 @@ begin_rightly w = by_left w.left
     by_left zero = tt
     by_left (suc k) = tt
 
-module _ (notes : List Note) (c : Context) (kinds : (x : Text) → kind_of c x ≡ kind_of (in_main notes) x) (sorts : (x : Text) → sort_of c x ≡ sort_of (in_main notes) x)
+module _ (notes : List Note) (c : Context) (kinds : (x : Text) → kind_of c x ≡ kind_of (in_main notes) x) (own : (x : Text) → is_foreign c x ≡ false) (sorts : (x : Text) → sort_of c x ≡ sort_of (in_main notes) x)
     (sizes : (x : Text) → FitSizes (sizes_of x notes)) (code : List Line) (fit : FitLines c notes code) where
   abbrev run : ℕ → Frame → Stand → World → Out ⊤
   run n = exec (one_unit notes) (λ u. code) n
@@ -177,6 +177,7 @@ module _ (notes : List Note) (c : Context) (kinds : (x : Text) → kind_of c x �
     notes = notes;
     context = c;
     kinds = kinds;
+    own = own;
     sorts = sorts;
     sizes = sizes;
     call = λ v ps w. run n (record { unit = v; actuals = ps; place = nowhere }) (stand code no_loops) w;

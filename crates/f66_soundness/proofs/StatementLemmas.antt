@@ -1,12 +1,11 @@
 -- In a main unit each plain statement that the rules let pass, the start and the turn of a DO among them, never ends Wrong.
-use Rattle.std.proofs.Common.{◌≡◌, ℕ, zero, suc, Bool, true, false, List, [], ◌∷◌, Option, Some, None, refl, subst}
+use Rattle.std.proofs.Common.{◌≡◌, ℕ, zero, suc, Bool, true, false, List, [], ◌∷◌, Option, Some, None, refl, subst, ⊎_elim}
 use Rattle.std.specs.Prelude.{pos, negsuc, ◌+ℤ◌, int_le, not, ◌&&◌, ◌||◌, ⊤}
-use Rattle.std.proofs.lemmas.Bool.{and_parts, or_parts, not-false, eqb-true}
+use Rattle.std.proofs.lemmas.Bool.{and_parts, or_parts, or_cases, not-false, eqb-true}
 use Rattle.ground.specs.declared.trap.Trap.TheVariants.{BadDo}
 use Rattle.ground.specs.declared.value.Kind.{Kind}
-use Rattle.ground.specs.declared.value.Kind.TheVariants.{Integer}
+use Rattle.ground.specs.declared.value.Kind.TheVariants.{Integer, Logical}
 use Rattle.ground.specs.Content.{Content, Nothing, Whole}
-use Rattle.rule_table.specs.Words.{is_some_and}
 use Rattle.f66_tree.specs.Syntax.{Text, Formula, Ref, Item, Formulas, Par, Constant, Named}
 use Rattle.f66_tree.specs.World.{Store, World, Gives, bind, Yields, Traps, settle}
 use Rattle.f66_tree.specs.Units.{Context, kind_of, sizes_of, Spot, Held, Lent, Linkage, Setting, Frame}
@@ -17,19 +16,15 @@ use Rattle.f66_names.specs.declared.name_form.NameForm.TheVariants as forms
 use Rattle.f66_names.specs.declared.name_form.Manner.TheVariants.{Stored}
 use Rattle.f66_names.specs.Sorts.{form_by, name_form, is_array_name, is_array_form, is_counter, takes}
 use Rattle.f66_names.specs.Uses.{many, uses_of, uses_of_all, uses_of_target}
-use Rattle.f66_names.specs.Kinds.{is_kind, kind_in, are_subscripts, takes_kind, is_counting}
+use Rattle.f66_names.specs.Kinds.{fits, are_subscripts, takes_kind, assigns, is_counting}
 use Rattle.f66_names.specs.NameRules.{miscounts_by}
 use Rattle.f66_names.specs.StoreRules.{is_assignable}
 use Rattle.f66_soundness.specs.Rightly.{Rightly, NeverWrong, TriesRightly}
 use Rattle.f66_soundness.specs.SoundUnits.{in_main}
 use Rattle.f66_soundness.proofs.RightlyLemmas.{bind_rightly, bind_any, settle_rightly, if_both}
-use Rattle.f66_soundness.proofs.KindLemmas.{is_kind_some, integer_only, subscripts_whole}
+use Rattle.f66_soundness.proofs.KindLemmas.{integer_only, subscripts_whole}
 use Rattle.f66_soundness.proofs.ContentLemmas.{IsOfKind, AreWhole}
 use Rattle.f66_soundness.proofs.ValueLemmas.{FitSort, array_fit, Main, setting_of, FitCounts, load_rightly, variable_rightly, element_rightly, value_rightly, values_rightly}
-
-some_and : {X : Type 0} (test : X → Bool) (o : Option X) → is_some_and test o ≡ true → (x : X) × (o ≡ Some x) × (test x ≡ true)
-some_and test None e = let q : ⊥ = cc in absurd q
-some_and test (Some x) e = (x, refl, e)
 
 stored_rightly : (l : Linkage) (p : Spot) (v : Content) (st : Store) → TriesRightly (λ _. ⊤) (stored l p v st)
 stored_rightly l (Held u x o) v st = tt
@@ -103,22 +98,26 @@ module _ (m : Main) where
       subscripted false same h t1 = cc
   target_rightly f _ k a t u w = let q : ⊥ = cc in absurd q
 
-  pub assigns_rightly : (f : Frame) (x e : Formula) → is_some_and (takes_kind c x) (kind_in c e) ≡ true → is_assignable c x ≡ true → FitCounts c (uses_of_target x) → FitCounts c (uses_of e) → (w : World) →
+  pub assigns_rightly : (f : Frame) (x e : Formula) → (assigns c x e Integer || assigns c x e Logical) ≡ true → is_assignable c x ≡ true → FitCounts c (uses_of_target x) → FitCounts c (uses_of e) → (w : World) →
       NeverWrong (bind (locate s f x w) (λ p w1. bind (value_of s f e w1) (λ v w2. bind (store_at s f p v w2) (λ _ w3. Gives Normal w3))))
   assigns_rightly f x e h a u v w =
-      let k = some_and (takes_kind c x) (kind_in c e) h in
-      bind_any (λ _ _. ⊤) (locate s f x w) _ (target_rightly f x k.0 a k.2 u w) (λ p w1.
-      bind_rightly (λ y _. IsOfKind k.0 y) (λ _ _. ⊤) (value_of s f e w1) _ (value_rightly m f e k.0 k.1 v w1) (λ y w2 _.
-      bind_any (λ _ _. ⊤) (store_at s f p y w2) _ (store_rightly f p y w2) (λ _ w3. tt)))
+      ⊎_elim (λ i. of_kind Integer i) (λ i. of_kind Logical i) (or_cases (assigns c x e Integer) _ h)
+    where
+      of_kind : (k : Kind) → assigns c x e k ≡ true → NeverWrong (bind (locate s f x w) (λ p w1. bind (value_of s f e w1) (λ y w2. bind (store_at s f p y w2) (λ _ w3. Gives Normal w3))))
+      of_kind k i =
+          let q = and_parts (takes_kind c x k) (fits c e k) i in
+          bind_any (λ _ _. ⊤) (locate s f x w) _ (target_rightly f x k a q.0 u w) (λ p w1.
+          bind_rightly (λ y _. IsOfKind k y) (λ _ _. ⊤) (value_of s f e w1) _ (value_rightly m f e k q.1 v w1) (λ y w2 _.
+          bind_any (λ _ _. ⊤) (store_at s f p y w2) _ (store_rightly f p y w2) (λ _ w3. tt)))
 
   pub selects_rightly : (f : Frame) (ls : List ℕ) (x : Text) → is_counter c x ≡ true → (w : World) → NeverWrong (bind (variable_in s f x w) (λ v w1. bind (settle f.place (label_at ls v) w1) (λ l w2. Gives (To l) w2)))
   selects_rightly f ls x h w =
       bind_rightly (λ v _. IsOfKind Integer v) (λ _ _. ⊤) (variable_in s f x w) _ (counter_rightly f x h w) (λ v w1 k.
       bind_any (λ _ _. ⊤) (settle f.place (label_at ls v) w1) _ (settle_rightly (λ _. ⊤) f.place (label_at ls v) w1 (label_rightly ls v k)) (λ l w2. tt))
 
-  pub signs_rightly : (f : Frame) (e : Formula) (l1 l2 l3 : ℕ) → is_kind Integer (kind_in c e) ≡ true → FitCounts c (uses_of e) → (w : World) → NeverWrong (bind (value_of s f e w) (λ v w1. bind (settle f.place (by_sign_of l1 l2 l3 v) w1) (λ l w2. Gives (To l) w2)))
+  pub signs_rightly : (f : Frame) (e : Formula) (l1 l2 l3 : ℕ) → fits c e Integer ≡ true → FitCounts c (uses_of e) → (w : World) → NeverWrong (bind (value_of s f e w) (λ v w1. bind (settle f.place (by_sign_of l1 l2 l3 v) w1) (λ l w2. Gives (To l) w2)))
   signs_rightly f e l1 l2 l3 h u w =
-      bind_rightly (λ v _. IsOfKind Integer v) (λ _ _. ⊤) (value_of s f e w) _ (value_rightly m f e Integer (is_kind_some Integer _ h) u w) (λ v w1 k.
+      bind_rightly (λ v _. IsOfKind Integer v) (λ _ _. ⊤) (value_of s f e w) _ (value_rightly m f e Integer h u w) (λ v w1 k.
       bind_any (λ _ _. ⊤) (settle f.place (by_sign_of l1 l2 l3 v) w1) _ (settle_rightly (λ _. ⊤) f.place (by_sign_of l1 l2 l3 v) w1 (branch_rightly l1 l2 l3 v k)) (λ l w2. tt))
 
   -- a DO begins, and after a turn
