@@ -28,7 +28,7 @@ use Rattle.f66_flow.specs.declared.scope.Scope.{Scope}
 use Rattle.f66_flow.specs.FlowRules.{breaks_flow, breaks_flow_at}
 use Rattle.f66_soundness.specs.SoundUnits.{acts_in_unit}
 use Rattle.f66_check.specs.CheckRules.{context_of, breaks_line, breaks_part, breaks_at, unbuilt_line, first_unbuilt}
-use Rattle.f66_check.specs.Answers.{place_at, IsFaultless, IsFirstKind}
+use Rattle.f66_check.specs.Answers.{place_at, IsFaultless, IsFirstRule}
 
 -- what the part behind the statements before i breaks is what the statement breaks
 part_at : (w : Scope) (c : Context) (acts : List Act) (all : List Stmt) (i : ℕ) (s : Stmt) → slice_get all i ≡ Some s →
@@ -37,12 +37,12 @@ part_at w c acts all i s e =
     ap (breaks_part w c acts (lines_of all)) (add-one i)
     ∙ ap (λ o. λ k. is_some_and (λ t. breaks_line w c acts (lines_of all) i t k) o) (slice_get-map line_of all i ∙ ap (option_map line_of) e)
 
-pub statement_first : (w : Scope) (c : Context) (acts : List Act) (all : List Stmt) (i : ℕ) (s : Stmt) (kind : Rule) → slice_get all i ≡ Some s →
-    Some kind ≡ first_rule (breaks_line w c acts (lines_of all) i (line_of s)) →
+pub statement_first : (w : Scope) (c : Context) (acts : List Act) (all : List Stmt) (i : ℕ) (s : Stmt) (rule : Rule) → slice_get all i ≡ Some s →
+    Some rule ≡ first_rule (breaks_line w c acts (lines_of all) i (line_of s)) →
     ((j : ℕ) (k : Rule) → j < i + 1 → breaks_part w c acts (lines_of all) j k ≡ false) →
-    IsFirst rule_number (breaks_part w c acts (lines_of all)) (i + 1) kind
-statement_first w c acts all i s kind e found before =
-    part_first (breaks_part w c acts (lines_of all)) (i + 1) kind (found ∙ ap first_rule (sym (part_at w c acts all i s e))) before
+    IsFirst rule_number (breaks_part w c acts (lines_of all)) (i + 1) rule
+statement_first w c acts all i s rule e found before =
+    part_first (breaks_part w c acts (lines_of all)) (i + 1) rule (found ∙ ap first_rule (sym (part_at w c acts all i s e))) before
 
 pub statement_clean : (w : Scope) (c : Context) (acts : List Act) (all : List Stmt) (i : ℕ) (s : Stmt) → slice_get all i ≡ Some s →
     None ≡ first_rule (breaks_line w c acts (lines_of all) i (line_of s)) →
@@ -61,15 +61,15 @@ past w c acts all i k h =
     ap (is_some_and (λ s. breaks_line w c acts (lines_of all) i s k)) (slice_get-map line_of all i ∙ ap (option_map line_of) (slice_get_past all i h))
 
 -- a statement that breaks no rule breaks none of order, labels and DO ranges
-flow_clean : (w : Scope) (c : Context) (acts : List Act) (lines : List Line) (j : ℕ) (k : Rule) → breaks_part w c acts lines (suc j) k ≡ false → breaks_flow_at w lines j k ≡ false
+flow_clean : (w : Scope) (c : Context) (acts : List Act) (lines : List Line) (j : ℕ) (k : Rule) → breaks_part w c acts lines (suc j) k ≡ false → breaks_flow_at w c.header lines j k ≡ false
 flow_clean w c acts lines j k h = by_line (slice_get lines j) h
   where
-    by_line : (o : Option Line) → is_some_and (λ s. breaks_line w c acts lines j s k) o ≡ false → is_some_and (λ s. breaks_flow w lines j s k) o ≡ false
+    by_line : (o : Option Line) → is_some_and (λ s. breaks_line w c acts lines j s k) o ≡ false → is_some_and (λ s. breaks_flow w c.header lines j s k) o ≡ false
     by_line None e = refl
-    by_line (Some s) e = (or_parts (breaks_flow w lines j s k) _ e).0
+    by_line (Some s) e = (or_parts (breaks_flow w c.header lines j s k) _ e).0
 
 pub flow_before : (w : Scope) (c : Context) (acts : List Act) (lines : List Line) (i : ℕ) → ((j : ℕ) (k : Rule) → j < i + 1 → breaks_part w c acts lines j k ≡ false) →
-    (j : ℕ) (k : Rule) → j < i → breaks_flow_at w lines j k ≡ false
+    (j : ℕ) (k : Rule) → j < i → breaks_flow_at w c.header lines j k ≡ false
 flow_before w c acts lines i before j k h = flow_clean w c acts lines j k (before (suc j) k (omega arith))
 
 pub all_clean : (w : Scope) (c : Context) (acts : List Act) (all : List Stmt) (n : ℕ) → length all ≤ n →
@@ -99,15 +99,15 @@ unbuilt_told c unit o e h =
     ap (λ d. unbuilt_line d (lines_of unit.statements.items)) (sym e) ∙ first_place-map (λ s. not (is_built c s.act)) line_of unit.statements.items ∙ sym h
 
 -- a header that is no main's
-pub other_header : (w : Scope) (u : Routine) → is_main u.header ≡ false → IsFirstKind (first_unbuilt u) w u 0 Unbuilt
+pub other_header : (w : Scope) (u : Routine) → is_main u.header ≡ false → IsFirstRule (first_unbuilt u) w u 0 Unbuilt
 other_header w u e =
-    subst (λ b. IsFirstKind (if b then option_map (λ i. i + 1) (unbuilt_line (context_of u) u.lines) else Some 0) w u 0 Unbuilt) (sym e) (refl, refl)
+    subst (λ b. IsFirstRule (if b then option_map (λ i. i + 1) (unbuilt_line (context_of u) u.lines) else Some 0) w u 0 Unbuilt) (sym e) (refl, refl)
 
 -- a statement of a main that is not built
-pub unbuilt_at : (w : Scope) (u : Routine) (i : ℕ) → is_main u.header ≡ true → unbuilt_line (context_of u) u.lines ≡ Some i → IsFirstKind (first_unbuilt u) w u (i + 1) Unbuilt
+pub unbuilt_at : (w : Scope) (u : Routine) (i : ℕ) → is_main u.header ≡ true → unbuilt_line (context_of u) u.lines ≡ Some i → IsFirstRule (first_unbuilt u) w u (i + 1) Unbuilt
 unbuilt_at w u i e found =
-    subst (λ b. IsFirstKind (if b then option_map (λ n. n + 1) (unbuilt_line (context_of u) u.lines) else Some 0) w u (i + 1) Unbuilt) (sym e)
-    (subst (λ o. IsFirstKind (option_map (λ n. n + 1) o) w u (i + 1) Unbuilt) (sym found) (refl, refl))
+    subst (λ b. IsFirstRule (if b then option_map (λ n. n + 1) (unbuilt_line (context_of u) u.lines) else Some 0) w u (i + 1) Unbuilt) (sym e)
+    (subst (λ o. IsFirstRule (option_map (λ n. n + 1) o) w u (i + 1) Unbuilt) (sym found) (refl, refl))
 
 -- a main whose statements are built
 all_built : (u : Routine) → is_main u.header ≡ true → unbuilt_line (context_of u) u.lines ≡ None → first_unbuilt u ≡ None
@@ -115,15 +115,15 @@ all_built u e found = ap (λ b. if b then option_map (λ n. n + 1) (unbuilt_line
 
 first_told : (w : Scope) (u : Routine) (o : Option (ℕ × Rule)) → first_unbuilt u ≡ None →
     MatchOption o (IsClean (breaks_at w u)) (λ r. IsFirst rule_number (breaks_at w u) r.0 r.1) →
-    MatchOption o (IsFaultless w u) (λ r. IsFirstKind (first_unbuilt u) w u r.0 r.1)
+    MatchOption o (IsFaultless w u) (λ r. IsFirstRule (first_unbuilt u) w u r.0 r.1)
 first_told w u None built told = record { built = built; clean = told }
-first_told w u (Some r) built told = subst (λ m. IsFirstKind m w u r.0 r.1) (sym built) told
+first_told w u (Some r) built told = subst (λ m. IsFirstRule m w u r.0 r.1) (sym built) told
 
 -- what the rules tell of a main whose statements are built
 told_of : (w : Scope) (u : Routine) (c : Context) (acts : List Act) (lines : List Line) (o : Option (ℕ × Rule)) → is_main u.header ≡ true →
     c ≡ context_of u → acts ≡ acts_in_unit u.lines → lines ≡ u.lines → unbuilt_line (context_of u) u.lines ≡ None →
     MatchOption o (IsClean (breaks_part w c acts lines)) (λ r. IsFirst rule_number (breaks_part w c acts lines) r.0 r.1) →
-    MatchOption o (IsFaultless w u) (λ r. IsFirstKind (first_unbuilt u) w u r.0 r.1)
+    MatchOption o (IsFaultless w u) (λ r. IsFirstRule (first_unbuilt u) w u r.0 r.1)
 told_of w u c acts lines o main same_context same_acts same_lines found told =
     first_told w u o (all_built u main found)
     (subst (λ d. MatchOption o (IsClean (breaks_part w d (acts_in_unit u.lines) u.lines)) (λ r. IsFirst rule_number (breaks_part w d (acts_in_unit u.lines) u.lines) r.0 r.1)) same_context
@@ -134,7 +134,7 @@ told_of w u c acts lines o main same_context same_acts same_lines found told =
 pub told_by : (w : Scope) (u : Routine) (c : Context) (acts : List Act) (lines : List Line) (r : Result (Option (ℕ × Rule)) AllocError) → is_main u.header ≡ true →
     c ≡ context_of u → acts ≡ acts_in_unit u.lines → lines ≡ u.lines → unbuilt_line (context_of u) u.lines ≡ None →
     IfOk r (λ o. MatchOption o (IsClean (breaks_part w c acts lines)) (λ p. IsFirst rule_number (breaks_part w c acts lines) p.0 p.1)) →
-    IfOk r (λ o. MatchOption o (IsFaultless w u) (λ p. IsFirstKind (first_unbuilt u) w u p.0 p.1))
+    IfOk r (λ o. MatchOption o (IsFaultless w u) (λ p. IsFirstRule (first_unbuilt u) w u p.0 p.1))
 told_by w u c acts lines (Ok o) main same_context same_acts same_lines found told = told_of w u c acts lines o main same_context same_acts same_lines found told
 told_by w u c acts lines (Err e) main same_context same_acts same_lines found told = tt
 

@@ -63,10 +63,10 @@ line_at lines i a e = by_line (slice_get lines i) refl (sym (slice_get-map (λ s
     by_line (Some s) is h = (s, is, cc)
 
 clean_line : (u : Routine) → IsSound u → (i : ℕ) (s : Line) (k : Rule) → slice_get u.lines i ≡ Some s →
-    (breaks_flow Whole u.lines i s k ≡ false) × (breaks_name (context_of u) (acts_in_unit u.lines) i s.act k ≡ false)
+    (breaks_flow Whole u.header u.lines i s k ≡ false) × (breaks_name (context_of u) (acts_in_unit u.lines) i s.act k ≡ false)
 clean_line u sound i s k is =
-    or_parts (breaks_flow Whole u.lines i s k) _
-    (subst (λ o. is_some_and (λ t. breaks_flow Whole u.lines i t k || breaks_name (context_of u) (acts_in_unit u.lines) i t.act k) o ≡ false) is (sound.clean (suc i) k))
+    or_parts (breaks_flow Whole u.header u.lines i s k) _
+    (subst (λ o. is_some_and (λ t. breaks_flow Whole u.header u.lines i t k || breaks_name (context_of u) (acts_in_unit u.lines) i t.act k) o ≡ false) is (sound.clean (suc i) k))
 
 -- ---- formats ----
 

@@ -9,7 +9,7 @@ use Rattle.ground.specs.declared.fault.Fault.{Fault}
 use Rattle.ground.specs.declared.fault.Refusal.{Refusal}
 use Rattle.ground.specs.declared.fault.Refusal.TheVariants.{Fault as AFault, Memory}
 use Rattle.rule_table.specs.First.{IsFirst, IsClean}
-use Rattle.rule_table.specs.FaultRules.{limit_of}
+use Rattle.rule_table.specs.FaultRules.{fault_of}
 use Rattle.f66_tree.specs.Syntax.{Routine}
 use Rattle.f66_flow.specs.declared.scope.Scope.{Scope}
 use Rattle.f66_flow.specs.declared.scope.Scope.TheVariants.{Whole}
@@ -31,15 +31,14 @@ pub record IsSound (u : Routine) : Type 0 where
   pub clean : IsClean (breaks_at Whole u)
 
 -- the first fault of a unit: the first part that is not built, wherever it stands; else that of the rules
-abbrev pub IsFirstKind : Option ℕ → Scope → Routine → ℕ → Rule → Type 0
-IsFirstKind (Some m) w u n kind = (n ≡ m) × (kind ≡ Unbuilt)
-IsFirstKind None w u n kind = IsFirst rule_number (breaks_at w u) n kind
+abbrev pub IsFirstRule : Option ℕ → Scope → Routine → ℕ → Rule → Type 0
+IsFirstRule (Some m) w u n r = (n ≡ m) × (r ≡ Unbuilt)
+IsFirstRule None w u n r = IsFirst rule_number (breaks_at w u) n r
 
 -- f is the first fault, and stands at the part with the number n
 pub record IsFirstFault (w : Scope) (u : Routine) (n : ℕ) (f : Fault) : Type 0 where
-  pub first : IsFirstKind (first_unbuilt u) w u n f.kind
+  pub first : (r : Rule) × IsFirstRule (first_unbuilt u) w u n r × (f ≡ fault_of f.place r)
   pub place : place_at u n ≡ Some f.place
-  pub limit : f.number ≡ limit_of f.kind
 
 -- a refusal by a fault is by the first one, of a unit that is not sound
 abbrev pub IsRightRefusal : Routine → Refusal → Type 0

@@ -18,11 +18,11 @@ context_of u = context_by u.header (acts_in_unit u.lines)
 
 -- what the statement s with the number i, from 0, of a unit of these statements breaks
 abbrev pub breaks_line : Scope → Context → List Act → List Line → ℕ → Line → Rule → Bool
-breaks_line w c acts lines i s k = breaks_flow w lines i s k || breaks_name c acts i s.act k
+breaks_line w c acts lines i s k = breaks_flow w c.header lines i s k || breaks_name c acts i s.act k
 
 -- what the header breaks, and what each statement does, where there is one
 abbrev pub breaks_part : Scope → Context → List Act → List Line → ℕ → Rule → Bool
-breaks_part w c acts lines zero k = header_breaks_flow w lines k
+breaks_part w c acts lines zero k = header_breaks_flow w c.header lines k
 breaks_part w c acts lines (suc i) k = is_some_and (λ s. breaks_line w c acts lines i s k) (slice_get lines i)
 
 -- the part of the unit with this number breaks the rule k

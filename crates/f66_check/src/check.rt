@@ -3,28 +3,24 @@ ghost use Rattle.std.specs.Prelude.{◌≡◌, ◌≤◌, ◌-◌, ◌^◌, ◌<
 ghost use Rattle.f66_tree.specs.Views.{routine_of};
 ghost use Rattle.f66_flow.specs.declared.scope.Scope.TheVariants.{Part};
 ghost use Rattle.f66_check.specs.CheckRules.{first_unbuilt};
-ghost use Rattle.f66_check.specs.Answers.{IsFaultless, IsSound, IsFirstKind, IsFirstFault, IsRightRefusal, place_at};
-ghost use Rattle.rule_table.specs.FaultRules.{limit_of as limit_by};
+ghost use Rattle.f66_check.specs.Answers.{IsFaultless, IsSound, IsFirstRule, IsFirstFault, IsRightRefusal, place_at};
+ghost use Rattle.rule_table.specs.FaultRules.{fault_of};
 
 use crate::parts::first_broken;
 use crate::unbuilt::{is_main, sayings_of, unbuilt_statement};
 use f66_flow::{Scope, flow_of};
 use f66_names::names_of;
 use f66_tree::Unit;
-use ground::{Fault, Rule, Memory, Place, Refusal};
-use rule_table::limit_of;
+use ground::{Fault, Memory, Place, Refusal};
+use rule_table::Rule;
 use std::alloc::{AllocError, Global};
 use std::marker::Model;
 
-/// The number of the first part of a unit that is at fault, and the fault's kind.
-fn first_of(
-    alloc: Global,
-    scope: Scope,
-    unit: &Unit,
-) -> Result<Option<(usize, Rule)>, AllocError>
+/// The number of the first part of a unit that is at fault, and the rule that it breaks.
+fn first_of(alloc: Global, scope: Scope, unit: &Unit) -> Result<Option<(usize, Rule)>, AllocError>
     ensures within { IfOk result (λ o. IfSome o (λ r. r.0 ≤ length unit.now.statements.items)) }
     ensures first { IfOk result (λ o. MatchOption o (IsFaultless scope (routine_of unit.now))
-        (λ r. IsFirstKind (first_unbuilt (routine_of unit.now)) scope (routine_of unit.now) r.0 r.1)) }
+        (λ r. IsFirstRule (first_unbuilt (routine_of unit.now)) scope (routine_of unit.now) r.0 r.1)) }
 {
     if !is_main(&unit.header) {
         return Ok(Some((0, Rule::Unbuilt)));
@@ -50,18 +46,13 @@ fn place_of(unit: &Unit, number: usize) -> Place
     unit.statements[number - 1].place
 }
 
-/// The fault of a kind at the part with a number.
-fn fault_at(unit: &Unit, number: usize, kind: Rule) -> Fault
+/// The fault that a rule tells at the part with a number.
+fn fault_at(unit: &Unit, number: usize, rule: Rule) -> Fault
     requires { number ≤ length unit.now.statements.items }
-    ensures kind { result.kind ≡ kind }
+    ensures fault { result ≡ fault_of result.place rule }
     ensures place { place_at (routine_of unit.now) number ≡ Some result.place }
-    ensures limit { result.number ≡ limit_by kind }
 {
-    Fault {
-        kind,
-        place: place_of(unit, number),
-        number: limit_of(kind),
-    }
+    rule.fault(place_of(unit, number))
 }
 
 /// A unit in which nothing is at fault. Contracts see it as the unit that it was made of.
@@ -121,7 +112,7 @@ pub fn check_unit(alloc: Global, unit: Unit) -> Result<CheckedUnit, Refusal>
         return Err(Refusal::Memory);
     };
     match first {
-        Some((number, kind)) => Err(Refusal::Fault(fault_at(&unit, number, kind))),
+        Some((number, rule)) => Err(Refusal::Fault(fault_at(&unit, number, rule))),
         None => Ok(CheckedUnit::of_sound(unit)),
     }
 }
@@ -137,7 +128,7 @@ pub fn first_fault(alloc: Global, unit: &Unit) -> Result<Option<(u32, Fault)>, M
         return Err(Memory);
     };
     match first {
-        Some((number, kind)) => Ok(Some((number as u32, fault_at(unit, number, kind)))),
+        Some((number, rule)) => Ok(Some((number as u32, fault_at(unit, number, rule)))),
         None => Ok(None),
     }
 }

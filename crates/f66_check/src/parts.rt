@@ -1,9 +1,8 @@
 // The first part of a unit that breaks a rule.
 ghost use Rattle.std.specs.Prelude.{◌≡◌, ◌<◌, ◌≤◌, ℕ, false, length, IfOk, IfSome, MatchOption};
-ghost use Rattle.rule_table.specs.FaultRules.{rule_number};
 ghost use Rattle.rule_table.specs.declared.rule.Rule.{Rule};
 ghost use Rattle.rule_table.specs.First.{IsFirst, IsClean};
-ghost use Rattle.rule_table.specs.FaultRules.{first_rule};
+ghost use Rattle.rule_table.specs.FaultRules.{rule_number, first_rule};
 ghost use Rattle.f66_tree.specs.Views.{line_of};
 ghost use Rattle.f66_names.specs.DeclarationViews.{context_in, acts_in};
 ghost use Rattle.f66_flow.specs.FlowRules.{breaks_flow_at};
@@ -13,8 +12,7 @@ ghost use Rattle.f66_check.specs.CheckRules.{breaks_line, breaks_part};
 use f66_flow::{Flow, Scope, header_rule};
 use f66_names::Names;
 use f66_tree::Stmt;
-use rule_table::Rule;
-use rule_table::lesser;
+use rule_table::{Rule, lesser};
 use std::alloc::{AllocError, Global};
 
 /// The rule with the smallest number that the statement with the number i breaks, where no earlier one breaks a rule of
@@ -28,11 +26,11 @@ fn broken_rule(
     statement: &Stmt,
 ) -> Result<Option<Rule>, AllocError>
     requires within { i < length flow.now.labels.statements.now }
-    requires earlier { (j : ℕ) (k : Rule) → j < i → breaks_flow_at scope (lines_under flow.now) j k ≡ false }
+    requires earlier { (j : ℕ) (k : Rule) → j < i → breaks_flow_at scope (context_in names.now.declarations).header (lines_under flow.now) j k ≡ false }
     ensures { IfOk result
         (λ o. o ≡ first_rule (breaks_line scope (context_in names.now.declarations) (acts_in names.now.declarations) (lines_under flow.now) i (line_of statement.now))) }
 {
-    let by_flow = f66_flow::broken_rule(scope, flow, i, statement);
+    let by_flow = f66_flow::broken_rule(scope, names.declarations.header, flow, i, statement);
     let by_name = f66_names::broken_rule(alloc, names, i, &statement.kind)?;
     Ok(lesser(by_flow, by_name))
 }
@@ -49,13 +47,13 @@ pub fn first_broken(
         (λ o. MatchOption o (IsClean (breaks_part scope (context_in names.now.declarations) (acts_in names.now.declarations) (lines_under flow.now)))
         (λ r. IsFirst rule_number (breaks_part scope (context_in names.now.declarations) (acts_in names.now.declarations) (lines_under flow.now)) r.0 r.1)) }
 {
-    if let Some(kind) = header_rule(scope, flow) {
-        return Ok(Some((0, kind)));
+    if let Some(rule) = header_rule(scope, names.declarations.header, flow) {
+        return Ok(Some((0, rule)));
     }
     for (i, statement) in flow.labels.statements.iter().enumerate() {
         let broken = broken_rule(alloc, scope, flow, names, i, statement)?;
-        if let Some(kind) = broken {
-            return Ok(Some((i + 1, kind)));
+        if let Some(rule) = broken {
+            return Ok(Some((i + 1, rule)));
         }
     }
     Ok(None)

@@ -13,6 +13,6 @@ pub returns : goal.returns
 returns c =
     let names = c.args.names.now.declarations in
     c.lesser.ensures ∙ ap (λ o. lesser o c.in_ok-by_name.by_name) c.broken_rule-by_flow.ensures
-    ∙ ap (lesser (first_rule (breaks_flow c.args.scope (lines_under c.args.flow.now) c.args.i (line_of c.args.statement.now)))) c.in_ok-by_name.ensures
-    ∙ sym (first_either (breaks_flow c.args.scope (lines_under c.args.flow.now) c.args.i (line_of c.args.statement.now))
+    ∙ ap (lesser (first_rule (breaks_flow c.args.scope (context_in names).header (lines_under c.args.flow.now) c.args.i (line_of c.args.statement.now)))) c.in_ok-by_name.ensures
+    ∙ sym (first_either (breaks_flow c.args.scope (context_in names).header (lines_under c.args.flow.now) c.args.i (line_of c.args.statement.now))
     (breaks_name (context_in names) (acts_in names) c.args.i (act_of c.args.statement.now.kind)))

@@ -18,7 +18,7 @@ returns-in-Some-broken-clause-first c =
     let names = c.args.names.now.declarations in
     let all : List Stmt = c.args.flow.now.labels.statements.now in
     let at : slice_get all c.loop-i.i ≡ Some c.statement-item.result = slice_get_read all _ c.loop-i.i c.statement-item.result refl c.loop-i-test.true c.statement-item.is in
-    statement_first c.args.scope (context_in names) (acts_in names) all c.loop-i.i c.statement-item.result c.in-Some-broken.kind at
+    statement_first c.args.scope (context_in names) (acts_in names) all c.loop-i.i c.statement-item.result c.in-Some-broken.rule at
     (sym c.in-Some-broken.is ∙ c.in_ok-broken.ensures) c.loop-i.invariant
 
 pub loop-i-preserved : goal.loop-i-preserved
