@@ -4,19 +4,20 @@ ghost use Rattle.std.specs.Prelude.{◌≡◌, ◌<◌, ℕ, false};
 use crate::reading::statements;
 use crate::runs::FLOW;
 use f66_flow::{Flow, Scope, broken_rule, flow_of, header_rule};
+use f66_tree::Header;
 use rule_table::Rule;
 use std::alloc::{AllocError, Global};
 use std::process::Abort;
 use std::test::Fail;
 
 /// The first part of a unit that breaks one of these rules: 0 for its header, or a statement's number from 1.
-fn first_broken(scope: Scope, flow: &Flow) -> Option<(usize, Rule)> {
-    if let Some(kind) = header_rule(scope, flow) {
-        return Some((0, kind));
+fn first_broken(scope: Scope, header: &Header, flow: &Flow) -> Option<(usize, Rule)> {
+    if let Some(rule) = header_rule(scope, header, flow) {
+        return Some((0, rule));
     }
     for (i, statement) in flow.labels.statements.iter().enumerate() {
-        if let Some(kind) = broken_rule(scope, flow, i, statement) {
-            return Some((i + 1, kind));
+        if let Some(rule) = broken_rule(scope, header, flow, i, statement) {
+            return Some((i + 1, rule));
         }
     }
     None
@@ -25,9 +26,10 @@ fn first_broken(scope: Scope, flow: &Flow) -> Option<(usize, Rule)> {
 fn outcome(alloc: Global, text: &str, scope: Scope) -> Result<String, AllocError> {
     let statements = statements(alloc, text)?;
     let flow = flow_of(alloc, &statements)?;
-    match first_broken(scope, &flow) {
-        Some((number, kind)) => {
-            let word = kind.word();
+    let header = Header::Main;
+    match first_broken(scope, &header, &flow) {
+        Some((number, rule)) => {
+            let word = rule.kind().word();
             Ok(format!(in alloc; "{word} at {number}")?)
         }
         None => Ok("sound".to_string(alloc)?),

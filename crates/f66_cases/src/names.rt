@@ -3,8 +3,9 @@
 use crate::reading::statements;
 use f66_names::{Saying, broken_rule, names_of};
 use f66_tree::{Header, Stmt};
-use ground::{Rule, Text};
+use ground::Text;
 use name_alloc::Names;
+use rule_table::Rule;
 use std::alloc::{AllocError, Global};
 use std::process::Abort;
 use std::test::Fail;
@@ -27,7 +28,7 @@ fn outcome(alloc: Global, text: &str) -> Result<&'static str, AllocError> {
     let statements = statements(alloc, text)?;
     let rule = rule_of_last(alloc, &statements)?;
     match rule {
-        Some(kind) => Ok(kind.word()),
+        Some(rule) => Ok(rule.kind().word()),
         None => Ok("sound"),
     }
 }

@@ -31,7 +31,7 @@ any_fit [] others h k = k
 any_fit (n ∷ ns) others h k = h
 
 -- where there are no dummies a dimension that the rules let pass is a constant above zero
-sized_fit : (c : Context) (y : Text) → is_dummy c y ≡ false → (ns : List Par) → list_any (is_bad_size c y) ns ≡ false → FitSizes ns
+pub sized_fit : (c : Context) (y : Text) → is_dummy c y ≡ false → (ns : List Par) → list_any (is_bad_size c y) ns ≡ false → FitSizes ns
 sized_fit c y own [] h = refl
 sized_fit c y own (Constant z ∷ ns) h =
     let p = or_parts (is_bad_size c y (Constant z)) _ h in

@@ -28,7 +28,7 @@ or_none (Some x) b e = absurd (none-some x (sym e))
 
 no_rule : (p : Place) (o : Option Rule) → fault_if p o ≡ None → o ≡ None
 no_rule p None e = refl
-no_rule p (Some kind) e = absurd (none-some _ (sym e))
+no_rule p (Some r) e = absurd (none-some _ (sym e))
 
 no_place : (o : Option Place) → unbuilt_at o ≡ None → o ≡ None
 no_place None e = refl

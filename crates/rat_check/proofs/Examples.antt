@@ -1,16 +1,18 @@
 -- The first faults of small units, by computation.
 use Rattle.std.proofs.Common.{◌≡◌, true, false, refl}
 use Rattle.std.specs.Prelude.{ℕ, pos, List, [], ◌∷◌, Option, Some, None, codes}
+use Rattle.ground.specs.Faults.{limit_at}
 use Rattle.ground.specs.declared.fault.Fault.{Fault}
 use Rattle.rule_table.specs.declared.rule.Rule.{Rule}
-use Rattle.rule_table.specs.declared.rule.Rule.TheVariants.{Syntax, NameTooLong, OutOfProfileType, TypeClash, WrongCount, DuplicateName, BadLabel, BadBreak, DuplicateCase, BadConstant, NotAssignable, Limit, Unbuilt}
+use Rattle.rule_table.specs.declared.rule.Rule.TheVariants.{Syntax, NameTooLong, OutOfProfileType, TypeClash, WrongCount, DuplicateName, BadLabel, BadBreak, DuplicateCase, BadConstant, NotAssignable, LargeArray, Unbuilt}
+use Rattle.rule_table.specs.FaultRules.{fault_of}
 use Rattle.f66_tree.specs.declared.declaration.TypeWord.TheVariants.{Integer, Logical}
 use Rattle.f66_tree.specs.declared.expression.Operator.TheVariants.{Lt, And}
 use Rattle.f66_tree.specs.Syntax.{Text, Item, Pair, NoFormula, AndFormula, Constant, Declared, Act, Assign, Goto, Computed, Typed, Dimension, Invoke}
 use Rattle.f66_tree.proofs.ExampleParts.{here, i, k, num, var, with_one, set, i3}
 use Rattle.rat_tree.specs.Syntax.{Command, Empty, Block, If, While, For, Repeat, RepeatUntil, Do, Switch, Break, Return, Plain, Labelled, Commands, NoCommand, AndCommand, NoClause, AndClause}
 use Rattle.rat_check.specs.Parts.{unit_parts}
-use Rattle.rat_check.specs.FirstFault.{fault_at, fault_of_parts}
+use Rattle.rat_check.specs.FirstFault.{fault_of_parts}
 
 abbrev all : List Command → Commands
 all [] = NoCommand
@@ -26,7 +28,7 @@ abbrev first : List Command → Option Fault
 first cs = fault_of_parts (unit_parts (all cs))
 
 abbrev at : ℕ → Rule → Option Fault
-at p kind = Some (fault_at (here p) kind)
+at p r = Some (fault_of (here p) r)
 
 abbrev l : Text
 l = codes "L"
@@ -105,7 +107,7 @@ whole_array : first (array 1 ∷ plain 2 (set k (num (pos 1))) ∷ []) ≡ at 2 
 whole_array = refl
 
 -- limit 7
-large_array : first (plain 1 (Dimension (sized k 32768 ∷ [])) ∷ []) ≡ Some (record { kind = Limit; place = here 1; number = 7 })
+large_array : first (plain 1 (Dimension (sized k 32768 ∷ [])) ∷ []) ≡ Some (limit_at (here 1) 7)
 large_array = refl
 
 -- ---- the order of statements ----

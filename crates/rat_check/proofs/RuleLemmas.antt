@@ -5,7 +5,7 @@ use Rattle.rule_table.specs.declared.rule.Rule.{Rule}
 use Rattle.rule_table.specs.declared.rule.Rule.TheVariants.{Unbuilt}
 use Rattle.ground.specs.declared.fault.Fault.{Fault}
 use Rattle.ground.specs.declared.place.Place.{Place}
-use Rattle.rule_table.specs.FaultRules.{first_rule, lesser}
+use Rattle.rule_table.specs.FaultRules.{fault_of, first_rule, lesser}
 use Rattle.rule_table.proofs.LesserLemmas.{first_either, lesser-assoc}
 use Rattle.f66_tree.specs.Syntax.{Header, MainUnit, Act}
 use Rattle.f66_tree.specs.Units.{Context}
@@ -21,7 +21,7 @@ use Rattle.rat_check.specs.declared.parts.Part as memory
 use Rattle.rat_check.specs.Parts.{Labels, no_label, Part}
 use Rattle.rat_check.specs.Said.{said_by, said_in, context_of_parts}
 use Rattle.rat_check.specs.Rules.{Before, nothing_before, behind, UnitRules, break_names, broken_rule}
-use Rattle.rat_check.specs.FirstFault.{fault_at, or_else, fault_if, unbuilt_at, first_unbuilt_part, format_label, with_formats, first_broken, unit_whole, fault_of_parts}
+use Rattle.rat_check.specs.FirstFault.{or_else, fault_if, unbuilt_at, first_unbuilt_part, format_label, with_formats, first_broken, unit_whole, fault_of_parts}
 use Rattle.rat_check.specs.FormViews.{form_of}
 use Rattle.rat_check.specs.PartViews.{part_of, parts_seen, whole_by}
 use Rattle.rat_check.specs.Survey.{is_among, adding_if}
@@ -47,8 +47,8 @@ format_passed v rest fs gs next = ap (λ ls. with_formats rest (is_among ls)) ne
 pub rule_passed : (u : UnitRules) (b c : Before) (v : Part) (rest : List Part) → None ≡ broken_rule u b v → c ≡ behind b v → first_broken u c rest ≡ first_broken u b (v ∷ rest)
 rule_passed u b c v rest fine next = ap (λ d. first_broken u d rest) next ∙ ap (λ o. or_else (fault_if v.place o) (first_broken u (behind b v) rest)) fine
 
-pub rule_broken : (u : UnitRules) (b : Before) (v : Part) (rest : List Part) (kind : Rule) (f : Fault) → Some kind ≡ broken_rule u b v → f ≡ fault_at v.place kind → first_broken u b (v ∷ rest) ≡ Some f
-rule_broken u b v rest kind f told is = ap (λ o. or_else (fault_if v.place o) (first_broken u (behind b v) rest)) (sym told) ∙ ap Some (sym is)
+pub rule_broken : (u : UnitRules) (b : Before) (v : Part) (rest : List Part) (r : Rule) (f : Fault) → Some r ≡ broken_rule u b v → f ≡ fault_of v.place r → first_broken u b (v ∷ rest) ≡ Some f
+rule_broken u b v rest r f told is = ap (λ o. or_else (fault_if v.place o) (first_broken u (behind b v) rest)) (sym told) ∙ ap Some (sym is)
 
 -- one saying more, whose rule is taken together with those before
 rules_passed : (c : Context) (said : List Act) (n : ℕ) (a : Act) (more : List Act) (broken rule : Option Rule) → rule ≡ first_rule (breaks_name c said n a) →
@@ -85,7 +85,7 @@ pub whole_told : (vs : List Part) (names : Names) (formats : List ℕ) → heade
 whole_told vs names formats main said has =
     ap (λ h. whole h (acts_in names.declarations) (is_among formats)) main ∙ ap (λ more. whole MainUnit more (is_among formats)) said ∙ ap (whole MainUnit (said_in vs)) has
 
-pub unbuilt_told : (vs : List Part) (c : Context) (place : Place) (f : Fault) → c ≡ context_of_parts vs → Some place ≡ first_unbuilt_part c vs → f ≡ fault_at place Unbuilt → fault_of_parts vs ≡ Some f
+pub unbuilt_told : (vs : List Part) (c : Context) (place : Place) (f : Fault) → c ≡ context_of_parts vs → Some place ≡ first_unbuilt_part c vs → f ≡ fault_of place Unbuilt → fault_of_parts vs ≡ Some f
 unbuilt_told vs c place f same found is =
     ap (λ o. or_else (unbuilt_at o) (first_broken (unit_whole vs) nothing_before vs)) (sym (found ∙ ap (λ d. first_unbuilt_part d vs) same)) ∙ ap Some (sym is)
 

@@ -5,7 +5,7 @@ use Rattle.ground.specs.declared.place.Place.{Place}
 use Rattle.ground.specs.declared.fault.Fault.{Fault}
 use Rattle.rule_table.specs.declared.rule.Rule.{Rule}
 use Rattle.rule_table.specs.declared.rule.Rule.TheVariants.{Unbuilt}
-use Rattle.rule_table.specs.FaultRules.{limit_of}
+use Rattle.rule_table.specs.FaultRules.{fault_of}
 use Rattle.ground.specs.declared.fault.Refusal.{Refusal}
 use Rattle.ground.specs.declared.fault.Refusal.TheVariants.{Fault as Faulty, Memory}
 use Rattle.f66_tree.specs.Syntax.{Format}
@@ -14,9 +14,6 @@ use Rattle.rat_tree.specs.Syntax.{RatRoutine, RatProgram}
 use Rattle.rat_check.specs.Parts.{Form, Statement, Labels, no_label, with_label, Part, unit_parts}
 use Rattle.rat_check.specs.Said.{said_in, context_of_parts}
 use Rattle.rat_check.specs.Rules.{is_built_form, Before, nothing_before, behind, UnitRules, broken_rule}
-
-abbrev pub fault_at : Place → Rule → Fault
-fault_at p kind = record { kind = kind; place = p; number = limit_of kind }
 
 abbrev pub or_else : {A : Type 0} → Option A → Option A → Option A
 or_else None o = o
@@ -40,7 +37,7 @@ with_formats (v ∷ vs) ls = with_formats vs (with_label (format_label v.label v
 
 abbrev pub fault_if : Place → Option Rule → Option Fault
 fault_if p None = None
-fault_if p (Some kind) = Some (fault_at p kind)
+fault_if p (Some r) = Some (fault_of p r)
 
 -- these labels, and those of the parts
 abbrev pub with_own : List Part → Labels → Labels
@@ -58,14 +55,14 @@ unit_whole vs = record { context = context_of_parts vs; said = said_in vs; forma
 
 abbrev pub unbuilt_at : Option Place → Option Fault
 unbuilt_at None = None
-unbuilt_at (Some p) = Some (fault_at p Unbuilt)
+unbuilt_at (Some p) = Some (fault_of p Unbuilt)
 
 abbrev pub fault_of_parts : List Part → Option Fault
 fault_of_parts vs = or_else (unbuilt_at (first_unbuilt_part (context_of_parts vs) vs)) (first_broken (unit_whole vs) nothing_before vs)
 
 -- a unit with a header isn't built
 abbrev pub unit_fault : RatRoutine → Option Fault
-unit_fault u = if is_main u.header then fault_of_parts (unit_parts u.body) else Some (fault_at u.place Unbuilt)
+unit_fault u = if is_main u.header then fault_of_parts (unit_parts u.body) else Some (fault_of u.place Unbuilt)
 
 abbrev pub first_fault_of : List RatRoutine → Option Fault
 first_fault_of [] = None

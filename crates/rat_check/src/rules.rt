@@ -13,8 +13,7 @@ use crate::{Before, Form, LabelSet, Part};
 use f66_flow::is_specification;
 use f66_names::{Names, Saying, saying_rule};
 use f66_tree::StmtKind;
-use rule_table::Rule;
-use rule_table::lesser;
+use rule_table::{Rule, lesser};
 use std::alloc::{AllocError, Global};
 
 /// Of the rules that a part, which says this of names, breaks, that with the smallest number.

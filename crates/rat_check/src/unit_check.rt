@@ -6,7 +6,7 @@ ghost use Rattle.f66_names.specs.DeclarationViews.{acts_in};
 ghost use Rattle.rat_check.specs.Parts.{unit_parts, no_label};
 ghost use Rattle.rat_check.specs.Said.{said_in};
 ghost use Rattle.rat_check.specs.Rules.{nothing_before};
-ghost use Rattle.rat_check.specs.FirstFault.{Tells, fault_at as fault_of, format_label as label_of_format, with_formats, first_broken, fault_of_parts, unit_fault};
+ghost use Rattle.rat_check.specs.FirstFault.{Tells, format_label as label_of_format, with_formats, first_broken, fault_of_parts, unit_fault};
 ghost use Rattle.rat_check.specs.FormViews.{form_of};
 ghost use Rattle.rat_check.specs.PartViews.{parts_seen, whole_by};
 ghost use Rattle.rat_check.specs.Survey.{is_among, adding_if, own_labels};
@@ -17,9 +17,9 @@ use crate::{
 };
 use f66_names::{Names, Saying, names_of};
 use f66_tree::{Header, StmtKind};
-use ground::{Fault, Rule, List, Place, Refusal};
+use ground::{List, Refusal};
 use rat_tree::{RatStmt, RatUnit};
-use rule_table::limit_of;
+use rule_table::Rule;
 use std::alloc::{AllocError, Global};
 
 /// Checks a unit, and gives the labels of its statements, each once. Faults 9 to 18, 26, 27, 30 and 31.
@@ -29,7 +29,7 @@ pub fn check(alloc: Global, unit: &RatUnit) -> Result<List<u32>, Refusal>
 {
     match unit.header {
         Header::Main => check_body(alloc, &unit.body),
-        _ => Err(Refusal::Fault(fault_at(unit.place, Rule::Unbuilt))),
+        _ => Err(Refusal::Fault(Rule::Unbuilt.fault(unit.place))),
     }
 }
 
@@ -44,20 +44,10 @@ fn check_body(alloc: Global, body: &[RatStmt]) -> Result<List<u32>, Refusal>
     let names = names_of(alloc, &header, &sayings)?;
     let unbuilt = first_unbuilt(alloc, &names, &parts)?;
     if let Some(place) = unbuilt {
-        return Err(Refusal::Fault(fault_at(place, Rule::Unbuilt)));
+        return Err(Refusal::Fault(Rule::Unbuilt.fault(place)));
     }
     let formats = formats_in(alloc, &parts)?;
     check_parts(alloc, &names, &formats, &parts)
-}
-
-fn fault_at(place: Place, kind: Rule) -> Fault
-    ensures { result ≡ fault_of place kind }
-{
-    Fault {
-        kind,
-        place,
-        number: limit_of(kind),
-    }
 }
 
 /// What a unit says of names, in reading order.
@@ -126,8 +116,8 @@ fn check_parts(
     for part in parts {
         let sayings = sayings_of(alloc, part.form)?;
         let broken = broken_rule(alloc, names, formats, &before, part, &sayings)?;
-        if let Some(kind) = broken {
-            return Err(Refusal::Fault(fault_at(part.place, kind)));
+        if let Some(rule) = broken {
+            return Err(Refusal::Fault(rule.fault(part.place)));
         }
         before.add(part, sayings.len())?;
     }

@@ -5,6 +5,7 @@ use Rattle.std.specs.Fmt.{digits}
 use Rattle.std.specs.Str.{bytes_eq}
 use Rattle.std.proofs.lemmas.Bool.{ne_eqb}
 use Rattle.std.proofs.lemmas.Slice.Eq.{bytes_eq-Decides}
+use Rattle.rule_table.specs.FaultRules.{fault_of}
 use Rattle.rule_table.specs.declared.rule.Rule.TheVariants.{NameTooLong, OutOfProfileType, BadLabel, BadBreak, Unbuilt}
 use Rattle.f66_tree.specs.declared.expression.Operator.TheVariants.{Add, Lt, Eq}
 use Rattle.f66_tree.specs.Syntax.{Text, Pair, NoFormula, AndFormula, Constant, Act, Goto, Stop, Line}
@@ -14,7 +15,7 @@ use Rattle.f66_tree.specs.OneUnit.{executed}
 use Rattle.f66_tree.proofs.ExampleParts.{here, i, k, num, var, set, write, i3}
 use Rattle.rat_tree.specs.Syntax.{Command, Block, If, Repeat, RepeatUntil, Do, Switch, Break, Next, Return, Plain, Commands, NoCommand, AndCommand, NoClause, AndClause}
 use Rattle.rat_check.specs.Parts.{unit_parts}
-use Rattle.rat_check.specs.FirstFault.{fault_at, fault_of_parts}
+use Rattle.rat_check.specs.FirstFault.{fault_of_parts}
 use Rattle.rat_lower.specs.Code.{unit_code}
 use Rattle.rat_lower.specs.OneUnit.{means}
 use Rattle.rat_lower.specs.Checked.{bit, all_given, Lacks, IsChecked}
@@ -137,33 +138,33 @@ loops_go_on = refl
 abbrev too_far : Command
 too_far = Repeat (here 2) (block 2 (Break (here 3) 2 ∷ []))
 
-loop_refused : fault_of_parts (unit_parts (all (plain 1 (set i (num (pos 1))) ∷ too_far ∷ []))) ≡ Some (fault_at (here 3) BadBreak)
+loop_refused : fault_of_parts (unit_parts (all (plain 1 (set i (num (pos 1))) ∷ too_far ∷ []))) ≡ Some (fault_of (here 3) BadBreak)
 loop_refused = refl
 
 -- goto 10 to a label within braces
-label_refused : fault_of_parts (unit_parts (all (plain 1 (Goto 10) ∷ block 2 (Plain (Some 10) (here 2) (set i (num (pos 1))) ∷ []) ∷ []))) ≡ Some (fault_at (here 1) BadLabel)
+label_refused : fault_of_parts (unit_parts (all (plain 1 (Goto 10) ∷ block 2 (Plain (Some 10) (here 2) (set i (num (pos 1))) ∷ []) ∷ []))) ≡ Some (fault_of (here 1) BadLabel)
 label_refused = refl
 
 -- a label that stands twice
-second_refused : fault_of_parts (unit_parts (all (Plain (Some 10) (here 1) (set i (num (pos 1))) ∷ Plain (Some 10) (here 2) (set i (num (pos 1))) ∷ []))) ≡ Some (fault_at (here 2) BadLabel)
+second_refused : fault_of_parts (unit_parts (all (Plain (Some 10) (here 1) (set i (num (pos 1))) ∷ Plain (Some 10) (here 2) (set i (num (pos 1))) ∷ []))) ≡ Some (fault_of (here 2) BadLabel)
 second_refused = refl
 
 -- a name of seven letters that would be real, and one of one letter
-long_refused : fault_of_parts (unit_parts (all (plain 1 (set i (var (codes "ABCDEFG"))) ∷ []))) ≡ Some (fault_at (here 1) NameTooLong)
+long_refused : fault_of_parts (unit_parts (all (plain 1 (set i (var (codes "ABCDEFG"))) ∷ []))) ≡ Some (fault_of (here 1) NameTooLong)
 long_refused = refl
 
-real_refused : fault_of_parts (unit_parts (all (plain 1 (set i (var (codes "A"))) ∷ []))) ≡ Some (fault_at (here 1) OutOfProfileType)
+real_refused : fault_of_parts (unit_parts (all (plain 1 (set i (var (codes "A"))) ∷ []))) ≡ Some (fault_of (here 1) OutOfProfileType)
 real_refused = refl
 
 -- a WRITE whose format is missing, and the condition of until after the faults of its body
-format_refused : fault_of_parts (unit_parts (all (plain 1 (write (i ∷ [])) ∷ []))) ≡ Some (fault_at (here 1) BadLabel)
+format_refused : fault_of_parts (unit_parts (all (plain 1 (write (i ∷ [])) ∷ []))) ≡ Some (fault_of (here 1) BadLabel)
 format_refused = refl
 
-body_first : fault_of_parts (unit_parts (all (RepeatUntil (here 1) (block 1 (Break (here 2) 0 ∷ [])) (Pair Lt (var (codes "A")) (num (pos 3))) (here 3) ∷ []))) ≡ Some (fault_at (here 2) BadBreak)
+body_first : fault_of_parts (unit_parts (all (RepeatUntil (here 1) (block 1 (Break (here 2) 0 ∷ [])) (Pair Lt (var (codes "A")) (num (pos 3))) (here 3) ∷ []))) ≡ Some (fault_of (here 2) BadBreak)
 body_first = refl
 
 -- a return behind a fault: what is not built goes first
-unbuilt_refused : fault_of_parts (unit_parts (all (plain 1 (Goto 10) ∷ Return (here 2) None ∷ []))) ≡ Some (fault_at (here 2) Unbuilt)
+unbuilt_refused : fault_of_parts (unit_parts (all (plain 1 (Goto 10) ∷ Return (here 2) None ∷ []))) ≡ Some (fault_of (here 2) Unbuilt)
 unbuilt_refused = refl
 
 switch_accepted : fault_of_parts (unit_parts (all switch)) ≡ None

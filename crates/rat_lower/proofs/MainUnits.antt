@@ -3,6 +3,7 @@ use Rattle.std.proofs.Common.{◌≡◌, ◌≢◌, ℕ, ◌+◌, ◌≤◌, Boo
 use Rattle.std.specs.Prelude.{if◌then◌else◌}
 use Rattle.std.proofs.lemmas.Option.{none-some}
 use Rattle.ground.specs.declared.place.Place.{Place}
+use Rattle.rule_table.specs.FaultRules.{fault_of}
 use Rattle.rule_table.specs.declared.rule.Rule.TheVariants.{Unbuilt}
 use Rattle.f66_tree.specs.declared.unit.Unit.{Unit as AUnit}
 use Rattle.f66_tree.specs.Syntax.{MainUnit, Line, Routine}
@@ -14,7 +15,7 @@ use Rattle.f66_tree.specs.OneUnit.{executed}
 use Rattle.f66_check.specs.Answers.{IsSound}
 use Rattle.rat_tree.specs.Syntax.{RatRoutine}
 use Rattle.rat_check.specs.Parts.{no_label, unit_parts}
-use Rattle.rat_check.specs.FirstFault.{fault_at, with_own, fault_of_parts, unit_fault}
+use Rattle.rat_check.specs.FirstFault.{with_own, fault_of_parts, unit_fault}
 use Rattle.rat_check.specs.Survey.{is_among, own_labels}
 use Rattle.rat_check.proofs.SurveyLemmas.{own_among}
 use Rattle.rat_lower.specs.OneUnit.{means}
@@ -30,7 +31,7 @@ module _ (u : RatRoutine) (taken given : List ℕ) (first last : Place) (code : 
   accepted : fault_of_parts (unit_parts u.body) ≡ None
   accepted = by (is_main u.header) none_found
     where
-      by : (v : Bool) → (if v then fault_of_parts (unit_parts u.body) else Some (fault_at u.place Unbuilt)) ≡ None → fault_of_parts (unit_parts u.body) ≡ None
+      by : (v : Bool) → (if v then fault_of_parts (unit_parts u.body) else Some (fault_of u.place Unbuilt)) ≡ None → fault_of_parts (unit_parts u.body) ≡ None
       by true e = e
       by false e = absurd (none-some _ (sym e))
 

@@ -4,7 +4,7 @@ use Rattle.std.specs.Prelude.{pos, negsuc, ⊤}
 use Rattle.std.specs.List.{list_any, list_all}
 use Rattle.std.specs.Str.{bytes_eq}
 use Rattle.std.proofs.lemmas.Bool.{and_parts, and_from, or_parts, not-false, eqb-true, leb-true, le-leb, ltb-false}
-use Rattle.rule_table.specs.declared.rule.Rule.TheVariants.{Syntax, TypeClash, WrongCount, BadConstant, BadFormat, NotAssignable, Limit}
+use Rattle.rule_table.specs.declared.rule.Rule.TheVariants.{Syntax, TypeClash, WrongCount, BadConstant, BadFormat, NotAssignable, LargeArray}
 use Rattle.f66_tree.specs.declared.editing.Way.{Way}
 use Rattle.f66_tree.specs.declared.editing.Way.TheVariants.{Reading, Writing}
 use Rattle.f66_tree.specs.Fields.{Fields, NoField, Single, Group}
@@ -15,20 +15,20 @@ use Rattle.f66_tree.specs.Built.{is_par}
 use Rattle.f66_names.specs.Declaring.{context_by}
 use Rattle.f66_names.specs.Shapes as shapes
 use Rattle.f66_names.specs.Shapes.{stands, stand_all, are_arguments, is_named, is_place, is_parameter, is_branch, has_shape}
-use Rattle.f66_names.specs.Sorts.{form_by, name_form, is_array_name, takes}
+use Rattle.f66_names.specs.Sorts.{form_by, name_form, is_array_name, is_dummy, takes}
 use Rattle.f66_names.specs.Kinds as kind_rules
 use Rattle.f66_names.specs.Kinds.{is_listed, clashes}
 use Rattle.f66_names.specs.declared.name_form.Manner.TheVariants.{With, Stored}
 use Rattle.f66_names.specs.Uses.{usage, many, uses_of, uses_of_all, uses_of_target, uses_of_par, uses_of_entry, uses_of_entries, uses_in}
 use Rattle.f66_names.specs.NameRules.{has_many_sizes, has_wrong_sizes, miscounts}
-use Rattle.f66_names.specs.StoreRules.{is_bad_size, has_bad_size, has_bad_constant, is_between, is_fit_edit, are_fit, is_assignable, stores_item, stores_entry, store_entries, stores_wrong, is_large, has_bad_format, has_large_array}
+use Rattle.f66_names.specs.StoreRules.{has_bad_size, has_bad_constant, is_between, is_fit_edit, are_fit, is_assignable, stores_item, stores_entry, store_entries, stores_wrong, is_large, has_bad_format, has_large_array}
 use Rattle.f66_names.specs.BuiltActs.{is_built_form}
 use Rattle.f66_soundness.specs.SoundUnits.{acts_in_unit, IsSoundMain}
 use Rattle.f66_soundness.proofs.RightlyLemmas.{if_both}
 use Rattle.f66_soundness.proofs.KindLemmas.{none_of_both}
-use Rattle.f66_soundness.proofs.ValueLemmas.{FitCounts}
+use Rattle.f66_soundness.proofs.ValueLemmas.{is_unfit, FitSizes, FitCounts}
 use Rattle.f66_soundness.proofs.StatementLemmas.{stored_takes}
-use Rattle.f66_soundness.proofs.SoundLemmas.{sizes_same}
+use Rattle.f66_soundness.proofs.SoundLemmas.{sized_fit, sizes_same}
 use Rattle.f66_check.specs.Answers.{IsSound}
 use Rattle.f66_check.proofs.SoundLemmas.{sound_main}
 use Rattle.unit_walk.specs.Walked.{are_few, is_count, are_pars, are_dimensions, are_declared, is_size, are_sizes, is_shallow, is_formula, are_formulas, is_entry, are_entries, is_plain, is_walked, are_walked, is_walked_unit}
@@ -41,7 +41,7 @@ pub record Fits (c : Context) (a : Act) : Type 0 where
   pub counts : FitCounts c (uses_in a)
   pub sizes : has_wrong_sizes a ≡ false
   pub places : has_large_array a ≡ false
-  pub constants : has_bad_constant a ≡ false
+  pub constants : has_bad_constant c a ≡ false
   pub format : has_bad_format a ≡ false
   pub stores : stores_wrong c a ≡ false
   pub built : is_built_form a ≡ true
@@ -94,26 +94,26 @@ pars_walked : (ns : List Par) → list_all is_parameter ns ≡ true → are_pars
 pars_walked [] h = refl
 pars_walked (n ∷ ns) h = let p = and_parts (is_parameter n) _ h in and_from _ _ (par_walked n p.0) (pars_walked ns p.1)
 
-size_walked : (n : Par) → is_bad_size n ≡ false → is_size n ≡ true
+size_walked : (n : Par) → is_unfit n ≡ false → is_size n ≡ true
 size_walked (Constant (pos zero)) h = cc h
 size_walked (Constant (pos (suc n))) h = le-leb 1 (suc n) (omega arith)
 size_walked (Constant (negsuc n)) h = cc h
 size_walked (Named x) h = cc h
 
-sizes_walked : (ns : List Par) → list_any is_bad_size ns ≡ false → are_sizes ns ≡ true
+sizes_walked : (ns : List Par) → FitSizes ns → are_sizes ns ≡ true
 sizes_walked [] h = refl
-sizes_walked (n ∷ ns) h = let p = or_parts (is_bad_size n) _ h in and_from _ _ (size_walked n p.0) (sizes_walked ns p.1)
+sizes_walked (n ∷ ns) h = let p = or_parts (is_unfit n) _ h in and_from _ _ (size_walked n p.0) (sizes_walked ns p.1)
 
-declared_walked : (ds : List Declared) → list_all shapes.is_declared ds ≡ true → list_any has_many_sizes ds ≡ false → list_any is_large ds ≡ false → list_any has_bad_size ds ≡ false → are_declared ds ≡ true
-declared_walked [] h i j k = refl
-declared_walked (d ∷ ds) h i j k =
+declared_walked : (c : Context) → ((y : Text) → is_dummy c y ≡ false) → (ds : List Declared) → list_all shapes.is_declared ds ≡ true → list_any has_many_sizes ds ≡ false → list_any is_large ds ≡ false → list_any (has_bad_size c) ds ≡ false → are_declared ds ≡ true
+declared_walked c own [] h i j k = refl
+declared_walked c own (d ∷ ds) h i j k =
     let p = and_parts (shapes.is_declared d) _ h in
     let q = or_parts (has_many_sizes d) _ i in
     let r = or_parts (is_large d) _ j in
-    let t = or_parts (has_bad_size d) _ k in
+    let t = or_parts (has_bad_size c d) _ k in
     and_from (are_dimensions d.sizes) _
-    (and_from _ _ (pars_walked d.sizes (and_parts _ _ p.0).1) (and_from _ _ (sizes_walked d.sizes t.0) (and_from _ _ (not_above 3 (length d.sizes) q.0) (not_above 32767 (places_of d.sizes) r.0))))
-    (declared_walked ds p.1 q.1 r.1 t.1)
+    (and_from _ _ (pars_walked d.sizes (and_parts _ _ p.0).1) (and_from _ _ (sizes_walked d.sizes (sized_fit c d.name (own d.name) d.sizes t.0)) (and_from _ _ (not_above 3 (length d.sizes) q.0) (not_above 32767 (places_of d.sizes) r.0))))
+    (declared_walked c own ds p.1 q.1 r.1 t.1)
 
 some_declared : (ds : List Declared) → shapes.are_declared ds ≡ true → list_all shapes.is_declared ds ≡ true
 some_declared [] h = refl
@@ -183,7 +183,7 @@ branch_fits c _ h shape kinds counts stores built = record { shape = shape; kind
 
 -- ---- statements ----
 
-module _ (c : Context) (notes : List Note) (sorts : (x : Text) → sort_of c x ≡ array_or (sizes_of x notes) x) (few : (x : Text) → AreFew (sizes_of x notes)) where
+module _ (c : Context) (own : (y : Text) → is_dummy c y ≡ false) (notes : List Note) (sorts : (x : Text) → sort_of c x ≡ array_or (sizes_of x notes) x) (few : (x : Text) → AreFew (sizes_of x notes)) where
   takes_walked : (x : Text) (es : Formulas) → takes (name_form c x) (many es) ≡ true → is_count (array_or (sizes_of x notes) x) es ≡ true
   takes_walked x es h = counted (array_or (sizes_of x notes) x) (array_few (sizes_of x notes) x (few x)) es (subst (λ o. takes (form_by o) (many es) ≡ true) (sorts x) h)
 
@@ -276,8 +276,8 @@ module _ (c : Context) (notes : List Note) (sorts : (x : Text) → sort_of c x �
       let q = and_parts (kind_rules.is_counting c u) _ (not-false _ f.kinds) in
       and_from _ _ (par_walked u p.0) (entries_walked Writing es p.1 q.1 (not-false _ f.stores) (none_of_both (miscounts c) (uses_of_par u) _ f.counts).1)
   plain_walked (Format fs) h f = format_walked 2 fs (not-false _ f.format)
-  plain_walked (Typed t ds) h f = declared_walked ds (some_declared ds f.shape) f.sizes f.places f.constants
-  plain_walked (Dimension ds) h f = declared_walked ds (some_declared ds f.shape) (dimensions_few ds f.sizes) f.places f.constants
+  plain_walked (Typed t ds) h f = declared_walked c own ds (some_declared ds f.shape) f.sizes f.places f.constants
+  plain_walked (Dimension ds) h f = declared_walked c own ds (some_declared ds f.shape) (dimensions_few ds f.sizes) f.places f.constants
   plain_walked (Common areas) h f = f.built
   plain_walked (Equivalence es) h f = f.built
   plain_walked (Preset ps) h f = f.built
@@ -322,7 +322,7 @@ act_fits c code h i a e =
       kinds = h.clean i a e TypeClash;
       counts = counts.1;
       sizes = counts.0;
-      places = h.clean i a e Limit;
+      places = h.clean i a e LargeArray;
       constants = h.clean i a e BadConstant;
       format = h.clean i a e BadFormat;
       stores = h.clean i a e NotAssignable;
@@ -333,10 +333,10 @@ all_fit : (c : Context) (code : List Line) → ((i : ℕ) (a : Act) → slice_ge
 all_fit c [] h = tt
 all_fit c (s ∷ rest) h = (h zero s.act refl, all_fit c rest (λ i a e. h (suc i) a e))
 
-main_walked : (c : Context) (code : List Line) → ((x : Text) → sizes_of x c.notes ≡ sizes_of x (notes_of code)) → IsSoundMain c code → is_walked_unit code ≡ true
-main_walked c code same h =
+main_walked : (c : Context) → ((y : Text) → is_dummy c y ≡ false) → (code : List Line) → ((x : Text) → sizes_of x c.notes ≡ sizes_of x (notes_of code)) → IsSoundMain c code → is_walked_unit code ≡ true
+main_walked c own code same h =
     let fit = all_fit c code (act_fits c code h) in
-    lines_walked c (notes_of code) (λ x. ap (λ ns. array_or ns x) (same x)) (λ x. sizes_few c x code fit) code fit
+    lines_walked c own (notes_of code) (λ x. ap (λ ns. array_or ns x) (same x)) (λ x. sizes_few c x code fit) code fit
 
 pub sound_is_walked : (u : Routine) → IsSound u → is_walked_unit u.lines ≡ true
-sound_is_walked u sound = main_walked (context_by MainUnit (acts_in_unit u.lines)) u.lines (λ x. sizes_same x u.lines) (sound_main u sound)
+sound_is_walked u sound = main_walked (context_by MainUnit (acts_in_unit u.lines)) (λ y. refl) u.lines (λ x. sizes_same x u.lines) (sound_main u sound)

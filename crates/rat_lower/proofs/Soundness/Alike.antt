@@ -1,27 +1,28 @@
 -- Where names have the same forms and types in two units, a statement breaks the same rules of names there, and is built alike.
 use Rattle.std.proofs.Common.{◌≡◌, ℕ, Bool, false, List, [], ◌∷◌, ◌++◌, refl, ap, ◌∙◌}
 use Rattle.std.specs.Prelude.{not, ◌&&◌, ◌||◌}
-use Rattle.std.specs.List.{list_any}
+use Rattle.std.specs.List.{list_any, flat_map}
+use Rattle.std.specs.Str.{bytes_eq}
 use Rattle.ground.specs.declared.value.Kind.{Kind}
 use Rattle.ground.specs.declared.value.Kind.TheVariants.{Integer, Logical}
 use Rattle.rule_table.specs.declared.rule.Rule.{Rule}
-use Rattle.rule_table.specs.declared.rule.Rule.TheVariants.{Syntax, NameTooLong, OutOfProfileType, TypeClash, WrongCount, DuplicateName, BadConstant, BadFormat, NotAssignable, Limit}
-use Rattle.rule_table.specs.Words.{is_some_and}
+use Rattle.rule_table.specs.declared.rule.Rule.TheVariants.{Syntax, NameTooLong, OutOfProfileType, TypeClash, WrongCount, DuplicateName, BadConstant, BadFormat, NotAssignable, LargeArray}
 use Rattle.f66_tree.specs.declared.editing.Way.{Way}
 use Rattle.f66_tree.specs.declared.editing.Way.TheVariants.{Reading, Writing}
-use Rattle.f66_tree.specs.Syntax.{Text, Formula, Int, Truth, Letter, Ref, Item, Group, Plus, Minus, Not, Pair, Formulas, NoFormula, AndFormula, Par, Constant, Named, Declared, Entry, One, Many, Entries, NoEntry, AndEntry, Act, Assign, Computed, Sign, When, Loop, Read, Write}
-use Rattle.f66_tree.specs.Units.{Context, kind_by, kind_of}
+use Rattle.f66_tree.specs.Syntax.{Text, Formula, Int, Truth, Letter, Ref, Item, Group, Plus, Minus, Not, Pair, Formulas, NoFormula, AndFormula, Par, Constant, Named, Declared, Entry, One, Many, Entries, NoEntry, AndEntry, Act, Assign, Computed, Sign, When, Loop, Read, Write, Typed, Dimension}
+use Rattle.f66_tree.specs.Units.{Context, dummies_of, kind_by, kind_of}
 use Rattle.f66_names.specs.Declaring.{declared_in}
-use Rattle.f66_names.specs.Sorts.{name_form, type_of, is_array_form, is_array_name, is_integer, is_counter}
-use Rattle.f66_names.specs.Uses.{Usage, uses_of, uses_of_all, uses_of_target, uses_of_par, uses_of_counting, uses_of_entry, uses_of_entries, uses_in}
-use Rattle.f66_names.specs.Kinds.{is_number, is_index, is_times, is_plus_or_minus, is_multiple, is_shifted, is_subscript, are_subscripts, same_kind, is_kind, operand, outcome, when, kind_applied, kind_in, are_integers, takes_kind, is_counting, is_listed, counts, is_entry, are_entries, clashes}
-use Rattle.f66_names.specs.StoreRules.{is_assignable, stores_item, stores_entry, store_entries, stores_wrong}
-use Rattle.f66_names.specs.NameRules.{is_other, gives_other, has_other_type, has_wrong_sizes, miscounts_by, miscounts, has_wrong_count, class_by, class_used, is_duplicate}
+use Rattle.f66_names.specs.Sorts.{name_form, type_of, is_other, is_foreign, is_real_by_letter, is_dummy, is_array_form, is_array_name, is_integer, is_counter}
+use Rattle.f66_names.specs.Uses.{Usage, uses_of, uses_of_all, uses_of_target, uses_of_par, uses_of_sizes, uses_of_counting, uses_of_entry, uses_of_entries, uses_in}
+use Rattle.f66_names.specs.Kinds.{is_number, is_index, is_times, is_plus_or_minus, is_multiple, is_shifted, is_subscript, are_subscripts, same_kind, may_be, operand, outcome, applied, fits, are_integers, takes_kind, assigns, is_counting, is_listed, counts, is_entry, are_entries, clashes}
+use Rattle.f66_names.specs.StoreRules.{is_bad_size, has_bad_size, has_bad_constant, is_assignable, stores_item, stores_entry, store_entries, stores_wrong}
+use Rattle.f66_names.specs.NameRules.{gives_other, has_other_type, has_wrong_sizes, miscounts_by, miscounts, has_wrong_count, class_by, class_used, is_duplicate}
 use Rattle.f66_names.specs.BuiltActs.{is_function_by, is_function, is_built_form, is_built}
 use Rattle.f66_names.specs.Rules.{breaks_name}
 use Rattle.rat_lower.proofs.Accepted.ActNames.{AllUsed, AllDeclared, used_split}
 
-module _ (c d : Context) (K : Text → Type 0) (forms : (x : Text) → K x → name_form d x ≡ name_form c x) (types : (x : Text) → K x → type_of d x ≡ type_of c x) where
+module _ (c d : Context) (K : Text → Type 0) (forms : (x : Text) → K x → name_form d x ≡ name_form c x) (types : (x : Text) → K x → type_of d x ≡ type_of c x)
+    (foreign : (x : Text) → K x → is_foreign d x ≡ is_foreign c x) (header : d.header ≡ c.header) where
   -- ---- names ----
 
   kinds : (x : Text) → K x → kind_of d x ≡ kind_of c x
@@ -32,6 +33,15 @@ module _ (c d : Context) (K : Text → Type 0) (forms : (x : Text) → K x → n
 
   counters : (x : Text) → K x → is_counter d x ≡ is_counter c x
   counters x k = ap (λ b. not b && is_integer (kind_of d x)) (arrays x k) ∙ ap (λ t. not (is_array_name c x) && is_integer t) (kinds x k)
+
+  may : (x : Text) → K x → (t : Kind) → may_be d x t ≡ may_be c x t
+  may x k t = ap (λ s. same_kind s t || is_foreign d x) (kinds x k) ∙ ap (λ b. same_kind (kind_of c x) t || b) (foreign x k)
+
+  letters : (x : Text) → K x → is_real_by_letter d x ≡ is_real_by_letter c x
+  letters x k = ap (λ t. is_other t && not (is_foreign d x)) (types x k) ∙ ap (λ b. is_other (type_of c x) && not b) (foreign x k)
+
+  dummies : (x : Text) → is_dummy d x ≡ is_dummy c x
+  dummies x = ap (λ h. list_any (bytes_eq x) (dummies_of h)) header
 
   miscounted : (u : Usage) → K u.name → miscounts d u ≡ miscounts c u
   miscounted u k = ap (λ f. miscounts_by f u.manner) (forms u.name k)
@@ -75,40 +85,46 @@ module _ (c d : Context) (K : Text → Type 0) (forms : (x : Text) → K x → n
       ap (λ v. v && are_subscripts d es) (subscript e k.0) ∙ ap (λ v. is_subscript c e && v) (subscripts es k.1)
 
   mutual
-    kinded : (e : Formula) → AllUsed K (uses_of e) → kind_in d e ≡ kind_in c e
-    kinded (Int z) h = refl
-    kinded (Truth b) h = refl
-    kinded (Letter l) h = refl
-    kinded (Ref x) h = ap (λ b. when (not b) (kind_of d x)) (arrays x h.0) ∙ ap (λ t. when (not (is_array_name c x)) t) (kinds x h.0)
-    kinded (Item x es) h =
-        ap (λ f. kind_applied f (kind_of d x) (are_subscripts d es) (are_integers d es)) (forms x h.0)
-        ∙ ap (λ t. kind_applied (name_form c x) t (are_subscripts d es) (are_integers d es)) (kinds x h.0)
-        ∙ ap (λ b. kind_applied (name_form c x) (kind_of c x) b (are_integers d es)) (subscripts es h.1)
-        ∙ ap (λ b. kind_applied (name_form c x) (kind_of c x) (are_subscripts c es) b) (integers es h.1)
-    kinded (Group a) h = kinded a h
-    kinded (Plus a) h = ap (λ o. when (is_kind Integer o) Integer) (kinded a h)
-    kinded (Minus a) h = ap (λ o. when (is_kind Integer o) Integer) (kinded a h)
-    kinded (Not a) h = ap (λ o. when (is_kind Logical o) Logical) (kinded a h)
-    kinded (Pair op a b) h =
+    fitted : (e : Formula) → AllUsed K (uses_of e) → (t : Kind) → fits d e t ≡ fits c e t
+    fitted (Int z) h t = refl
+    fitted (Truth b) h t = refl
+    fitted (Letter l) h t = refl
+    fitted (Ref x) h t = ap (λ b. not b && may_be d x t) (arrays x h.0) ∙ ap (λ b. not (is_array_name c x) && b) (may x h.0 t)
+    fitted (Item x es) h t =
+        ap (λ f. applied f (are_subscripts d es && may_be d x t) (is_integer (kind_of d x) && are_integers d es && same_kind Integer t)) (forms x h.0)
+        ∙ ap (λ b. applied (name_form c x) (b && may_be d x t) (is_integer (kind_of d x) && are_integers d es && same_kind Integer t)) (subscripts es h.1)
+        ∙ ap (λ b. applied (name_form c x) (are_subscripts c es && b) (is_integer (kind_of d x) && are_integers d es && same_kind Integer t)) (may x h.0 t)
+        ∙ ap (λ s. applied (name_form c x) (are_subscripts c es && may_be c x t) (is_integer s && are_integers d es && same_kind Integer t)) (kinds x h.0)
+        ∙ ap (λ b. applied (name_form c x) (are_subscripts c es && may_be c x t) (is_integer (kind_of c x) && b && same_kind Integer t)) (integers es h.1)
+    fitted (Group a) h t = fitted a h t
+    fitted (Plus a) h t = ap (λ b. same_kind Integer t && b) (fitted a h Integer)
+    fitted (Minus a) h t = ap (λ b. same_kind Integer t && b) (fitted a h Integer)
+    fitted (Not a) h t = ap (λ b. same_kind Logical t && b) (fitted a h Logical)
+    fitted (Pair op a b) h t =
         let k = used_split K (uses_of a) (uses_of b) h in
-        ap (λ o. when (is_kind (operand op) o && is_kind (operand op) (kind_in d b)) (outcome op)) (kinded a k.0)
-        ∙ ap (λ o. when (is_kind (operand op) (kind_in c a) && is_kind (operand op) o) (outcome op)) (kinded b k.1)
+        ap (λ p. same_kind (outcome op) t && (p && fits d b (operand op))) (fitted a k.0 (operand op))
+        ∙ ap (λ p. same_kind (outcome op) t && (fits c a (operand op) && p)) (fitted b k.1 (operand op))
 
     integers : (es : Formulas) → AllUsed K (uses_of_all es) → are_integers d es ≡ are_integers c es
     integers NoFormula h = refl
     integers (AndFormula e es) h =
         let k = used_split K (uses_of e) (uses_of_all es) h in
-        ap (λ o. is_kind Integer o && are_integers d es) (kinded e k.0) ∙ ap (λ b. is_kind Integer (kind_in c e) && b) (integers es k.1)
+        ap (λ b. b && are_integers d es) (fitted e k.0 Integer) ∙ ap (λ b. fits c e Integer && b) (integers es k.1)
 
   -- ---- statements ----
 
   taken : (x : Formula) → AllUsed K (uses_of_target x) → (t : Kind) → takes_kind d x t ≡ takes_kind c x t
-  taken (Ref x) h t = ap (λ b. b || same_kind (kind_of d x) t) (arrays x h.0) ∙ ap (λ q. is_array_name c x || same_kind q t) (kinds x h.0)
+  taken (Ref x) h t = ap (λ b. b || may_be d x t) (arrays x h.0) ∙ ap (λ b. is_array_name c x || b) (may x h.0 t)
   taken (Item x es) h t =
-      ap (λ b. not b || (are_subscripts d es && same_kind (kind_of d x) t)) (arrays x h.0)
-      ∙ ap (λ b. not (is_array_name c x) || (b && same_kind (kind_of d x) t)) (subscripts es h.1)
-      ∙ ap (λ q. not (is_array_name c x) || (are_subscripts c es && same_kind q t)) (kinds x h.0)
+      ap (λ b. not b || (are_subscripts d es && may_be d x t)) (arrays x h.0)
+      ∙ ap (λ b. not (is_array_name c x) || (b && may_be d x t)) (subscripts es h.1)
+      ∙ ap (λ b. not (is_array_name c x) || (are_subscripts c es && b)) (may x h.0 t)
   taken _ h t = refl
+
+  assigned_kind : (x e : Formula) → AllUsed K (uses_of_target x ++ uses_of e) → (t : Kind) → assigns d x e t ≡ assigns c x e t
+  assigned_kind x e h t =
+      let k = used_split K (uses_of_target x) (uses_of e) h in
+      ap (λ b. b && fits d e t) (taken x k.0 t) ∙ ap (λ b. takes_kind c x t && b) (fitted e k.1 t)
 
   counting : (p : Par) → AllUsed K (uses_of_par p) → is_counting d p ≡ is_counting c p
   counting (Constant z) h = refl
@@ -149,13 +165,12 @@ module _ (c d : Context) (K : Text → Type 0) (forms : (x : Text) → K x → n
 
   clashed : (a : Act) → AllUsed K (uses_in a) → clashes d a ≡ clashes c a
   clashed (Assign x e) h =
-      let k = used_split K (uses_of_target x) (uses_of e) h in
-      ap (λ o. not (is_some_and (takes_kind d x) o)) (kinded e k.1) ∙ ap (λ (f : Kind → Bool). not (is_some_and f (kind_in c e))) (λ i t. taken x k.0 t i)
+      ap (λ b. not (b || assigns d x e Logical)) (assigned_kind x e h Integer) ∙ ap (λ b. not (assigns c x e Integer || b)) (assigned_kind x e h Logical)
   clashed (Computed ls x) h = ap not (counters x h.0)
-  clashed (Sign e l m n) h = ap (λ o. not (is_kind Integer o)) (kinded e h)
+  clashed (Sign e l m n) h = ap not (fitted e h Integer)
   clashed (When e a) h =
       let k = used_split K (uses_of e) (uses_in a) h in
-      ap (λ o. not (is_kind Logical o) || clashes d a) (kinded e k.0) ∙ ap (λ b. not (is_kind Logical (kind_in c e)) || b) (clashed a k.1)
+      ap (λ b. not b || clashes d a) (fitted e k.0 Logical) ∙ ap (λ b. not (fits c e Logical) || b) (clashed a k.1)
   clashed (Loop l x p q r) h = ap not (counted x p q r h)
   clashed (Read u l es) h = transferred Reading u es h
   clashed (Write u l es) h = transferred Writing u es h
@@ -194,11 +209,31 @@ module _ (c d : Context) (K : Text → Type 0) (forms : (x : Text) → K x → n
 
   typed : (a : Act) → AllUsed K (uses_in a) → AllDeclared K (declared_in a) → has_other_type d a ≡ has_other_type c a
   typed a h k =
-      ap (λ b. gives_other a || (b || list_any (λ (u : Usage). is_other (type_of d u.name)) (uses_in a))) (any_declared (λ x. is_other (type_of d x.name)) (λ x. is_other (type_of c x.name)) (λ x e. ap is_other (types x.name e)) (declared_in a) k)
-      ∙ ap (λ b. gives_other a || (list_any (λ (x : Declared). is_other (type_of c x.name)) (declared_in a) || b)) (any_use (λ u. is_other (type_of d u.name)) (λ u. is_other (type_of c u.name)) (λ u e. ap is_other (types u.name e)) (uses_in a) h)
+      ap (λ b. gives_other a || (b || list_any (λ (u : Usage). is_real_by_letter d u.name) (uses_in a))) (any_declared (λ x. is_real_by_letter d x.name) (λ x. is_real_by_letter c x.name) (λ x e. letters x.name e) (declared_in a) k)
+      ∙ ap (λ b. gives_other a || (list_any (λ (x : Declared). is_real_by_letter c x.name) (declared_in a) || b)) (any_use (λ u. is_real_by_letter d u.name) (λ u. is_real_by_letter c u.name) (λ u e. letters u.name e) (uses_in a) h)
 
   measured : (a : Act) → AllUsed K (uses_in a) → has_wrong_count d a ≡ has_wrong_count c a
   measured a h = ap (λ b. has_wrong_sizes a || b) (any_use (miscounts d) (miscounts c) miscounted (uses_in a) h)
+
+  unfit : (x : Text) (ns : List Par) → AllUsed K (flat_map uses_of_par ns) → list_any (is_bad_size d x) ns ≡ list_any (is_bad_size c x) ns
+  unfit x [] h = refl
+  unfit x (Constant z ∷ ns) h = ap (λ b. is_bad_size c x (Constant z) || b) (unfit x ns h)
+  unfit x (Named n ∷ ns) h =
+      ap (λ b. not (b && (is_dummy d n && is_counter d n)) || list_any (is_bad_size d x) ns) (dummies x)
+      ∙ ap (λ b. not (is_dummy c x && (b && is_counter d n)) || list_any (is_bad_size d x) ns) (dummies n)
+      ∙ ap (λ b. not (is_dummy c x && (is_dummy c n && b)) || list_any (is_bad_size d x) ns) (counters n h.0)
+      ∙ ap (λ b. is_bad_size c x (Named n) || b) (unfit x ns h.1)
+
+  sized : (ds : List Declared) → AllUsed K (uses_of_sizes ds) → list_any (has_bad_size d) ds ≡ list_any (has_bad_size c) ds
+  sized [] h = refl
+  sized (x ∷ ds) h =
+      let k = used_split K (flat_map uses_of_par x.sizes) (uses_of_sizes ds) h in
+      ap (λ b. b || list_any (has_bad_size d) ds) (unfit x.name x.sizes k.0) ∙ ap (λ b. has_bad_size c x || b) (sized ds k.1)
+
+  constants : (a : Act) → AllUsed K (uses_in a) → has_bad_constant d a ≡ has_bad_constant c a
+  constants (Typed t ds) h = sized ds h
+  constants (Dimension ds) h = sized ds h
+  constants _ h = refl
 
   -- what breaks no rule breaks none in the other unit, where it declares nothing again and uses each name in its class
   pub clean_alike : (acts said : List Act) (i j : ℕ) (a : Act) → AllUsed K (uses_in a) → AllDeclared K (declared_in a) → ((k : Rule) → breaks_name c said i a k ≡ false) → is_duplicate d acts j a ≡ false →
@@ -209,10 +244,10 @@ module _ (c d : Context) (K : Text → Type 0) (forms : (x : Text) → K x → n
   clean_alike acts said i j a h g clean once TypeClash = clashed a h ∙ clean TypeClash
   clean_alike acts said i j a h g clean once WrongCount = measured a h ∙ clean WrongCount
   clean_alike acts said i j a h g clean once DuplicateName = once
-  clean_alike acts said i j a h g clean once BadConstant = clean BadConstant
+  clean_alike acts said i j a h g clean once BadConstant = constants a h ∙ clean BadConstant
   clean_alike acts said i j a h g clean once BadFormat = clean BadFormat
   clean_alike acts said i j a h g clean once NotAssignable = stored a h ∙ clean NotAssignable
-  clean_alike acts said i j a h g clean once Limit = clean Limit
+  clean_alike acts said i j a h g clean once LargeArray = clean LargeArray
   clean_alike acts said i j a h g clean once _ = refl
 
   -- ---- what is built ----

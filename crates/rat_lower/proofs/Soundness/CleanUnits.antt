@@ -1,6 +1,6 @@
 -- The unit that a main unit without a fault becomes is sound: what its source says is built and breaks no rule of names in it.
 use Rattle.std.proofs.Common.{◌≡◌, ◌≢◌, ℕ, zero, suc, ◌+◌, ◌<◌, ◌%◌, ◌/◌, Bool, true, false, true≢false, List, [], ◌∷◌, ◌++◌, length, inl, inr, Option, Some, None, refl, sym, ap, ◌∙◌, subst, arith}
-use Rattle.std.specs.Prelude.{◌&&◌, ◌||◌, map, nat_le, if◌then◌else◌}
+use Rattle.std.specs.Prelude.{not, ◌&&◌, ◌||◌, map, nat_le, if◌then◌else◌}
 use Rattle.std.specs.List.{slice_get, list_any, flat_map}
 use Rattle.std.specs.Str.{bytes_eq}
 use Rattle.std.proofs.lemmas.Bool.{or_from, or_parts, le-leb}
@@ -9,6 +9,7 @@ use Rattle.ground.specs.declared.place.Place.{Place}
 use Rattle.rule_table.specs.Words.{repeats}
 use Rattle.rule_table.specs.declared.rule.Rule.{Rule}
 use Rattle.rule_table.specs.declared.rule.Rule.TheVariants.{DuplicateName}
+use Rattle.f66_tree.specs.declared.declaration.TypeWord.{TypeWord}
 use Rattle.f66_tree.specs.declared.declaration.TypeWord.TheVariants.{Integer}
 use Rattle.f66_tree.specs.Syntax.{Text, Par, Declared, Act, Typed, Dimension, Common, MainUnit, Line}
 use Rattle.f66_tree.specs.Units.{is_note, Note, Context, notes_of, if_any, sizes_in, sizes_by, sizes_of, type_in, by_letter, kind_by}
@@ -17,11 +18,11 @@ use Rattle.name_alloc.specs.Numbers.{next_number}
 use Rattle.name_alloc.specs.MadeNames.{made_name, unused, keeping_all}
 use Rattle.name_alloc.proofs.KeptNames.{kept_letter}
 use Rattle.f66_names.specs.Shapes.{is_capital, is_digit, is_name}
-use Rattle.f66_names.specs.Sorts.{form_by, name_form, type_of, is_array_form, is_array_name}
+use Rattle.f66_names.specs.Sorts.{form_by, name_form, type_of, is_other, is_foreign, is_array_form, is_array_name}
 use Rattle.f66_names.specs.Declaring.{noted, context_by, typed_in, declared_in, sized_in, types, sizes}
 use Rattle.f66_names.specs.declared.name_form.Manner.TheVariants.{Alone}
 use Rattle.f66_names.specs.Uses.{Usage, usage, uses_in}
-use Rattle.f66_names.specs.NameRules.{is_other, redeclares, misuses}
+use Rattle.f66_names.specs.NameRules.{redeclares, misuses}
 use Rattle.f66_names.specs.BuiltActs.{is_built_form, is_built}
 use Rattle.f66_names.specs.Rules.{breaks_name}
 use Rattle.f66_names.proofs.JumpLemmas.{IsScalar}
@@ -247,9 +248,16 @@ module _ (ss : Commands) (accepted : fault_of_parts (unit_parts ss) ≡ None) (f
   same_sizes true x = either_way (bytes_eq x q) (sizes_of x (noted (acts_in_unit code1))) ∙ ap (sizes_of x) same_notes
   same_sizes false x = ap (sizes_of x) same_notes
 
+  -- with whatever type where none is declared
+  typed_alike : (v : Bool) (unsaid : TypeWord) (x : Text) → K x → type_in x (noted (acts_by v)) unsaid ≡ type_in x (noted said) unsaid
+  typed_alike true unsaid x k = ap (λ b. if b || false then Integer else type_in x (noted (acts_in_unit code1)) unsaid) (never_itself x q k) ∙ ap (λ ns. type_in x ns unsaid) same_notes
+  typed_alike false unsaid x k = ap (λ ns. type_in x ns unsaid) same_notes
+
   same_types : (v : Bool) (x : Text) → K x → type_of (d v) x ≡ type_of c x
-  same_types true x k = ap (λ b. if b || false then Integer else type_in x (noted (acts_in_unit code1)) (by_letter x)) (never_itself x q k) ∙ ap (λ ns. type_in x ns (by_letter x)) same_notes
-  same_types false x k = ap (λ ns. type_in x ns (by_letter x)) same_notes
+  same_types v x k = typed_alike v (by_letter x) x k
+
+  same_foreign : (v : Bool) (x : Text) → K x → is_foreign (d v) x ≡ is_foreign c x
+  same_foreign v x k = ap is_other (typed_alike v Integer x k)
 
   same_forms : (v : Bool) (x : Text) → name_form (d v) x ≡ name_form c x
   same_forms v x = ap (λ ns. form_by (array_or ns x)) (same_sizes v x)
@@ -282,7 +290,7 @@ module _ (ss : Commands) (accepted : fault_of_parts (unit_parts ss) ≡ None) (f
   said_right v =
       uses_more (λ u. (u.name ≢ q) × (misuses c said u ≡ false)) (λ u. misuses (d v) (acts_by v) u ≡ false) (flat_map uses_in said)
       (λ u i h.
-      source_right c (d v) said (acts_by v) q (classed c (d v) K (λ x k. same_forms v x) (same_types v)) (acts_right v) u
+      source_right c (d v) said (acts_by v) q (classed c (d v) K (λ x k. same_forms v x) (same_types v) (same_foreign v) refl) (acts_right v) u
       (λ f none. use_there (λ w. f w ≡ None) (flat_map uses_in said) u (back_said (λ w. f w ≡ None) v none) i) h.0 h.1)
       used_right
 
@@ -304,7 +312,7 @@ module _ (ss : Commands) (accepted : fault_of_parts (unit_parts ss) ≡ None) (f
 
   item_clean : (v : Bool) (a : Act) → Item v a → IsCleanAct (d v) (acts_by v) a
   item_clean v a h k =
-      clean_alike c (d v) K (λ x e. same_forms v x) (same_types v) (acts_by v) said h.there.0 0 a h.names.0 h.names.1 h.there.1
+      clean_alike c (d v) K (λ x e. same_forms v x) (same_types v) (same_foreign v) refl (acts_by v) said h.there.0 0 a h.names.0 h.names.1 h.there.1
       (or_from (redeclares (acts_by v) 0 a) _ (first_declared v a h.once) (misused_none (d v) (acts_by v) (uses_in a) h.right)) k
 
   anew_said : Anew [] said
@@ -317,7 +325,7 @@ module _ (ss : Commands) (accepted : fault_of_parts (unit_parts ss) ≡ None) (f
 
   built_said : (v : Bool) → AllOf (IsBuiltAct (d v)) said
   built_said v =
-      of_weaker (IsBuiltAct (d v)) (λ a. (is_built c a ≡ true) × AllUsed K (uses_in a)) said (λ a h. built_alike c (d v) K (λ x k. same_forms v x) (same_types v) a h.1 ∙ h.0)
+      of_weaker (IsBuiltAct (d v)) (λ a. (is_built c a ≡ true) × AllUsed K (uses_in a)) said (λ a h. built_alike c (d v) K (λ x k. same_forms v x) (same_types v) (same_foreign v) refl a h.1 ∙ h.0)
       (of_both (λ a. is_built c a ≡ true) (λ a. AllUsed K (uses_in a)) said (all_built ss accepted) used_others)
 
   -- ---- nothing is declared again ----
@@ -341,8 +349,8 @@ module _ (ss : Commands) (accepted : fault_of_parts (unit_parts ss) ≡ None) (f
   itself : bytes_eq q q ≡ true
   itself = (bytes_eq-Decides q q).1 refl
 
-  typed_integer : type_of (d true) q ≡ Integer
-  typed_integer = ap (λ b. if b || false then Integer else type_in q (noted (acts_in_unit code1)) (by_letter q)) itself
+  typed_integer : (unsaid : TypeWord) → type_in q (noted (acts_by true)) unsaid ≡ Integer
+  typed_integer unsaid = ap (λ b. if b || false then Integer else type_in q (noted (acts_in_unit code1)) unsaid) itself
 
   spare_there : have_switch ss ≡ true → (N : Usage → Type 0) → AllUses N (flat_map uses_in (acts_by true)) → N (usage q Alone)
   spare_there e N h = (store_in (Uses N) made q (uses_back N q) ss 0 [] (stop_unless added last) e (used_lines N code1 h)).1.0
@@ -351,10 +359,11 @@ module _ (ss : Commands) (accepted : fault_of_parts (unit_parts ss) ≡ None) (f
   scalar e = record {
     named = ap (λ l. is_name (made_name l (next_number (keeping_all (names_of ss) unused).numbers))) (kept_letter (names_of ss) unused) ∙ made_is_name (next_number (keeping_all (names_of ss) unused).numbers);
     short = refl;
-    typed = ap is_other typed_integer;
-    kind = ap kind_by typed_integer;
+    typed = ap (λ t. is_other t && not (is_foreign (d true) q)) (typed_integer (by_letter q));
+    own = ap is_other (typed_integer Integer);
+    kind = ap kind_by (typed_integer (by_letter q));
     plain = plain true;
-    used = spare_right c (d true) said (acts_by true) q (classed c (d true) K (λ x k. same_forms true x) (same_types true)) (acts_right true) (plain true) (λ f none. spare_there e (λ w. f w ≡ None) none);
+    used = spare_right c (d true) said (acts_by true) q (classed c (d true) K (λ x k. same_forms true x) (same_types true) (same_foreign true) refl) (acts_right true) (plain true) (λ f none. spare_there e (λ w. f w ≡ None) none);
   }
 
   pub unit_is_sound : (place : Place) → KeepsFlow (unit_code made q first last ss) → IsSound (record { header = MainUnit; lines = unit_code made q first last ss; place = place })

@@ -8,7 +8,7 @@ use Rattle.rule_table.specs.declared.rule.Rule.{Rule}
 use Rattle.rule_table.specs.declared.rule.Rule.TheVariants.{Syntax, BadLabel, DoNesting}
 use Rattle.rule_table.specs.First.{IsClean}
 use Rattle.rule_table.specs.Words.{first_place, last_place, is_some_and, is_below, is_number}
-use Rattle.f66_tree.specs.Syntax.{Act, Loop, Line}
+use Rattle.f66_tree.specs.Syntax.{MainUnit, Act, Loop, Line}
 use Rattle.f66_tree.specs.Units.{is_note}
 use Rattle.f66_tree.specs.Execution.{has_label, from_label}
 use Rattle.f66_flow.specs.Acts.{is_executable, is_transfer, ends_no_range, branches, formats_named}
@@ -178,8 +178,8 @@ none_first (x ∷ rest) e other = by (is_note x.act) refl (first_place Runs rest
 
 -- neither the header nor a statement breaks a rule on order, labels or DO ranges (X3.9-1966, sections 3.4, 7.1.2, 7.2 and 9.1)
 pub record KeepsFlow (lines : List Line) : Type 0 where
-  pub header : (k : Rule) → header_breaks_flow Whole lines k ≡ false
-  pub statements : IsClean (breaks_flow_at Whole lines)
+  pub header : (k : Rule) → header_breaks_flow Whole MainUnit lines k ≡ false
+  pub statements : IsClean (breaks_flow_at Whole MainUnit lines)
 
 -- what is asked of the statements of a unit besides where they lead
 pub record Orderly (code : List Line) : Type 0 where
@@ -377,7 +377,7 @@ module _ (code : List Line) (unique : AreUnique code) (IsEnd : ℕ → Type 0) (
             at true e = and_right _ (not (is_transfer s.act)) (ap not (right.some m s f (ap (slice_get code) (equal m i e) ∙ is)))
             at false e = and_left _ _ (ap (is_number i) f ∙ e)
 
-    rule_kept : (k : Rule) → breaks_flow Whole code i s k ≡ false
+    rule_kept : (k : Rule) → breaks_flow Whole MainUnit code i s k ≡ false
     rule_kept Syntax = or_from (is_late code i s.act) _ (orderly.early i s is) not_last
     rule_kept BadLabel =
         let r = ranges_right s.act lead_here.ending in
@@ -390,14 +390,14 @@ module _ (code : List Line) (unique : AreUnique code) (IsEnd : ℕ → Type 0) (
     rule_kept _ = refl
 
   -- no rule is broken
-  statements_kept : (i : ℕ) (k : Rule) → breaks_flow_at Whole code i k ≡ false
+  statements_kept : (i : ℕ) (k : Rule) → breaks_flow_at Whole MainUnit code i k ≡ false
   statements_kept i k = by (slice_get code i) refl
     where
-      by : (o : Option Line) → slice_get code i ≡ o → is_some_and (λ s. breaks_flow Whole code i s k) o ≡ false
+      by : (o : Option Line) → slice_get code i ≡ o → is_some_and (λ s. breaks_flow Whole MainUnit code i s k) o ≡ false
       by None e = refl
       by (Some s) e = rule_kept i s e k
 
-  header_kept : (k : Rule) → header_breaks_flow Whole code k ≡ false
+  header_kept : (k : Rule) → header_breaks_flow Whole MainUnit code k ≡ false
   header_kept Syntax = by (first_place Runs code) refl
     where
       by : (o : Option ℕ) → first_place Runs code ≡ o → is_none o ≡ false

@@ -6,7 +6,7 @@ use Rattle.std.proofs.lemmas.Bool.{or_from, or_parts, le-ltb}
 use Rattle.std.proofs.lemmas.List.{append-nil}
 use Rattle.ground.specs.declared.place.Place.{Place}
 use Rattle.rule_table.specs.declared.rule.Rule.{Rule}
-use Rattle.rule_table.specs.declared.rule.Rule.TheVariants.{Syntax, NameTooLong, OutOfProfileType, TypeClash, WrongCount, DuplicateName, BadConstant, BadFormat, NotAssignable, Limit}
+use Rattle.rule_table.specs.declared.rule.Rule.TheVariants.{Syntax, NameTooLong, OutOfProfileType, TypeClash, WrongCount, DuplicateName, BadConstant, BadFormat, NotAssignable, LargeArray}
 use Rattle.rule_table.specs.Words.{first_place, is_some_and, is_below}
 use Rattle.f66_tree.specs.Syntax.{Text, MainUnit, Act, Line, Routine}
 use Rattle.f66_tree.specs.Units.{Context}
@@ -65,7 +65,7 @@ module _ (c : Context) (acts : List Act) where
   at_place a i h once BadConstant = h BadConstant
   at_place a i h once BadFormat = h BadFormat
   at_place a i h once NotAssignable = h NotAssignable
-  at_place a i h once Limit = h Limit
+  at_place a i h once LargeArray = h LargeArray
   at_place a i h once _ = refl
 
   -- the first statement is declared by none before it
@@ -148,9 +148,9 @@ module _ (made : ℕ → ℕ) (spare : Text) (first last place : Place) (ss : Co
     line_clean true e once (suc i) s is k = at_place means_here acts s.act (suc i) (said_at (IsCleanAct means_here acts) code1 i s code1_clean is) (once (suc i) s is) k
     line_clean false e once i s is k = at_place means_here acts s.act i (said_at (IsCleanAct means_here acts) code1 i s code1_clean is) (once i s is) k
 
-    kept : (i : ℕ) (o : Option Line) → slice_get lines i ≡ o → (k : Rule) → is_some_and (λ s. breaks_flow Whole lines i s k) o ≡ false → is_some_and (λ s. breaks_line Whole means_here acts lines i s k) o ≡ false
+    kept : (i : ℕ) (o : Option Line) → slice_get lines i ≡ o → (k : Rule) → is_some_and (λ s. breaks_flow Whole MainUnit lines i s k) o ≡ false → is_some_and (λ s. breaks_line Whole means_here acts lines i s k) o ≡ false
     kept i None e k h = refl
-    kept i (Some s) e k h = or_from (breaks_flow Whole lines i s k) _ h (line_clean (have_switch ss) refl anew i s e k)
+    kept i (Some s) e k h = or_from (breaks_flow Whole MainUnit lines i s k) _ h (line_clean (have_switch ss) refl anew i s e k)
 
     pub unit_sound : IsSound unit
     unit_sound = record { built = ap (option_map (λ i. i + 1)) (all_built means_here lines (lines_built (have_switch ss))); clean = part }

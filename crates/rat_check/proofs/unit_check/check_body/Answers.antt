@@ -19,9 +19,9 @@ returns-in-Some-clause-fault c =
     let names = c.in_ok-names.names in
     let said : acts_in names.declarations ≡ said_in vs =
     ap acts_of (c.in_ok-names.ensures.sayings ∙ c.deref-2.ensures.value) ∙ c.in_ok-sayings.ensures ∙ ap (λ ps. said_in (parts_seen ps)) c.deref.ensures.value ∙ ap said_in c.in_ok-parts.ensures in
-    unbuilt_told vs (context_in names.declarations) c.in-Some.place c.fault_at.result (context_told vs names.declarations (ap header_of c.in_ok-names.ensures.header) said)
+    unbuilt_told vs (context_in names.declarations) c.in-Some.place c.fault.result (context_told vs names.declarations (ap header_of c.in_ok-names.ensures.header) said)
     (sym c.in-Some.is ∙ c.in_ok-unbuilt.ensures ∙ ap (λ ps. first_unbuilt_part (context_in names.declarations) (parts_seen ps)) c.deref-3.ensures.value ∙ ap (first_unbuilt_part (context_in names.declarations)) c.in_ok-parts.ensures)
-    c.fault_at.ensures
+    c.fault.ensures
 
 pub check_parts-requires : goal.check_parts-requires
 check_parts-requires c =

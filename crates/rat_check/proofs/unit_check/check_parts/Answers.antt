@@ -28,7 +28,7 @@ returns-in-Some-clause-fault c =
     let rest = parts_seen (drop (l.part-index + 1) c.args.parts.now) in
     sym l.invariant.fault
     ∙ ap (first_broken u (before_of l.before)) (next_part c.args.parts.now l.part-index c.part-item.result c.loop-part-test.true c.part-item.is)
-    ∙ rule_broken u (before_of l.before) (part_of c.part-item.result) rest c.in-Some.kind c.fault_at.result (sym c.in-Some.is ∙ c.in_ok-broken.ensures) c.fault_at.ensures
+    ∙ rule_broken u (before_of l.before) (part_of c.part-item.result) rest c.in-Some.rule c.fault.result (sym c.in-Some.is ∙ c.in_ok-broken.ensures) c.fault.ensures
 
 pub loop-part-preserved : goal.loop-part-preserved
 loop-part-preserved c =
