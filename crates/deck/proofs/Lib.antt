@@ -1,0 +1,2 @@
+-- The lemmas of deck.
+pub mod FrontLemmas
