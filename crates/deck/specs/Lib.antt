@@ -2,3 +2,6 @@
 pub mod Decks
 pub mod LongTexts
 pub mod Fronts
+pub mod Written
+pub mod Endings
+pub mod Readable

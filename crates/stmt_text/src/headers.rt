@@ -1,5 +1,5 @@
 // The texts of headers.
-ghost use Rattle.std.specs.Prelude.{◌≡◌, ◌∷◌, ◌<◌, length, MatchOption};
+ghost use Rattle.std.specs.Prelude.{◌≡◌, ◌∷◌, ◌≤◌, length, IsSome, IfSome, ◌↔◌};
 ghost use Rattle.f66_tree.specs.Syntax.{FuncUnit, SubUnit};
 ghost use Rattle.f66_tree.specs.Views.{header_of};
 ghost use Rattle.stmt_text.specs.Emitting.{Emits};
@@ -12,7 +12,8 @@ use f66_tree::{Header, Name, TypeWord};
 
 /// The text of a header, which is empty for a main, unless it passes twenty cards.
 pub fn header_text(header: &Header) -> Option<StatementText>
-    ensures { MatchOption result (1320 < length (text_of_header (header_of header.now))) (λ text. text.items ≡ text_of_header (header_of header.now)) }
+    ensures fits { IsSome result ↔ (length (text_of_header (header_of header.now)) ≤ 1320) }
+    ensures text { IfSome result (λ text. text.items ≡ text_of_header (header_of header.now)) }
 {
     let mut text = StatementText::new();
     push_header(&mut text, header)?;

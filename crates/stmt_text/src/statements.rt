@@ -1,5 +1,5 @@
 // The texts of statements.
-ghost use Rattle.std.specs.Prelude.{false, ◌≡◌, ◌≤◌, ◌/◌, ◌%◌, ◌+◌, ◌++◌, ◌∷◌, ◌<◌, length, map, MatchOption};
+ghost use Rattle.std.specs.Prelude.{false, ◌≡◌, ◌≤◌, ◌/◌, ◌%◌, ◌+◌, ◌++◌, ◌∷◌, length, map, IsSome, IfSome, ◌↔◌};
 ghost use Rattle.std.specs.Fmt.{digits};
 ghost use Rattle.f66_tree.specs.Syntax.{Assign, Computed, Goto, Invoke, Loop, Sign, Stop};
 ghost use Rattle.f66_tree.specs.Views.{act_of, chained, formula_of, par_of};
@@ -17,7 +17,8 @@ use f66_tree::{Expr, Name, Par, StmtKind};
 
 /// The text of a statement, unless it passes twenty cards.
 pub fn statement_text(kind: &StmtKind) -> Option<StatementText>
-    ensures { MatchOption result (1320 < length (text_of_statement (act_of kind.now))) (λ text. text.items ≡ text_of_statement (act_of kind.now)) }
+    ensures fits { IsSome result ↔ (length (text_of_statement (act_of kind.now)) ≤ 1320) }
+    ensures text { IfSome result (λ text. text.items ≡ text_of_statement (act_of kind.now)) }
 {
     let mut text = StatementText::new();
     push_statement(&mut text, kind)?;
