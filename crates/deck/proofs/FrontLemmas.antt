@@ -1,5 +1,5 @@
 -- What was there is still there.
-use Rattle.std.proofs.Common.{◌≡◌, ℕ, List, ◌++◌, Result, Ok, Err, OnErr, ap, ◌∙◌, append_assoc}
+use Rattle.std.proofs.Common.{ℕ, List, ◌++◌, Result, Ok, Err, OnErr, ap, ◌∙◌, append_assoc}
 use Rattle.deck.specs.Fronts.{Begins}
 
 pub begins_on : (a b c : List ℕ) → Begins a b → Begins b c → Begins a c

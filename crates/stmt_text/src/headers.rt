@@ -17,6 +17,7 @@ pub fn header_text(header: &Header) -> Option<StatementText>
 {
     let mut text = StatementText::new();
     push_header(&mut text, header)?;
+    prove!(text.len() <= 1320);
     Some(text)
 }
 

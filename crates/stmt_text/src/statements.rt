@@ -22,6 +22,7 @@ pub fn statement_text(kind: &StmtKind) -> Option<StatementText>
 {
     let mut text = StatementText::new();
     push_statement(&mut text, kind)?;
+    prove!(text.len() <= 1320);
     Some(text)
 }
 

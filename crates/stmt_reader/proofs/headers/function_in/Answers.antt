@@ -1,5 +1,5 @@
 -- A name with its list.
-use Rattle.std.proofs.Common.{◌≡◌, List, Option, Some, None, map, sym, ap, ◌∙◌}
+use Rattle.std.proofs.Common.{List, Option, Some, None, map, sym, ap, ◌∙◌}
 use Rattle.f66_tree.specs.Syntax.{Text, FuncUnit}
 use Rattle.f66_tree.specs.Views.{chained, formula_of}
 use Rattle.stmt_reader.specs.Acts.{names_if}
