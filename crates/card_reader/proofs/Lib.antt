@@ -1,0 +1,4 @@
+-- The lemmas of card_reader.
+pub mod ColumnLemmas
+pub mod RecordLemmas
+pub mod ReadLemmas

@@ -1,0 +1,19 @@
+-- A name with its list.
+use Rattle.std.proofs.Common.{List, Option, Some, None, map, sym, ap, ◌∙◌}
+use Rattle.f66_tree.specs.Syntax.{Text, FuncUnit}
+use Rattle.f66_tree.specs.Views.{chained, formula_of}
+use Rattle.stmt_reader.specs.Acts.{names_if}
+use Rattle.stmt_reader.specs.Declarations.{names_onto, function_in}
+use Rattle.stmt_reader.specs.Taking.{then_if}
+use Rattle.stmt_reader.proofs.HeaderLemmas.{item_header}
+use Rattle.stmt_reader.proofs.headers.function_in.Goals as goal
+
+pub returns-in-None : goal.returns-in-None
+returns-in-None c =
+    item_header (function_in c.args.word) c.in-Item.name c.args.e c.in-Item.list c.deref.result.now None c.in-Item.is c.deref.ensures.value
+    (ap (λ (o : Option (List Text)). then_if o (λ ds. Some (FuncUnit c.args.word c.in-Item.name ds))) (ap names_if (sym c.in-None.is) ∙ c.in_ok-names_in-in-Item.ensures ∙ ap (λ (b : List Text). names_onto b (chained (map formula_of c.deref.result.now))) c.new.ensures.items))
+
+pub returns-in-Item : goal.returns-in-Item
+returns-in-Item c =
+    item_header (function_in c.args.word) c.in-Item.name c.args.e c.in-Item.list c.deref.result.now (Some (FuncUnit c.args.word c.in-Item.name c.in-Some.dummies.items)) c.in-Item.is c.deref.ensures.value
+    (ap (λ (o : Option (List Text)). then_if o (λ ds. Some (FuncUnit c.args.word c.in-Item.name ds))) (ap names_if (sym c.in-Some.is) ∙ c.in_ok-names_in-in-Item.ensures ∙ ap (λ (b : List Text). names_onto b (chained (map formula_of c.deref.result.now))) c.new.ensures.items))

@@ -1,0 +1,15 @@
+//! The texts of statements and headers, as cards have them.
+#![tactic(auto)]
+
+mod declarations;
+mod entries;
+mod expressions;
+mod formats;
+mod headers;
+mod lists;
+mod statements;
+mod writer;
+
+pub use headers::header_text;
+pub use statements::statement_text;
+pub use writer::StatementText;
