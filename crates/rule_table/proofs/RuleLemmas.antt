@@ -4,7 +4,7 @@ use Rattle.rule_table.proofs.FirstLemmas.{IsIn, IsRising, find_least, first_at, 
 use Rattle.rule_table.specs.First.{IsLeast, IsFirst}
 use Rattle.rule_table.specs.FaultRules.{rules, rule_number, first_rule}
 use Rattle.rule_table.specs.declared.rule.Rule.{Rule}
-use Rattle.rule_table.specs.declared.rule.Rule.TheVariants.{Syntax, NameTooLong, OutOfProfileType, TypeClash, WrongCount, DuplicateName, BadLabel, BadBreak, DuplicateCase, BadConstant, DoNesting, BadFormat, NotAssignable, LargeArray, Unbuilt}
+use Rattle.rule_table.specs.declared.rule.Rule.TheVariants.{Syntax, NameTooLong, OutOfProfileType, TypeClash, WrongCount, DuplicateName, BadLabel, BadBreak, DuplicateCase, BadConstant, DoNesting, BadFormat, NotAssignable, LargeArray, LongText, Unbuilt}
 
 -- each rule is in the list
 pub rules-full : (r : Rule) → IsIn r rules
@@ -22,7 +22,8 @@ rules-full DoNesting = inr (inr (inr (inr (inr (inr (inr (inr (inr (inr (inl ref
 rules-full BadFormat = inr (inr (inr (inr (inr (inr (inr (inr (inr (inr (inr (inl refl)))))))))))
 rules-full NotAssignable = inr (inr (inr (inr (inr (inr (inr (inr (inr (inr (inr (inr (inl refl))))))))))))
 rules-full LargeArray = inr (inr (inr (inr (inr (inr (inr (inr (inr (inr (inr (inr (inr (inl refl)))))))))))))
-rules-full Unbuilt = inr (inr (inr (inr (inr (inr (inr (inr (inr (inr (inr (inr (inr (inr (inl refl))))))))))))))
+rules-full LongText = inr (inr (inr (inr (inr (inr (inr (inr (inr (inr (inr (inr (inr (inr (inl refl))))))))))))))
+rules-full Unbuilt = inr (inr (inr (inr (inr (inr (inr (inr (inr (inr (inr (inr (inr (inr (inr (inl refl)))))))))))))))
 
 pub rules-rise : IsRising rule_number rules
 rules-rise = search (std_rules, arith)

@@ -6,7 +6,7 @@ use Rattle.ground.specs.declared.fault.FaultKind.{FaultKind}
 use Rattle.ground.specs.declared.fault.FaultKind.TheVariants as kinds
 use Rattle.ground.specs.declared.place.Place.{Place}
 use Rattle.rule_table.specs.declared.rule.Rule.{Rule}
-use Rattle.rule_table.specs.declared.rule.Rule.TheVariants.{Syntax, NameTooLong, OutOfProfileType, TypeClash, WrongCount, DuplicateName, BadLabel, BadBreak, DuplicateCase, BadConstant, DoNesting, BadFormat, NotAssignable, LargeArray, Unbuilt}
+use Rattle.rule_table.specs.declared.rule.Rule.TheVariants.{Syntax, NameTooLong, OutOfProfileType, TypeClash, WrongCount, DuplicateName, BadLabel, BadBreak, DuplicateCase, BadConstant, DoNesting, BadFormat, NotAssignable, LargeArray, LongText, Unbuilt}
 
 -- the kind of the fault that a rule tells
 abbrev pub kind_of : Rule → FaultKind
@@ -24,11 +24,13 @@ kind_of DoNesting = kinds.DoNesting
 kind_of BadFormat = kinds.BadFormat
 kind_of NotAssignable = kinds.NotAssignable
 kind_of LargeArray = kinds.Limit
+kind_of LongText = kinds.Limit
 kind_of Unbuilt = kinds.Unbuilt
 
 -- the number of the limit that it tells, or 0 where it is no limit
 abbrev pub limit_of : Rule → ℕ
 limit_of LargeArray = 7
+limit_of LongText = 9
 limit_of _ = 0
 
 -- its place in the order of faults: by the fault's number, and at one number by the limit's, which is below 100
@@ -42,7 +44,7 @@ fault_of place r = record { kind = kind_of r; place = place; number = limit_of r
 -- all rules in that order
 abbrev pub rules : List Rule
 rules =
-    Syntax ∷ NameTooLong ∷ OutOfProfileType ∷ TypeClash ∷ WrongCount ∷ DuplicateName ∷ BadLabel ∷ BadBreak ∷ DuplicateCase ∷ BadConstant ∷ DoNesting ∷ BadFormat ∷ NotAssignable ∷ LargeArray ∷ Unbuilt ∷ []
+    Syntax ∷ NameTooLong ∷ OutOfProfileType ∷ TypeClash ∷ WrongCount ∷ DuplicateName ∷ BadLabel ∷ BadBreak ∷ DuplicateCase ∷ BadConstant ∷ DoNesting ∷ BadFormat ∷ NotAssignable ∷ LargeArray ∷ LongText ∷ Unbuilt ∷ []
 
 -- the first rule that is broken
 abbrev pub first_rule : (Rule → Bool) → Option Rule

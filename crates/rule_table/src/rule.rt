@@ -35,6 +35,8 @@ pub enum Rule {
     NotAssignable,
     /// An array has at most 32,767 places.
     LargeArray,
+    /// The text of a statement fits its cards, and one that the compiler puts an expression into does.
+    LongText,
     /// A form of the language that this version does not compile yet.
     Unbuilt,
 }
@@ -58,7 +60,7 @@ impl Rule {
             Rule::DoNesting => FaultKind::DoNesting,
             Rule::BadFormat => FaultKind::BadFormat,
             Rule::NotAssignable => FaultKind::NotAssignable,
-            Rule::LargeArray => FaultKind::Limit,
+            Rule::LargeArray | Rule::LongText => FaultKind::Limit,
             Rule::Unbuilt => FaultKind::Unbuilt,
         }
     }
@@ -69,6 +71,7 @@ impl Rule {
     {
         match self {
             Rule::LargeArray => 7,
+            Rule::LongText => 9,
             _ => 0,
         }
     }
