@@ -104,11 +104,11 @@ s/\bact_if_any\b/said_if_any/g
 # rat_lower, Around
 s/\bwith_label\b/behind_label/g
 s/\bwith_mark\b/behind_mark/g
-# rat_front, Verdict
+# front, Verdict
 s/\bcounted\b/one_main/g
 s/\bunless\b/or_fault/g
 s/\bname_of\b/file_name/g
-# rat_front, Compiled
+# front, Compiled
 s/\bGives\b/IsAnswered/g
 # macro_define, Expansion
 s/\bWorld\b/GatherState/g

@@ -6,7 +6,7 @@ use free_scan::scan;
 use ground::{Dialect, Fault};
 use macro_define::{Gathered, TextRefusal, gather};
 use ports::FileLibrary;
-use rat_front::{Compiled, compile_text};
+use front::{Compiled, compile_text};
 use rat_parse::parse;
 use std::fs;
 

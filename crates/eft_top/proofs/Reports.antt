@@ -2,13 +2,23 @@
 use Rattle.std.proofs.Common.{◌∙◌, ap, sym, ℕ, Bool, true, false, List, [], ◌∷◌, refl}
 use Rattle.std.specs.Prelude.{Result, Ok, Err, IfOk}
 use Rattle.f66_tree.specs.Views.{routine_of}
-use Rattle.rat_front.specs.Verdict.{Meaning}
-use Rattle.rat_front.specs.Programs.{IsProgramOf}
-use Rattle.rat_front.specs.declared.compile.Compiled.{Compiled}
+use Rattle.front.specs.Checked.{Meaning}
+use Rattle.front.specs.Programs.{IsProgramOf}
+use Rattle.front.specs.Verdict.{Refuses, Becomes}
+use Rattle.front.specs.Compiled.{IsCompiled}
+use Rattle.front.specs.declared.compile.Compiled.{Compiled}
+use Rattle.ground.specs.declared.fault.Fault.{Fault}
+use Rattle.ground.specs.declared.token.Dialect.{Dialect}
+use Rattle.macro_define.specs.Answers.{Known}
+use Rattle.macro_define.specs.Gathered.{HasCause}
+use Rattle.macro_define.specs.declared.refusal.TextRefusal.{TextRefusal}
+use Rattle.macro_define.specs.declared.refusal.TextRefusal.TheVariants as refusals
+use Rattle.eft_top.specs.Words.{Command, Cards}
+use Rattle.eft_top.specs.Story.{CameOf, NotFetched, NoMemory, Shows}
 use Rattle.eft_top.specs.declared.report.Report.{Report}
-use Rattle.eft_top.specs.Input.{Got, is_too_long, records_of}
-use Rattle.eft_top.specs.Outcome.{Outcome, HasLongInput, Runs, RunsIn, RunsOver}
-use Rattle.eft_top.specs.Report.{IsReport, ReportsIn, ReportsOn}
+use Rattle.eft_top.specs.Input.{Got, is_too_long, is_unread, records_of}
+use Rattle.eft_top.specs.Outcome.{Outcome, HasFault, HasLongInput, Runs, RunsIn, RunsOver, IsOutcomeOf}
+use Rattle.eft_top.specs.Report.{IsReport, ReportsIn, ReportsOn, ReportsRefusal}
 
 pub if_ok : {T E : Type 0} {P Q : T → Type 0} → ((t : T) → P t → Q t) → (r : Result T E) → IfOk r P → IfOk r Q
 if_ok by (Ok t) p = by t p
@@ -29,3 +39,20 @@ module _ (report : Report) (compiled : Compiled) (meaning : Meaning) (limit : �
 
   pub told_of : ReportsOn report compiled limit got → (o : Outcome) × RunsOver compiled.files.items meaning limit got o × IsReport report o
   told_of reports = told_by (is_too_long got) reports
+
+-- ---- a refusal ----
+
+-- a command that comes to a text's fault where the text has one
+pub refused_came : (command : Command) (d : Dialect) (file : List ℕ) (files : Option (List ℕ → Option (List ℕ))) (before now : ℕ) (given : Got → Type 0) (refusal : TextRefusal) (report : Report) →
+    ((fault : Fault) (name : List ℕ) (known : Known) → Becomes d file known (Refuses fault name) → IsOutcomeOf command known given (HasFault fault name)) →
+    IsCompiled files d file (Err refusal) → HasCause {B = Compiled} before now (Err refusal) → ReportsRefusal refusal report → CameOf command files before now given report
+refused_came command d file files before now given (refusals.Fault fault name) report comes text cause shows = Shows (HasFault fault name) (text.known, text.of, comes fault name text.known text.gives) cause shows
+refused_came command d file files before now given refusals.Library report comes text cause shows = NotFetched cause shows
+refused_came command d file files before now given refusals.Memory report comes text cause shows = absurd shows
+
+-- a deck does not ask for reads
+pub unread_came : (d : Dialect) (file : List ℕ) (files : Option (List ℕ → Option (List ℕ))) (before now : ℕ) (given : Got → Type 0) (report : Report) →
+    CameOf (Cards d file) files before now is_unread report → CameOf (Cards d file) files before now given report
+unread_came d file files before now given report (NotFetched rose says) = NotFetched rose says
+unread_came d file files before now given report (NoMemory says) = NoMemory says
+unread_came d file files before now given report (Shows o is same shows) = Shows o is same shows

@@ -9,9 +9,11 @@ use Rattle.f66_tree.specs.OneUnit.{one_unit}
 use Rattle.f66_tree.specs.Agreement.{Same}
 use Rattle.f66_tree.specs.Laws.{RunsExtend}
 use Rattle.macro_define.specs.Answers.{Known, Holds}
-use Rattle.rat_front.specs.Verdict.{Meaning, Accepts, Becomes}
-use Rattle.rat_front.specs.Programs.{AreLinked}
-use Rattle.rat_front.proofs.OneVerdict.{one_verdict}
+use Rattle.ground.specs.declared.token.Dialect.{Dialect}
+use Rattle.front.specs.Checked.{Meaning}
+use Rattle.front.specs.Verdict.{Accepts, Becomes}
+use Rattle.front.specs.Programs.{AreLinked}
+use Rattle.front.proofs.OneVerdict.{one_verdict}
 use Rattle.eft_top.specs.declared.status.Status.{Status}
 use Rattle.eft_top.specs.declared.status.Status.TheVariants.{Done, Usage, SourceFault, LibraryFault, InputFault, OutputFault, StepLimit, Memory, Stopped, InputTooLong, Trapped}
 use Rattle.eft_top.specs.Input.{Got, is_too_long, records_of}
@@ -35,7 +37,7 @@ longer extend (unit ∷ []) run linked input a b le =
     subst (λ (r : Meaning). IsPrefix (r input a).records (r input b).records) (sym linked.1) (extend (one_unit (notes_of unit.lines)) (λ u. unit.lines) input a b le).grows
 longer extend (unit ∷ other ∷ units) run linked input a b le = absurd linked
 
-module _ (words : List (List ℕ)) (limit : ℕ) (file : List ℕ) (held : List ℕ → Option (List ℕ)) (files : List (List ℕ)) (meaning : Meaning) (given : Got → Type 0) (result : Status) (out diag : List ℕ → Type 0) where
+module _ (words : List (List ℕ)) (limit : ℕ) (language : Dialect) (file : List ℕ) (held : List ℕ → Option (List ℕ)) (files : List (List ℕ)) (meaning : Meaning) (given : Got → Type 0) (result : Status) (out diag : List ℕ → Type 0) where
   -- ---- from an answer to a run ----
 
   -- a run that the call presents
@@ -57,17 +59,17 @@ module _ (words : List (List ℕ)) (limit : ℕ) (file : List ℕ) (held : List 
     };
   })
 
-  ran_by : (o : Outcome) → (h : IsRunOf words limit file held files meaning given result out diag) → IsOutcomeBy (Run limit file) (Some held) given o → (got : Got) × given got × RunsIn (is_too_long got) files meaning limit got o
+  ran_by : (o : Outcome) → (h : IsRunOf words limit language file held files meaning given result out diag) → IsOutcomeBy (Run limit language file) (Some held) given o → (got : Got) × given got × RunsIn (is_too_long got) files meaning limit got o
   ran_by o h is =
-      let told = subst (λ (k : Known). Becomes file k is.2.0) is.1 is.2.1 in
-      let same = one_verdict file (Holds held) is.2.0 (Accepts files meaning) told h.accepted in
+      let told = subst (λ (k : Known). Becomes language file k is.2.0) is.1 is.2.1 in
+      let same = one_verdict language file (Holds held) is.2.0 (Accepts files meaning) told h.accepted in
       subst (λ v. ComesOf v limit given o) same is.2.2
 
-  ran : IsRunOf words limit file held files meaning given result out diag → IsOfText result → (got : Got) × given got × (((is_too_long got ≡ true) × (result ≡ InputTooLong)) ⊎ Ran got)
+  ran : IsRunOf words limit language file held files meaning given result out diag → IsOfText result → (got : Got) × given got × (((is_too_long got ≡ true) × (result ≡ InputTooLong)) ⊎ Ran got)
   ran h text =
       let shown = h.answer.shown text in
-      let is : IsOutcomeBy (Run limit file) (Some held) given shown.outcome =
-      subst (λ (c : Command). IsOutcomeBy c (Some held) given shown.outcome) (one_command words shown.is.0 (Run limit file) shown.is.1 h.asks) shown.is.2 in
+      let is : IsOutcomeBy (Run limit language file) (Some held) given shown.outcome =
+      subst (λ (c : Command). IsOutcomeBy c (Some held) given shown.outcome) (one_command words shown.is.0 (Run limit language file) shown.is.1 h.asks) shown.is.2 in
       let r = ran_by shown.outcome h is in
       (r.0, r.1, ran_in r.0 shown.outcome (is_too_long r.0) refl r.2 shown.status shown.on_out shown.on_diag)
 
@@ -81,7 +83,7 @@ module _ (words : List (List ℕ)) (limit : ℕ) (file : List ℕ) (held : List 
       by GoesOn e = inr (e, (r.is.program.agrees (records_of got)).going limit e)
       by Lost e = absurd (let lost : Some result ≡ None = r.presents.status ∙ (ap (λ (s : Shown). end_status got.failed s.end) r.is.is ∙ ap (end_status got.failed) e) in cc)
 
-  pub shows_meaning : IsRunOf words limit file held files meaning given result out diag → IsOfText result →
+  pub shows_meaning : IsRunOf words limit language file held files meaning given result out diag → IsOfText result →
       (got : Got) × given got × (((is_too_long got ≡ true) × (result ≡ InputTooLong)) ⊎ ((run : Shown) × IsMeant (meaning (records_of got) limit) run × Presents files limit got.failed run result out diag))
   shows_meaning h text =
       let r = ran h text in
@@ -138,10 +140,10 @@ module _ (words : List (List ℕ)) (limit : ℕ) (file : List ℕ) (held : List 
   which InputTooLong e none = inr (subst IsOfText (sym e) tt)
   which (Trapped trap) e none = inr (subst IsOfText (sym e) tt)
 
-  pub runs_whole : RunsExtend → IsRunOf words limit file held files meaning given result out diag →
+  pub runs_whole : RunsExtend → IsRunOf words limit language file held files meaning given result out diag →
       IsOneOf result (LibraryFault ∷ OutputFault ∷ Memory ∷ [])
       ⊎ ((got : Got) × given got × (is_too_long got ≡ false → MissesNothing (meaning (records_of got)) files limit got.failed result out diag))
-  runs_whole extend h = elim (which result refl (λ e. h.answer.usage.only e (Run limit file) h.asks)) [
+  runs_whole extend h = elim (which result refl (λ e. h.answer.usage.only e (Run limit language file) h.asks)) [
     | inl other ↦ inl other
     | inr text ↦ inr (let r = ran h text in (r.0, r.1, λ short. short_one r.0 short r.2))
   ]
@@ -152,7 +154,7 @@ module _ (words : List (List ℕ)) (limit : ℕ) (file : List ℕ) (held : List 
 
 module _ (given : Got → Type 0) (out diag : List ℕ → Type 0) where
   pub run_shows_meaning : RunShowsMeaning given out diag
-  run_shows_meaning words limit file held files meaning result = shows_meaning words limit file held files meaning given result out diag
+  run_shows_meaning words limit language file held files meaning result = shows_meaning words limit language file held files meaning given result out diag
 
   pub run_misses_nothing : RunsExtend → RunMissesNothing given out diag
-  run_misses_nothing extend words limit file held files meaning result = runs_whole words limit file held files meaning given result out diag extend
+  run_misses_nothing extend words limit language file held files meaning result = runs_whole words limit language file held files meaning given result out diag extend

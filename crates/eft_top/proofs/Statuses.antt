@@ -1,22 +1,22 @@
 -- From what came of a call to the clauses of the top call.
 use Rattle.std.proofs.Common.{◌≡◌, ℕ, Bool, true, false, ◌&&◌, if◌then◌else◌, List, [], ◌∷◌, ◌⊎◌, inl, inr, refl, sym, ◌∙◌, ap, subst, Some, None}
 use Rattle.std.specs.declared.option.Option.{Option}
-use Rattle.ports.specs.Records.{output_bytes}
 use Rattle.ground.specs.declared.trap.Trap.{Trap}
 use Rattle.ground.specs.declared.trap.Trap.TheVariants.{EndOfInput}
 use Rattle.f66_tree.specs.World.{End, Ended, GoesOn, Lost, Done, Stopped, Trapped, Wrong}
 use Rattle.macro_define.specs.Answers.{Known, Holds}
-use Rattle.rat_front.specs.Verdict.{Meaning, Verdict, Refuses, Accepts}
-use Rattle.rat_front.proofs.OneVerdict.{one_verdict}
+use Rattle.front.specs.Checked.{Meaning}
+use Rattle.front.specs.Verdict.{Verdict, Refuses, Accepts}
+use Rattle.front.proofs.OneVerdict.{one_verdict}
 use Rattle.eft_top.specs.declared.status.Status.{Status}
-use Rattle.eft_top.specs.declared.status.Status.TheVariants.{Usage, SourceFault, LibraryFault, InputFault, OutputFault, Memory, Trapped as IsTrapped}
+use Rattle.eft_top.specs.declared.status.Status.TheVariants.{Done as IsDone, Usage, SourceFault, LibraryFault, InputFault, OutputFault, Memory, Trapped as IsTrapped}
 use Rattle.eft_top.specs.declared.report.Report.{Report}
-use Rattle.eft_top.specs.Words.{Command, Run, AskNothing}
+use Rattle.eft_top.specs.Words.{Command, Run, Cards, AskNothing}
 use Rattle.eft_top.specs.Input.{Got, is_too_long}
-use Rattle.eft_top.specs.Outcome.{Outcome, HasFault, HasLongInput, Runs, RunsIn, ComesOf, is_end_of_input, trap_status, IsOutcomeOf, IsOutcomeBy, status_of, end_status}
+use Rattle.eft_top.specs.Outcome.{Outcome, HasFault, HasDeck, HasLongInput, Runs, RunsIn, IsPrinted, ComesOf, is_end_of_input, trap_status, IsOutcomeOf, IsOutcomeBy, status_of, end_status}
 use Rattle.eft_top.specs.Lines.{output_fault_line}
 use Rattle.eft_top.specs.Causes.{IsOneOf, Comes, MayBe, MustBe, Compels, IsOfText, IsShown, IfTold, AnswersCall, WasToShow}
-use Rattle.eft_top.specs.Report.{IsReport, line_bytes}
+use Rattle.eft_top.specs.Report.{IsReport, line_bytes, out_bytes}
 use Rattle.eft_top.specs.Story.{CameOf, NotFetched, NoMemory, Shows, Came, BadWords, Asked}
 
 some_injective : {a b : Status} → Some a ≡ Some b → a ≡ b
@@ -38,6 +38,7 @@ end_of_text failed Lost s e = absurd (let f = e in cc)
 
 outcome_of_text : (o : Outcome) (s : Status) → Some s ≡ status_of o → IsOfText s
 outcome_of_text (HasFault fault file) s e = subst IsOfText (sym (some_injective e)) tt
+outcome_of_text (HasDeck deck) s e = subst IsOfText (sym (some_injective e)) tt
 outcome_of_text HasLongInput s e = subst IsOfText (sym (some_injective e)) tt
 outcome_of_text (Runs files limit failed run) s e = end_of_text failed run.end s e
 
@@ -63,10 +64,20 @@ faulty_of : (verdict : Verdict) (limit : ℕ) (given : Got → Type 0) (one othe
 faulty_of (Refuses fault file) limit given one other h k e = ap status_of h
 faulty_of (Accepts files meaning) limit given one other h k e = absurd (no_run_over_is_faulty files meaning limit k.0 other (is_too_long k.0) k.2 e)
 
+no_deck_is_faulty : (deck : List ℕ) (o : Outcome) → o ≡ HasDeck deck → status_of o ≡ Some SourceFault → ⊥
+no_deck_is_faulty deck o is e = let f = ap status_of (sym is) ∙ e in cc
+
+faulty_print : (verdict : Verdict) (one other : Outcome) → IsPrinted verdict one → IsPrinted verdict other → status_of other ≡ Some SourceFault → status_of one ≡ Some SourceFault
+faulty_print (Refuses fault file) one other h k e = ap status_of h
+faulty_print (Accepts files meaning) one other h k e = absurd (no_deck_is_faulty k.0 other k.2 e)
+
 faulty_too : (command : Command) (known : Known) (given : Got → Type 0) (one other : Outcome) → IsOutcomeOf command known given one → IsOutcomeOf command known given other → status_of other ≡ Some SourceFault → status_of one ≡ Some SourceFault
-faulty_too (Run limit file) known given one other h k e =
-    let same : k.0 ≡ h.0 = one_verdict file known k.0 h.0 k.1 h.1 in
+faulty_too (Run limit language file) known given one other h k e =
+    let same : k.0 ≡ h.0 = one_verdict language file known k.0 h.0 k.1 h.1 in
     faulty_of h.0 limit given one other h.2 (subst (λ v. ComesOf v limit given other) same k.2) e
+faulty_too (Cards language file) known given one other h k e =
+    let same : k.0 ≡ h.0 = one_verdict language file known k.0 h.0 k.1 h.1 in
+    faulty_print h.0 one other h.2 (subst (λ v. IsPrinted v other) same k.2) e
 
 compelled : (command : Command) (known : Known) (given : Got → Type 0) (o : Outcome) → IsOutcomeOf command known given o → (status : Status) → Compels (IsOutcomeOf command known given) status → status_of o ≡ Some status
 compelled command known given o told SourceFault may = faulty_too command known given o may.0 told may.1 may.2
@@ -140,22 +151,22 @@ module _ (asks : Command → Type 0) (alone : (a b : Command) → asks a → ask
       by (Some held) came1 = status_comes command held status text came1
 
   module _ (out diag : List ℕ → Type 0) where
-    shown_of : (command : Command) → asks command → CameOf command files before now given report → IsOfText result → out (output_bytes report.records) → diag (line_bytes report.line) → IsShown asks files given result out diag
+    shown_of : (command : Command) → asks command → CameOf command files before now given report → IsOfText result → out (out_bytes report.out) → diag (line_bytes report.line) → IsShown asks files given result out diag
     shown_of command asked (NotFetched rose says) text p d = absurd (no_text LibraryFault says.status (λ h. h) text)
     shown_of command asked (NoMemory says) text p d = absurd (no_text Memory says.status (λ h. h) text)
     shown_of command asked (Shows o is same shows) text p d = record {
       outcome = o;
       is = (command, asked, is);
       status = elim put [ inl a ↦ ap Some a ∙ shows.status | inr failed ↦ absurd (subst IsOfText failed text) ];
-      on_out = subst out shows.records p;
+      on_out = subst out shows.on_out p;
       on_diag = subst diag shows.line d;
     }
 
-    shown : Came asks files before now given report → IsOfText result → out (output_bytes report.records) → diag (line_bytes report.line) → IsShown asks files given result out diag
+    shown : Came asks files before now given report → IsOfText result → out (out_bytes report.out) → diag (line_bytes report.line) → IsShown asks files given result out diag
     shown (BadWords none says) text p d = absurd (no_text Usage says.status (λ h. h) text)
     shown (Asked command asked came) text p d = shown_of command asked came text p d
 
-    pub answered : Came asks files before now given report → (IsOfText result → out (output_bytes report.records) × diag (line_bytes report.line)) → AnswersCall asks files given result out diag
+    pub answered : Came asks files before now given report → (IsOfText result → out (out_bytes report.out) × diag (line_bytes report.line)) → AnswersCall asks files given result out diag
     answered came held = record {
       usage = usage_comes came;
       status = λ command asked status text. statuses_come command asked came status text;
@@ -200,6 +211,11 @@ read_of_run : (files : List (List ℕ)) (meaning : Meaning) (limit : ℕ) (got :
 read_of_run files meaning limit got o true over e = absurd (let f = ap status_of (sym over) ∙ e in cc)
 read_of_run files meaning limit got o false over e = (read_of_end got.failed over.0.end (ap status_of (sym over.2) ∙ e), refl)
 
+-- a text that is printed has a fault, or the deck is done
+printed_status : (verdict : Verdict) (o : Outcome) → IsPrinted verdict o → (status_of o ≡ Some SourceFault) ⊎ (status_of o ≡ Some IsDone)
+printed_status (Refuses fault file) o h = inl (ap status_of h)
+printed_status (Accepts files meaning) o h = inr (ap status_of h.2)
+
 module _ (files : Option (List ℕ → Option (List ℕ))) (given : Got → Type 0) (o : Outcome) where
   failed_of_verdict : (verdict : Verdict) (limit : ℕ) → ComesOf verdict limit given o → status_of o ≡ Some InputFault → (got : Got) × given got × (got.failed ≡ true)
   failed_of_verdict (Refuses fault file) limit h e = absurd (let f = ap status_of (sym h) ∙ e in cc)
@@ -210,10 +226,12 @@ module _ (files : Option (List ℕ → Option (List ℕ))) (given : Got → Type
   read_of_verdict (Accepts names meaning) limit h e = let read = read_of_run names meaning limit h.0 o (is_too_long h.0) h.2 e in (h.0, h.1, read.0, read.1)
 
   failed_of_outcome : (command : Command) → IsOutcomeBy command files given o → status_of o ≡ Some InputFault → (got : Got) × given got × (got.failed ≡ true)
-  failed_of_outcome (Run limit file) h e = failed_of_verdict h.2.0 limit h.2.2 e
+  failed_of_outcome (Run limit language file) h e = failed_of_verdict h.2.0 limit h.2.2 e
+  failed_of_outcome (Cards language file) h e = elim (printed_status h.2.0 o h.2.2) [ inl f ↦ absurd (let g = sym f ∙ e in cc) | inr f ↦ absurd (let g = sym f ∙ e in cc) ]
 
   read_of_outcome : (command : Command) → IsOutcomeBy command files given o → status_of o ≡ Some (IsTrapped EndOfInput) → (got : Got) × given got × (got.failed ≡ false) × (is_too_long got ≡ false)
-  read_of_outcome (Run limit file) h e = read_of_verdict h.2.0 limit h.2.2 e
+  read_of_outcome (Run limit language file) h e = read_of_verdict h.2.0 limit h.2.2 e
+  read_of_outcome (Cards language file) h e = elim (printed_status h.2.0 o h.2.2) [ inl f ↦ absurd (let g = sym f ∙ e in cc) | inr f ↦ absurd (let g = sym f ∙ e in cc) ]
 
 module _ (asks : Command → Type 0) (files : Option (List ℕ → Option (List ℕ))) (before now : ℕ) (given : Got → Type 0) (report : Report) where
   failed_of : (command : Command) → CameOf command files before now given report → report.status ≡ InputFault → (got : Got) × given got × (got.failed ≡ true)
@@ -247,12 +265,12 @@ module _ (asks : Command → Type 0) (files : Option (List ℕ → Option (List 
   all_fetched (BadWords none says) text = absurd (subst IsOfText says.status text)
   all_fetched (Asked command asked came) text = fetched_of command came text
 
-  module _ (out diag : List ℕ → Type 0) (some : output_bytes report.records ≡ [] → line_bytes report.line ≡ [] → ⊥) (p : out (output_bytes report.records)) (d : diag (line_bytes report.line) ⊎ diag output_fault_line) where
+  module _ (out diag : List ℕ → Type 0) (some : out_bytes report.out ≡ [] → line_bytes report.line ≡ [] → ⊥) (p : out (out_bytes report.out)) (d : diag (line_bytes report.line) ⊎ diag output_fault_line) where
     planned_of : (command : Command) → asks command → CameOf command files before now given report → WasToShow asks files given out diag
-    planned_of command asked (NotFetched rose says) = record { bytes = output_bytes report.records; line = line_bytes report.line; planned = inl (says.records, inr (inl says.line)); some = some; on_out = p; on_diag = d }
-    planned_of command asked (NoMemory says) = record { bytes = output_bytes report.records; line = line_bytes report.line; planned = inl (says.records, inr (inr (inl says.line))); some = some; on_out = p; on_diag = d }
-    planned_of command asked (Shows o is same shows) = record { bytes = output_bytes report.records; line = line_bytes report.line; planned = inr (o, (command, asked, is), shows.records, shows.line); some = some; on_out = p; on_diag = d }
+    planned_of command asked (NotFetched rose says) = record { bytes = out_bytes report.out; line = line_bytes report.line; planned = inl (says.on_out, inr (inl says.line)); some = some; on_out = p; on_diag = d }
+    planned_of command asked (NoMemory says) = record { bytes = out_bytes report.out; line = line_bytes report.line; planned = inl (says.on_out, inr (inr (inl says.line))); some = some; on_out = p; on_diag = d }
+    planned_of command asked (Shows o is same shows) = record { bytes = out_bytes report.out; line = line_bytes report.line; planned = inr (o, (command, asked, is), shows.on_out, shows.line); some = some; on_out = p; on_diag = d }
 
     pub planned : Came asks files before now given report → WasToShow asks files given out diag
-    planned (BadWords none says) = record { bytes = output_bytes report.records; line = line_bytes report.line; planned = inl (says.records, inl says.line); some = some; on_out = p; on_diag = d }
+    planned (BadWords none says) = record { bytes = out_bytes report.out; line = line_bytes report.line; planned = inl (says.on_out, inl says.line); some = some; on_out = p; on_diag = d }
     planned (Asked command asked came) = planned_of command asked came

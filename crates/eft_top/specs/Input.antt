@@ -36,6 +36,10 @@ pub record HasGiven {S : Type 0} (left : S → Option (List ℕ)) (faults : S �
 abbrev pub HasRead : Option (List ℕ) → Option (List ℕ) → Type 0
 HasRead before after = (bytes : List ℕ) × Consumes before after bytes
 
+-- there are no reads
+abbrev pub is_unread : Got → Type 0
+is_unread got = ⊥
+
 -- what was got, in memory
 abbrev pub got_of : memory.Got → Got
 got_of got = record { bytes = got.bytes.items; failed = got.failed }

@@ -6,7 +6,9 @@ use Rattle.ports.specs.Records.{output_bytes}
 use Rattle.f66_tree.specs.World.{Record, Shown, IsPrefix, Finish, Ended, GoesOn}
 use Rattle.f66_tree.specs.Agreement.{Same}
 use Rattle.macro_define.specs.Answers.{Holds}
-use Rattle.rat_front.specs.Verdict.{Meaning, Accepts, Becomes}
+use Rattle.ground.specs.declared.token.Dialect.{Dialect}
+use Rattle.front.specs.Checked.{Meaning}
+use Rattle.front.specs.Verdict.{Accepts, Becomes}
 use Rattle.eft_top.specs.declared.status.Status.{Status}
 use Rattle.eft_top.specs.declared.status.Status.TheVariants.{LibraryFault, OutputFault, StepLimit, Memory, InputTooLong}
 use Rattle.eft_top.specs.Input.{Got, is_too_long, records_of}
@@ -16,9 +18,9 @@ use Rattle.eft_top.specs.Causes.{IsOneOf, IsOfText, AnswersCall}
 
 -- The words ask for a run of at most so many steps of the text in a file; the library tells that text, with its includes, and it is
 -- accepted with this meaning and these names of files; and this was the answer to the call.
-pub record IsRunOf (words : List (List ℕ)) (limit : ℕ) (file : List ℕ) (held : List ℕ → Option (List ℕ)) (files : List (List ℕ)) (meaning : Meaning) (given : Got → Type 0) (result : Status) (out diag : List ℕ → Type 0) : Type 0 where
-  pub asks : AskFor words (Run limit file)
-  pub accepted : Becomes file (Holds held) (Accepts files meaning)
+pub record IsRunOf (words : List (List ℕ)) (limit : ℕ) (language : Dialect) (file : List ℕ) (held : List ℕ → Option (List ℕ)) (files : List (List ℕ)) (meaning : Meaning) (given : Got → Type 0) (result : Status) (out diag : List ℕ → Type 0) : Type 0 where
+  pub asks : AskFor words (Run limit language file)
+  pub accepted : Becomes language file (Holds held) (Accepts files meaning)
   pub answer : AnswersCall (AskFor words) (Some held) given result out diag
 
 -- the status is that of the end, out got the records, and diag the line of the end
@@ -36,8 +38,8 @@ IsMeant meant run = Same meant run ⊎ ((run.end ≡ GoesOn) × IsPrefix run.rec
 -- where the input is not too long, it shows a run that is what the text means over the records that were read
 abbrev pub RunShowsMeaning : (Got → Type 0) → (List ℕ → Type 0) → (List ℕ → Type 0) → Type 0
 RunShowsMeaning given out diag =
-    (words : List (List ℕ)) (limit : ℕ) (file : List ℕ) (held : List ℕ → Option (List ℕ)) (files : List (List ℕ)) (meaning : Meaning) (result : Status) →
-    IsRunOf words limit file held files meaning given result out diag → IsOfText result →
+    (words : List (List ℕ)) (limit : ℕ) (language : Dialect) (file : List ℕ) (held : List ℕ → Option (List ℕ)) (files : List (List ℕ)) (meaning : Meaning) (result : Status) →
+    IsRunOf words limit language file held files meaning given result out diag → IsOfText result →
     (got : Got) × given got × (((is_too_long got ≡ true) × (result ≡ InputTooLong))
     ⊎ ((run : Shown) × IsMeant (meaning (records_of got) limit) run × Presents files limit got.failed run result out diag))
 
@@ -54,7 +56,7 @@ pub record MissesNothing (meant : ℕ → Shown) (files : List (List ℕ)) (limi
 -- unless a fetch or a put failed, or memory was wanting, and where the input is not too long
 abbrev pub RunMissesNothing : (Got → Type 0) → (List ℕ → Type 0) → (List ℕ → Type 0) → Type 0
 RunMissesNothing given out diag =
-    (words : List (List ℕ)) (limit : ℕ) (file : List ℕ) (held : List ℕ → Option (List ℕ)) (files : List (List ℕ)) (meaning : Meaning) (result : Status) →
-    IsRunOf words limit file held files meaning given result out diag →
+    (words : List (List ℕ)) (limit : ℕ) (language : Dialect) (file : List ℕ) (held : List ℕ → Option (List ℕ)) (files : List (List ℕ)) (meaning : Meaning) (result : Status) →
+    IsRunOf words limit language file held files meaning given result out diag →
     IsOneOf result (LibraryFault ∷ OutputFault ∷ Memory ∷ [])
     ⊎ ((got : Got) × given got × (is_too_long got ≡ false → MissesNothing (meaning (records_of got)) files limit got.failed result out diag))

@@ -1,4 +1,4 @@
--- What comes of a command: a fault of its text, an input that is too long, or a run over the records got.
+-- What comes of a command: a fault of its text, its deck, an input that is too long, or a run over the records got.
 use Rattle.std.specs.Prelude.{◌≡◌, ℕ, Bool, true, false, ◌&&◌, List, [], Some, None, if◌then◌else◌}
 use Rattle.std.specs.declared.option.Option.{Option}
 use Rattle.ground.specs.declared.fault.Fault.{Fault}
@@ -9,18 +9,21 @@ use Rattle.ports.specs.Records.{output_bytes}
 use Rattle.f66_tree.specs.World.{Record, Shown, End, Ended, GoesOn, Lost, Done, Stopped, Trapped, Wrong}
 use Rattle.f66_tree.specs.Syntax.{Routine}
 use Rattle.macro_define.specs.Answers.{Known, IsOf}
-use Rattle.rat_front.specs.Verdict.{Meaning, Verdict, Refuses, Accepts, Becomes, file_name}
-use Rattle.rat_front.specs.Programs.{IsProgramOf}
+use Rattle.front.specs.Checked.{Meaning}
+use Rattle.deck.specs.Decks.{deck_of}
+use Rattle.front.specs.Verdict.{Verdict, Refuses, Accepts, Becomes, file_name}
+use Rattle.front.specs.Programs.{IsProgramOf}
 use Rattle.eft_top.specs.declared.status.Status.{Status}
 use Rattle.eft_top.specs.declared.status.Status.TheVariants.{SourceFault, Done as IsDone, Stopped as IsStopped, Trapped as IsTrapped, StepLimit, InputFault, InputTooLong}
 use Rattle.eft_top.specs.Lines.{fault_line, trap_line, stop_line, limit_line, input_fault_line, input_too_long_line}
 use Rattle.eft_top.specs.Input.{Got, is_too_long, records_of}
-use Rattle.eft_top.specs.Words.{Command, Run}
+use Rattle.eft_top.specs.Words.{Command, Run, Cards}
 
--- a fault in the file of a name; an input that is too long; or what a run shows of which at most so many statements begin, with
+-- a fault in the file of a name; a deck; an input that is too long; or what a run shows of which at most so many statements begin, with
 -- the names of the files, and whether a read of its input has failed
 pub data Outcome : Type 0 where
   HasFault : Fault → List ℕ → Outcome
+  HasDeck : List ℕ → Outcome
   HasLongInput : Outcome
   Runs : List (List ℕ) → ℕ → Bool → Shown → Outcome
 
@@ -32,6 +35,18 @@ pub record IsRun (meaning : Meaning) (limit : ℕ) (input : List Record) (shown 
   pub units : List Routine
   pub program : IsProgramOf meaning units
   pub is : shown ≡ program.run input limit
+
+-- A deck of a text is the cards of a program of its meaning: of sound FORTRAN that agrees with the meaning, and each of whose
+-- statements fits its cards.
+pub record IsDeck (meaning : Meaning) (deck : List ℕ) : Type 0 where
+  pub units : List Routine
+  pub program : IsProgramOf meaning units
+  pub is : deck ≡ deck_of units
+
+-- a refused text comes to its fault, an accepted one to a deck
+abbrev pub IsPrinted : Verdict → Outcome → Type 0
+IsPrinted (Refuses fault file) outcome = outcome ≡ HasFault fault file
+IsPrinted (Accepts files meaning) outcome = (deck : List ℕ) × IsDeck meaning deck × (outcome ≡ HasDeck deck)
 
 -- what comes of an accepted text and what was got of the input, by whether that is too long
 abbrev pub RunsIn : Bool → List (List ℕ) → Meaning → ℕ → Got → Outcome → Type 0
@@ -48,7 +63,8 @@ ComesOf (Accepts files meaning) limit given outcome = (got : Got) × given got �
 
 -- what may come of a command, by what is known of the library and what reads may have given
 abbrev pub IsOutcomeOf : Command → Known → (Got → Type 0) → Outcome → Type 0
-IsOutcomeOf (Run limit file) known given outcome = (verdict : Verdict) × Becomes file known verdict × ComesOf verdict limit given outcome
+IsOutcomeOf (Run limit language file) known given outcome = (verdict : Verdict) × Becomes language file known verdict × ComesOf verdict limit given outcome
+IsOutcomeOf (Cards language file) known given outcome = (verdict : Verdict) × Becomes language file known verdict × IsPrinted verdict outcome
 
 -- the same by what the library tells, or, where it tells nothing, by some texts that fetches may have given
 abbrev pub IsOutcomeBy : Command → Option (List ℕ → Option (List ℕ)) → (Got → Type 0) → Outcome → Type 0
@@ -87,15 +103,18 @@ end_line files limit failed _ = []
 -- the status, the bytes on out and the line on diag
 abbrev pub status_of : Outcome → Option Status
 status_of (HasFault fault file) = Some SourceFault
+status_of (HasDeck deck) = Some IsDone
 status_of HasLongInput = Some InputTooLong
 status_of (Runs files limit failed run) = end_status failed run.end
 
 abbrev pub out_of : Outcome → List ℕ
 out_of (HasFault fault file) = []
+out_of (HasDeck deck) = deck
 out_of HasLongInput = []
 out_of (Runs files limit failed run) = output_bytes run.records
 
 abbrev pub diag_line : Outcome → List ℕ
 diag_line (HasFault fault file) = fault_line fault file
+diag_line (HasDeck deck) = []
 diag_line HasLongInput = input_too_long_line
 diag_line (Runs files limit failed run) = end_line files limit failed run.end

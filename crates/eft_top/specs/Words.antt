@@ -1,13 +1,17 @@
--- What the words ask for: run [--steps N] ratfor FILE, with options anywhere behind the command.
-use Rattle.std.specs.Prelude.{◌≡◌, ◌≢◌, ◌⊎◌, ⊤, ℕ, ◌+◌, ◌-◌, ◌*◌, nat_le, List, [], ◌∷◌, ◌++◌, ◌&&◌, not, Bool, false, codes, Some, None, if◌then◌else◌, ◌==◌, map, String, string_bytes}
+-- What the words ask for: run [--steps N] LANG FILE, with options anywhere behind the command, or cards LANG FILE. LANG is ratfor
+-- or efl.
+use Rattle.std.specs.Prelude.{◌≡◌, ◌≢◌, ◌⊎◌, ⊤, ℕ, ◌+◌, ◌-◌, ◌*◌, nat_le, List, [], ◌∷◌, ◌++◌, ◌&&◌, not, Bool, false, codes, Some, None, if◌then◌else◌, ◌==◌, map, unwrap_or, String, string_bytes}
 use Rattle.std.specs.Str.{bytes_eq}
 use Rattle.std.specs.Char.{is_ascii_digit}
 use Rattle.std.specs.declared.option.Option.{Option}
+use Rattle.ground.specs.declared.token.Dialect.{Dialect}
+use Rattle.ground.specs.declared.token.Dialect.TheVariants.{Ratfor, Efl}
 use Rattle.std.specs.declared.alloc.Global.{Global}
 
--- a run of the Ratfor text in a file, of which at most so many statements begin
+-- a run of the text in a file, of which at most so many statements begin; or the deck of the text
 pub data Command : Type 0 where
-  Run : ℕ → List ℕ → Command
+  Run : ℕ → Dialect → List ℕ → Command
+  Cards : Dialect → List ℕ → Command
 
 abbrev pub texts : List (String Global) → List (List ℕ)
 texts words = map string_bytes words
@@ -87,22 +91,32 @@ pub record AreShuffled (numbers operands words : List (List ℕ)) : Type 0 where
 
 -- ---- commands ----
 
--- --steps stands at most once, and without it the limit is 10,000,000
-abbrev pub IsLimit : List (List ℕ) → ℕ → Type 0
-IsLimit [] limit = limit ≡ 10000000
-IsLimit (number ∷ []) limit = steps_in number ≡ Some limit
-IsLimit _ limit = ⊥
+-- --steps stands at most once
+abbrev pub AreSteps : List (List ℕ) → Option ℕ → Type 0
+AreSteps [] steps = steps ≡ None
+AreSteps (number ∷ []) (Some n) = steps_in number ≡ Some n
+AreSteps _ steps = ⊥
 
--- the words behind `run` ask for a run
-pub record AskForRun (limit : ℕ) (file : List ℕ) (words : List (List ℕ)) : Type 0 where
+abbrev pub language_word : Dialect → List ℕ
+language_word Ratfor = codes "ratfor"
+language_word Efl = codes "efl"
+
+-- the words behind a command name a text, and may have --steps
+pub record NameText (steps : Option ℕ) (language : Dialect) (file : List ℕ) (words : List (List ℕ)) : Type 0 where
   pub numbers : List (List ℕ)
-  pub shuffled : AreShuffled numbers (codes "ratfor" ∷ file ∷ []) words
-  pub limits : IsLimit numbers limit
+  pub shuffled : AreShuffled numbers (language_word language ∷ file ∷ []) words
+  pub counted : AreSteps numbers steps
   pub named : file ≢ []
+
+-- without --steps the limit is 10,000,000
+abbrev pub limit_by : Option ℕ → ℕ
+limit_by steps = unwrap_or steps 10000000
 
 -- the words ask for this command
 abbrev pub AskFor : List (List ℕ) → Command → Type 0
-AskFor words (Run limit file) = (rest : List (List ℕ)) × (words ≡ codes "run" ∷ rest) × AskForRun limit file rest
+AskFor words (Run limit language file) =
+    (rest : List (List ℕ)) × (words ≡ codes "run" ∷ rest) × (steps : Option ℕ) × NameText steps language file rest × (limit ≡ limit_by steps)
+AskFor words (Cards language file) = (rest : List (List ℕ)) × (words ≡ codes "cards" ∷ rest) × NameText None language file rest
 
 -- the words ask for no command
 abbrev pub AskNothing : (Command → Type 0) → Type 0

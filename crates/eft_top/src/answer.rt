@@ -1,19 +1,26 @@
-// What a call has to show: the words are read, the text is compiled, the input is read, and the unit is walked over it.
-ghost use Rattle.std.specs.Prelude.{◌≡◌, false, IfOk};
-ghost use Rattle.eft_top.specs.Words.{AskFor, texts, Run};
+// What a call has to show: the words are read, the text is compiled, and its deck is written, or the input is read and the unit is
+// walked over it.
+ghost use Rattle.std.specs.Prelude.{◌≡◌, ℕ, List, [], ◌∷◌, false, IfOk};
+ghost use Rattle.ground.specs.declared.token.Dialect.{Dialect};
+ghost use Rattle.f66_tree.specs.Views.{routine_of};
+ghost use Rattle.stmt_text.specs.Fitting.{IsPrintable};
+ghost use Rattle.deck.specs.Decks.{deck_of};
+ghost use Rattle.eft_top.specs.Words.{AskFor, texts, Run, Cards};
+ghost use Rattle.eft_top.specs.Outcome.{HasDeck};
 ghost use Rattle.eft_top.specs.Reading.{asked_command};
 ghost use Rattle.eft_top.specs.Causes.{NeedsNoInput};
-ghost use Rattle.eft_top.specs.Input.{Got as AllGot, HasGiven, HasRead, got_of, is_too_long};
+ghost use Rattle.eft_top.specs.Input.{Got as AllGot, HasGiven, HasRead, got_of, is_too_long, is_unread};
 ghost use Rattle.eft_top.specs.Story.{Came, CameOf};
-ghost use Rattle.eft_top.specs.Report.{ReportsOn};
+ghost use Rattle.eft_top.specs.Report.{IsReport, ReportsOn, ReportsRefusal};
 
 use crate::Status;
 use crate::input::{Got, read_input};
 use crate::report::Report;
 use crate::words::{Asked, read_words};
-use ground::Memory;
+use deck::push_unit;
+use front::{Compiled, TextRefusal, compile_text};
+use ground::{Dialect, Memory};
 use ports::{Library, Source};
-use rat_front::{Compiled, TextRefusal, compile_text};
 use std::alloc::Global;
 use unit_walk::walk;
 
@@ -27,6 +34,7 @@ pub fn answer_to<L: Library, S: Source>(
     ensures library { L.becomes library.old library.new }
     ensures input { HasRead (S.left input.old) (S.left input.new) }
     ensures unread { NeedsNoInput result.status → input.new ≡ input.old }
+    ensures unasked { (language : Dialect) (file : List ℕ) → AskFor (texts words.now.items) (Cards language file) → input.new ≡ input.old }
     ensures came { Came (AskFor (texts words.now.items)) (L.files library.old) (L.faults library.old) (L.faults library.new) (HasGiven S.left S.faults input.old input.new) result }
 {
     let Some(asked) = read_words(words) else {
@@ -51,10 +59,14 @@ fn report_of<L: Library, S: Source>(
     ensures becomes { L.becomes library.old library.new }
     ensures input { HasRead (S.left input.old) (S.left input.new) }
     ensures unread { IfOk result (λ report. NeedsNoInput report.status → input.new ≡ input.old) }
+    ensures unasked { (language : Dialect) (file : List ℕ) → asked_command asked.entry ≡ Cards language file → input.new ≡ input.old }
     ensures came { IfOk result (CameOf (asked_command asked.entry) (L.files library.old) (L.faults library.old) (L.faults library.new) (HasGiven S.left S.faults input.old input.new)) }
 {
     match asked {
-        Asked::Run(limit, file) => run_file(alloc, limit, file, library, input),
+        Asked::Run(limit, language, file) => {
+            run_file(alloc, limit, language, file, library, input)
+        }
+        Asked::Cards(language, file) => print_file(alloc, language, file, library),
     }
 }
 
@@ -62,6 +74,7 @@ fn report_of<L: Library, S: Source>(
 fn run_file<L: Library, S: Source>(
     alloc: Global,
     limit: u64,
+    language: Dialect,
     file: &str,
     library: &mut L,
     input: &mut S,
@@ -69,17 +82,52 @@ fn run_file<L: Library, S: Source>(
     ensures becomes { L.becomes library.old library.new }
     ensures input { HasRead (S.left input.old) (S.left input.new) }
     ensures unread { IfOk result (λ report. NeedsNoInput report.status → input.new ≡ input.old) }
-    ensures came { IfOk result (CameOf (Run limit file.now) (L.files library.old) (L.faults library.old) (L.faults library.new) (HasGiven S.left S.faults input.old input.new)) }
+    ensures came { IfOk result (CameOf (Run limit language file.now) (L.files library.old) (L.faults library.old) (L.faults library.new) (HasGiven S.left S.faults input.old input.new)) }
 {
-    match compile_text(alloc, file, library) {
+    match compile_text(alloc, language, file, library) {
         Ok(compiled) => read_and_run(alloc, limit, &compiled, input),
-        Err(TextRefusal::Fault(fault, name)) => Ok(Report::of_fault(alloc, fault, &name)?),
-        Err(TextRefusal::Library) => Ok(Report::fixed(
+        Err(refusal) => refused(alloc, refusal),
+    }
+}
+
+/// Compiles the text in a file, and writes its deck.
+fn print_file<L: Library>(
+    alloc: Global,
+    language: Dialect,
+    file: &str,
+    library: &mut L,
+) -> Result<Report, Memory>
+    ensures becomes { L.becomes library.old library.new }
+    ensures came { IfOk result (CameOf (Cards language file.now) (L.files library.old) (L.faults library.old) (L.faults library.new) is_unread) }
+{
+    match compile_text(alloc, language, file, library) {
+        Ok(compiled) => print_unit(alloc, &compiled),
+        Err(refusal) => refused(alloc, refusal),
+    }
+}
+
+fn print_unit(alloc: Global, compiled: &Compiled) -> Result<Report, Memory>
+    requires printable { IsPrintable (routine_of compiled.now.unit) }
+    ensures { IfOk result (λ report. IsReport report (HasDeck (deck_of (routine_of compiled.now.unit ∷ [])))) }
+{
+    let mut deck = Vec::new(alloc);
+    match push_unit(compiled.unit.unit(), &mut deck) {
+        Ok(()) => Ok(Report::of_deck(deck)),
+        Err(_) => Err(Memory),
+    }
+}
+
+fn refused(alloc: Global, refusal: TextRefusal) -> Result<Report, Memory>
+    ensures { IfOk result (ReportsRefusal refusal) }
+{
+    match refusal {
+        TextRefusal::Fault(fault, name) => Ok(Report::of_fault(alloc, fault, &name)?),
+        TextRefusal::Library => Ok(Report::fixed(
             alloc,
             Status::LibraryFault,
             "library fault\n",
         )),
-        Err(TextRefusal::Memory) => Err(Memory),
+        TextRefusal::Memory => Err(Memory),
     }
 }
 

@@ -2,13 +2,13 @@
 ghost use Rattle.std.specs.Prelude.{◌≡◌, ◌++◌, ◌∷◌, [], true, ℕ, List, IfOk, take};
 ghost use Rattle.f66_tree.specs.World.{Shown};
 ghost use Rattle.unit_walk.specs.Shows.{shown_of};
-ghost use Rattle.eft_top.specs.Outcome.{HasFault, Runs};
-ghost use Rattle.eft_top.specs.Report.{IsReport, line_bytes};
+ghost use Rattle.eft_top.specs.Outcome.{HasFault, HasDeck, Runs};
+ghost use Rattle.eft_top.specs.Report.{IsReport, line_bytes, out_bytes};
 
 use crate::Status;
 use crate::lines::{fault_text, limit_text, stop_text, trap_text};
 use ground::{Fault, Text, Trap};
-use rat_front::name_of;
+use front::name_of;
 use record_tape::Lines;
 use std::alloc::{AllocError, Global};
 use unit_walk::{RunEnd, Walked};
@@ -31,11 +31,29 @@ impl Line {
     }
 }
 
-/// A status, the records for out and the line for diag.
+/// What out gets: the records of a run, or a deck.
+#[derive(Drop)]
+pub enum Output {
+    Records(Lines),
+    Deck(Vec<u8>),
+}
+
+impl Output {
+    pub fn as_bytes(&self) -> &[u8]
+        ensures { result.now ≡ out_bytes self.now }
+    {
+        match self {
+            Output::Records(lines) => lines.as_bytes(),
+            Output::Deck(bytes) => bytes,
+        }
+    }
+}
+
+/// A status, what out gets, and the line for diag.
 #[derive(Drop)]
 pub struct Report {
     pub status: Status,
-    pub records: Lines,
+    pub out: Output,
     pub line: Line,
 }
 
@@ -43,12 +61,12 @@ impl Report {
     /// A status whose line says all.
     pub fn fixed(alloc: Global, status: Status, line: &'static str) -> Report
         ensures status { result.status ≡ status }
-        ensures records { result.records ≡ [] }
+        ensures out { out_bytes result.out ≡ [] }
         ensures line { line_bytes result.line ≡ line.entry.now }
     {
         Report {
             status,
-            records: Lines::new(alloc),
+            out: Output::Records(Lines::new(alloc)),
             line: Line::Fixed(line),
         }
     }
@@ -59,9 +77,20 @@ impl Report {
     {
         Ok(Report {
             status: Status::SourceFault,
-            records: Lines::new(alloc),
+            out: Output::Records(Lines::new(alloc)),
             line: Line::Made(fault_text(alloc, fault, file.as_bytes())?),
         })
+    }
+
+    /// A deck.
+    pub fn of_deck(deck: Vec<u8>) -> Report
+        ensures { IsReport result (HasDeck deck.items) }
+    {
+        Report {
+            status: Status::Done,
+            out: Output::Deck(deck),
+            line: Line::Fixed(""),
+        }
     }
 
     /// A run with this limit of steps, over an input of which a read has failed or none has.
@@ -95,7 +124,7 @@ impl Report {
         };
         Ok(Report {
             status,
-            records,
+            out: Output::Records(records),
             line,
         })
     }

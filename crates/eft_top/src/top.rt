@@ -1,11 +1,12 @@
 // The one public call: the words, the library, and the streams.
-ghost use Rattle.std.specs.Prelude.{◌≡◌, ◌≢◌, ◌⊎◌, [], IfSome};
+ghost use Rattle.std.specs.Prelude.{◌≡◌, ◌≢◌, ◌⊎◌, ℕ, List, [], IfSome};
+ghost use Rattle.ground.specs.declared.token.Dialect.{Dialect};
 ghost use Rattle.std.specs.Io.KnownBytes.{IsAtEnd};
 ghost use Rattle.ports.specs.Causes.{Rose};
 ghost use Rattle.ports.specs.Puts.{PutsPrefix};
 ghost use Rattle.ground.specs.declared.trap.Trap.TheVariants.{EndOfInput};
 ghost use Rattle.eft_top.specs.Lines.{output_fault_line};
-ghost use Rattle.eft_top.specs.Words.{AskFor, texts};
+ghost use Rattle.eft_top.specs.Words.{Cards, AskFor, texts};
 ghost use Rattle.eft_top.specs.Causes.{AnswersCall, IsOfText, WasToShow, NeedsNoInput, fixed_line};
 ghost use Rattle.eft_top.specs.Input.{HasGiven, HasRead};
 
@@ -15,8 +16,8 @@ use crate::deliver::deliver;
 use ports::{Failed, Library, Sink, Source};
 use std::alloc::Global;
 
-/// All that the program does. The words are those after the program's name; out gets the records of a run in one
-/// put, and diag at most one line. The input is read whole before a run begins. Want of memory may come at any time before the first put.
+/// All that the program does. The words are those after the program's name; out gets the records of a run, or
+/// a deck, in one put, and diag at most one line. The input is read whole before a run begins. Want of memory may come at any time before the first put.
 pub fn eft<L: Library, S: Source, K: Sink, D: Sink>(
     alloc: Global,
     words: &Vec<String>,
@@ -50,9 +51,10 @@ pub fn eft<L: Library, S: Source, K: Sink, D: Sink>(
     ensures library { L.becomes library.old library.new }
     ensures input { HasRead (S.left input.old) (S.left input.new) }
     ensures unread { NeedsNoInput result → input.new ≡ input.old }
+    ensures unasked { (language : Dialect) (file : List ℕ) → AskFor (texts words.now.items) (Cards language file) → input.new ≡ input.old }
 {
     let report = answer_to(alloc, words, library, input);
-    match deliver(report.records.as_bytes(), report.line.as_bytes(), out, diag) {
+    match deliver(report.out.as_bytes(), report.line.as_bytes(), out, diag) {
         Ok(()) => report.status,
         Err(Failed) => Status::OutputFault,
     }

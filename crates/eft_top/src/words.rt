@@ -1,10 +1,11 @@
 // What the words of the command line ask for.
-ghost use Rattle.std.specs.Prelude.{◌≡◌, fold, unwrap_or};
+ghost use Rattle.std.specs.Prelude.{◌≡◌, fold};
 ghost use Rattle.std.specs.Option.{option_map};
 ghost use Rattle.eft_top.specs.Words.{AskFor, IsAsked, texts, is_option as is_option_word};
-ghost use Rattle.eft_top.specs.Reading.{asked as asked_of, at_stage, command_of, asked_command, operands as operands_of, read as read_word, reading_of, start, with_operand as with_operand_word, with_steps as with_number, with_word as with_open_word};
+ghost use Rattle.eft_top.specs.Reading.{asked as asked_of, at_stage, command_of, asked_command, run_of, cards_of, wanted_of, language_of as language_in, operands as operands_of, read as read_word, reading_of, start, with_operand as with_operand_word, with_steps as with_number, with_word as with_open_word};
 
 use crate::numbers::steps_in;
+use ground::Dialect;
 
 /// The limit of steps where none is given.
 const USUAL_STEPS: u64 = 10_000_000;
@@ -12,8 +13,18 @@ const USUAL_STEPS: u64 = 10_000_000;
 /// What the words ask for.
 #[derive(Clone, Copy)]
 pub enum Asked<'a> {
-    /// A run of the Ratfor text in a file, of which at most so many statements begin.
-    Run(u64, &'a str),
+    /// A run of the text in a file, of which at most so many statements begin.
+    Run(u64, Dialect, &'a str),
+    /// The deck of the text in a file.
+    Cards(Dialect, &'a str),
+}
+
+/// A text that words name, and the number of `--steps` where there is one.
+#[derive(Clone, Copy)]
+pub struct Wanted<'a> {
+    pub steps: Option<u64>,
+    pub language: Dialect,
+    pub file: &'a str,
 }
 
 /// What may come next: options and operands, the number of `--steps`, operands alone, or nothing right.
@@ -45,13 +56,41 @@ fn read_command(words: &[String]) -> Option<Asked<'_>>
     ensures { option_map asked_command result ≡ command_of (texts words.now) }
 {
     match words {
-        [command, rest @ ..] if command.as_str() == "run" => read_run(rest),
+        [command, rest @ ..] if command.as_str() == "run" => run_of(read_text(rest)),
+        [command, rest @ ..] if command.as_str() == "cards" => cards_of(read_text(rest)),
         _ => None,
     }
 }
 
-fn read_run(words: &[String]) -> Option<Asked<'_>>
-    ensures { option_map asked_command result ≡ asked_of (fold read_word start (texts words.now)) }
+fn run_of(wanted: Option<Wanted<'_>>) -> Option<Asked<'_>>
+    ensures { option_map asked_command result ≡ run_of (option_map wanted_of wanted.entry) }
+{
+    let Wanted {
+        steps,
+        language,
+        file,
+    } = wanted?;
+    Some(Asked::Run(steps.unwrap_or(USUAL_STEPS), language, file))
+}
+
+/// A deck has no steps.
+fn cards_of(wanted: Option<Wanted<'_>>) -> Option<Asked<'_>>
+    ensures { option_map asked_command result ≡ cards_of (option_map wanted_of wanted.entry) }
+{
+    let Wanted {
+        steps,
+        language,
+        file,
+    } = wanted?;
+    match steps {
+        Some(_) => None,
+        None => Some(Asked::Cards(language, file)),
+    }
+}
+
+/// The text that the words behind a command name.
+fn read_text(words: &[String]) -> Option<Wanted<'_>>
+    ensures { option_map wanted_of result ≡ asked_of (fold read_word start (texts words.now)) }
 {
     let mut reading = Reading {
         stage: Stage::Open,
@@ -137,8 +176,8 @@ fn is_option(word: &[u8]) -> bool
     matches!(word, [b'-', _, ..])
 }
 
-fn finish(reading: Reading<'_>) -> Option<Asked<'_>>
-    ensures { option_map asked_command result ≡ asked_of (reading_of reading.entry) }
+fn finish(reading: Reading<'_>) -> Option<Wanted<'_>>
+    ensures { option_map wanted_of result ≡ asked_of (reading_of reading.entry) }
 {
     match reading.stage {
         Stage::Open | Stage::Closed => operands(reading),
@@ -146,13 +185,30 @@ fn finish(reading: Reading<'_>) -> Option<Asked<'_>>
     }
 }
 
-fn operands(reading: Reading<'_>) -> Option<Asked<'_>>
-    ensures { option_map asked_command result ≡ operands_of (unwrap_or reading.entry.steps 10000000) (reading_of reading.entry).language (reading_of reading.entry).file }
+fn operands(reading: Reading<'_>) -> Option<Wanted<'_>>
+    ensures { option_map wanted_of result ≡ operands_of reading.entry.steps (reading_of reading.entry).language (reading_of reading.entry).file }
 {
     match (reading.language, reading.file) {
-        (Some(language), Some(file)) if language == "ratfor" && !file.is_empty() => {
-            Some(Asked::Run(reading.steps.unwrap_or(USUAL_STEPS), file))
+        (Some(language), Some(file)) if !file.is_empty() => {
+            let language = language_of(language)?;
+            Some(Wanted {
+                steps: reading.steps,
+                language,
+                file,
+            })
         }
         _ => None,
+    }
+}
+
+fn language_of(word: &str) -> Option<Dialect>
+    ensures { result ≡ language_in word.now }
+{
+    if word == "ratfor" {
+        Some(Dialect::Ratfor)
+    } else if word == "efl" {
+        Some(Dialect::Efl)
+    } else {
+        None
     }
 }

@@ -62,7 +62,7 @@ line_at lines i a e = by_line (slice_get lines i) refl (sym (slice_get-map (λ s
     by_line None is h = absurd (true≢false (sym (ap is_some h)))
     by_line (Some s) is h = (s, is, cc)
 
-clean_line : (u : Routine) → IsSound u → (i : ℕ) (s : Line) (k : Rule) → slice_get u.lines i ≡ Some s →
+pub clean_line : (u : Routine) → IsSound u → (i : ℕ) (s : Line) (k : Rule) → slice_get u.lines i ≡ Some s →
     (breaks_flow Whole u.header u.lines i s k ≡ false) × (breaks_name (context_of u) (acts_in_unit u.lines) i s.act k ≡ false)
 clean_line u sound i s k is =
     or_parts (breaks_flow Whole u.header u.lines i s k) _

@@ -1,6 +1,6 @@
 -- Why `run_file` keeps its clauses.
 use Rattle.std.proofs.Common.{rules, refl}
-use Rattle.rat_front.specs.Verdict.{Accepts, Refuses}
+use Rattle.front.specs.Verdict.{Accepts, Refuses}
 use Rattle.eft_top.specs.Outcome.{HasFault}
 use Rattle.eft_top.specs.Report.{IsReport}
 use Rattle.eft_top.specs.Story.{Shows}

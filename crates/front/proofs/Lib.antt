@@ -1,0 +1,4 @@
+-- The lemmas of front.
+pub mod FirstFaults
+pub mod OneVerdict
+mod Answered

@@ -1,0 +1,7 @@
+-- The definitions that the contracts of front cite.
+pub mod Checked
+pub mod Ratfor
+pub mod Efl
+pub mod Verdict
+pub mod Programs
+pub mod Compiled

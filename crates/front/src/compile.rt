@@ -1,0 +1,67 @@
+// From a file to its unit.
+ghost use Rattle.std.specs.Prelude.{◌≡◌};
+ghost use Rattle.macro_define.specs.Gathered.{HasCause};
+ghost use Rattle.macro_define.specs.GatherAnswers.{EndsText};
+ghost use Rattle.front.specs.Verdict.{IsChecked, file_name as name_of_file};
+ghost use Rattle.front.specs.Compiled.{Finds, IsCompiled};
+
+use crate::efl::refusal_of;
+use crate::ratfor::unit_of;
+use f66_check::CheckedUnit;
+use ground::{Dialect, List, Refusal, Text, Token};
+use macro_define::{Gathered, TextRefusal, gather};
+use ports::Library;
+use std::alloc::Global;
+
+/// A main program as a sound unit of FORTRAN. A place's file has its number in the list of names.
+#[derive(Drop)]
+pub struct Compiled {
+    pub unit: CheckedUnit,
+    pub files: List<Text>,
+}
+
+/// The unit of the text under this name, with its includes, which does what the text means, or the text's first fault: of
+/// gather, of the parse, of the checks unit by unit, or MainCount (Kernighan, Ratfor: A Preprocessor for a Rational Fortran,
+/// 1975; Feldman, The Programming Language EFL, 1979).
+pub fn compile_text<L: Library>(
+    alloc: Global,
+    dialect: Dialect,
+    name: &str,
+    library: &mut L,
+) -> Result<Compiled, TextRefusal>
+    ensures text { IsCompiled (L.files library.old) dialect name.now result }
+    ensures same { L.files library.new ≡ L.files library.old }
+    ensures becomes { L.becomes library.old library.new }
+    ensures cause { HasCause (L.faults library.old) (L.faults library.new) result }
+{
+    let Gathered { tokens, files } = gather(alloc, dialect, name, library)?;
+    match unit_in(alloc, dialect, &tokens) {
+        Ok(unit) => Ok(Compiled { unit, files }),
+        Err(Refusal::Fault(fault)) => {
+            let name = name_of(&files, fault.place.file).to_vec(alloc)?;
+            Err(TextRefusal::Fault(fault, Text::new(name)))
+        }
+        Err(Refusal::Memory) => Err(TextRefusal::Memory),
+    }
+}
+
+/// The unit of a text with these tokens, or the text's fault.
+fn unit_in(alloc: Global, dialect: Dialect, tokens: &List<Token>) -> Result<CheckedUnit, Refusal>
+    requires { EndsText tokens.now.items }
+    ensures { Finds (IsChecked dialect tokens.now.items) result }
+{
+    match dialect {
+        Dialect::Ratfor => unit_of(alloc, tokens),
+        Dialect::Efl => Err(refusal_of(alloc, tokens)),
+    }
+}
+
+/// The name of the file that has this number in a list of names.
+pub fn name_of(files: &[Text], number: u16) -> &[u8]
+    ensures { result.now ≡ name_of_file files.now number }
+{
+    match files.get(usize::from(number)) {
+        Some(name) => name.as_bytes(),
+        None => b"",
+    }
+}

@@ -1,0 +1,57 @@
+// From the tokens of a Ratfor text to its unit.
+ghost use Rattle.std.specs.Prelude.{◌≡◌};
+ghost use Rattle.rat_tree.specs.Views.{program_of, rat_routine_of};
+ghost use Rattle.rat_lower.specs.Lowered.{AllHaveRoom};
+ghost use Rattle.macro_define.specs.GatherAnswers.{EndsText};
+ghost use Rattle.front.specs.Ratfor.{IsRatfor, checked, first_statement as first_statement_of};
+ghost use Rattle.front.specs.Compiled.{Finds};
+ghost use Rattle.ground.specs.Faults.{fault_at};
+
+use f66_check::CheckedUnit;
+use ground::{Fault, FaultKind, List, Place, Refusal, Token};
+use rat_lower::lower;
+use rat_parse::parse;
+use rat_room::parsed_has_room;
+use rat_tree::{RatProgram, RatUnit};
+use std::alloc::Global;
+
+/// The unit of a text with these tokens, or the text's fault.
+pub fn unit_of(alloc: Global, tokens: &List<Token>) -> Result<CheckedUnit, Refusal>
+    requires { EndsText tokens.now.items }
+    ensures { Finds (IsRatfor tokens.now.items) result }
+{
+    let program = parse(alloc, tokens)?;
+    parsed_has_room();
+    main_unit(alloc, &program)
+}
+
+/// The unit of a tree's one main program. Each unit is checked before they are counted.
+fn main_unit(alloc: Global, program: &RatProgram) -> Result<CheckedUnit, Refusal>
+    requires { AllHaveRoom (program_of program.now).routines }
+    ensures { Finds (λ c. c ≡ checked (program_of program.now)) result }
+{
+    let mut units = lower(alloc, program)?;
+    if let Some(second) = program.units.get(1) {
+        return Err(main_count(first_statement(second)));
+    }
+    match units.pop() {
+        Some(unit) => Ok(unit),
+        None => Err(main_count(program.finish)),
+    }
+}
+
+/// Where a unit's first statement stands, after its labels; a unit without one stands at its `end`.
+fn first_statement(unit: &RatUnit) -> Place
+    ensures { result ≡ first_statement_of (rat_routine_of unit.now) }
+{
+    match unit.body.first() {
+        Some(statement) => statement.place,
+        None => unit.place,
+    }
+}
+
+fn main_count(place: Place) -> Refusal
+    ensures { result ≡ Refusal.Fault (fault_at place FaultKind.MainCount) }
+{
+    Refusal::Fault(Fault::new(place, FaultKind::MainCount))
+}
