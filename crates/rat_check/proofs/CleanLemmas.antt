@@ -5,10 +5,11 @@ use Rattle.std.proofs.lemmas.Bool.{or_parts}
 use Rattle.std.proofs.lemmas.Option.{none-some}
 use Rattle.ground.specs.declared.place.Place.{Place}
 use Rattle.rule_table.specs.declared.rule.Rule.{Rule}
-use Rattle.rule_table.specs.declared.rule.Rule.TheVariants.{Syntax, BadLabel, BadBreak, DuplicateCase}
+use Rattle.rule_table.specs.declared.rule.Rule.TheVariants.{Syntax, BadLabel, BadBreak, DuplicateCase, LongText}
 use Rattle.rule_table.proofs.RuleLemmas.{first_rule-least}
 use Rattle.rat_check.specs.Parts.{Part}
 use Rattle.rat_check.specs.Said.{said_by, context_of_parts}
+use Rattle.rat_check.specs.LongTexts.{is_long_form}
 use Rattle.rat_check.specs.Rules.{is_built_form, Before, nothing_before, behind, UnitRules, is_late_form, is_own_label, finds_labels, is_second_default, breaks_own, break_names, breaks, broken_rule}
 use Rattle.rat_check.specs.FirstFault.{or_else, first_unbuilt_part, fault_if, first_broken, unit_whole, unbuilt_at, fault_of_parts}
 
@@ -47,6 +48,7 @@ pub record Keeps (u : UnitRules) (b : Before) (v : Part) : Type 0 where
   pub found : finds_labels u.formats v.reached v.form ≡ true
   pub inside : v.inside ≡ true
   pub single : is_second_default v.form ≡ false
+  pub fits : is_long_form v.form ≡ false
   pub named : (k : Rule) → break_names u.context u.said b.said (said_by v.form) k ≡ false
 
 keeps : (u : UnitRules) (b : Before) (v : Part) → broken_rule u b v ≡ None → Keeps u b v
@@ -54,7 +56,7 @@ keeps u b v e =
     let clean : (k : Rule) → breaks u b v k ≡ false = first_rule-least (breaks u b v) None (sym e) in
     let rule : (k : Rule) → (breaks_own u.formats b v k ≡ false) × (break_names u.context u.said b.said (said_by v.form) k ≡ false) = λ k. or_parts (breaks_own u.formats b v k) _ (clean k) in
     let labels = and_true (is_own_label b.labels v.label) (finds_labels u.formats v.reached v.form) (not_false _ (rule BadLabel).0) in
-    record { early = (rule Syntax).0; own = labels.0; found = labels.1; inside = not_false v.inside (rule BadBreak).0; single = (rule DuplicateCase).0; named = λ k. (rule k).1 }
+    record { early = (rule Syntax).0; own = labels.0; found = labels.1; inside = not_false v.inside (rule BadBreak).0; single = (rule DuplicateCase).0; fits = (rule LongText).0; named = λ k. (rule k).1 }
 
 -- the first part keeps the rules, and those behind it do
 pub first_keeps : (u : UnitRules) (b : Before) (v : Part) (vs : List Part) → first_broken u b (v ∷ vs) ≡ None → Keeps u b v × (first_broken u (behind b v) vs ≡ None)

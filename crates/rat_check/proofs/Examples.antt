@@ -1,5 +1,6 @@
 -- The first faults of small units, by computation.
 use Rattle.std.proofs.Common.{◌≡◌, true, false, refl}
+use Rattle.std.specs.Fmt.{digits}
 use Rattle.std.specs.Prelude.{ℕ, pos, List, [], ◌∷◌, Option, Some, None, codes}
 use Rattle.ground.specs.Faults.{limit_at}
 use Rattle.ground.specs.declared.fault.Fault.{Fault}
@@ -53,6 +54,7 @@ one p = plain p (set i (num (pos 1)))
 
 -- i = 1; if (l & k(i) < 3) k(i) = 2, with the declarations before
 mixed : first (logical 1 ∷ array 2 ∷ one 3 ∷ If (here 4) (Pair And (var l) (Pair Lt (with_one k (var i)) (num (pos 3)))) (plain 4 (Assign (with_one k (var i)) (num (pos 2)))) ∷ []) ≡ None
+unfolding digits
 mixed = refl
 
 -- 9 format(i3), ;, { logical l } at the beginning
@@ -60,6 +62,7 @@ abbrev format_first : Command
 format_first = Plain (Some 9) (here 1) i3.act
 
 nothing_yet : first (format_first ∷ Empty (here 1) ∷ block 2 (logical 2 ∷ []) ∷ one 3 ∷ []) ≡ None
+unfolding digits
 nothing_yet = refl
 
 -- ---- the rules of names ----
@@ -70,6 +73,7 @@ integer_condition = refl
 
 -- the condition of until takes its turn where it stands
 late_condition : first (RepeatUntil (here 1) (block 1 (one 2 ∷ [])) (var i) (here 3) ∷ []) ≡ at 3 TypeClash
+unfolding digits
 late_condition = refl
 
 -- switch (l) with an array as a case: the value comes first
@@ -77,6 +81,7 @@ logical_value : first (logical 1 ∷ Switch (here 2) (var l) (AndClause (AndForm
 logical_value = refl
 
 array_case : first (array 1 ∷ Switch (here 2) (var i) (AndClause (AndFormula (num (pos 1)) (AndFormula (var k) NoFormula)) false NoCommand (here 3) NoClause) ∷ []) ≡ at 3 TypeClash
+unfolding digits
 array_case = refl
 
 -- a `for` whose condition is an integer, and whose step has a long name: the smaller number
@@ -85,6 +90,7 @@ for_smaller = refl
 
 -- do k = 1, 3 with the array k
 array_counts : first (array 1 ∷ Do (here 2) k (Constant (pos 1)) (Constant (pos 3)) (Constant (pos 1)) (one 2) ∷ []) ≡ at 2 NotAssignable
+unfolding digits
 array_counts = refl
 
 -- a declaration counts before it too, and stands at the wrong place
@@ -92,18 +98,21 @@ real_declared : first (plain 1 (set (codes "A") (num (pos 1))) ∷ []) ≡ at 1 
 real_declared = refl
 
 declared_late : first (plain 1 (set (codes "A") (num (pos 1))) ∷ plain 2 (Typed Integer (scalar (codes "A") ∷ [])) ∷ []) ≡ at 2 Syntax
+unfolding digits
 declared_late = refl
 
 twice_declared : first (logical 1 ∷ logical 2 ∷ []) ≡ at 2 DuplicateName
 twice_declared = refl
 
 wrong_count : first (array 1 ∷ plain 2 (set i (Item k (AndFormula (num (pos 1)) (AndFormula (num (pos 2)) NoFormula)))) ∷ []) ≡ at 2 WrongCount
+unfolding digits
 wrong_count = refl
 
 empty_array : first (plain 1 (Dimension (sized k 0 ∷ [])) ∷ []) ≡ at 1 BadConstant
 empty_array = refl
 
 whole_array : first (array 1 ∷ plain 2 (set k (num (pos 1))) ∷ []) ≡ at 2 NotAssignable
+unfolding digits
 whole_array = refl
 
 -- limit 7
@@ -121,9 +130,11 @@ behind_label = refl
 -- ---- Ratfor's own ----
 
 own_rules : first (While (here 1) (Pair Lt (var i) (num (pos 3))) (block 1 (plain 2 (Goto 10) ∷ Break (here 3) 2 ∷ [])) ∷ []) ≡ at 2 BadLabel
+unfolding digits
 own_rules = refl
 
 too_far : first (While (here 1) (Pair Lt (var i) (num (pos 3))) (Break (here 3) 2) ∷ []) ≡ at 3 BadBreak
+unfolding digits
 too_far = refl
 
 second_default : first (Switch (here 1) (var i) (AndClause NoFormula true NoCommand (here 2) (AndClause NoFormula true NoCommand (here 3) NoClause)) ∷ []) ≡ at 3 DuplicateCase
@@ -131,6 +142,7 @@ second_default = refl
 
 -- a jump to a label that is missing, by an array: the smaller number
 array_jump : first (array 1 ∷ Plain None (here 2) (Computed (10 ∷ []) k) ∷ []) ≡ at 2 TypeClash
+unfolding digits
 array_jump = refl
 
 -- ---- what is not built goes first ----

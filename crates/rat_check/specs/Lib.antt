@@ -1,6 +1,7 @@
 -- The definitions that the contracts of rat_check cite.
 pub mod Parts
 pub mod Said
+pub mod LongTexts
 pub mod Rules
 pub mod FirstFault
 pub mod FormViews

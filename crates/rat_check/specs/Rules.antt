@@ -3,7 +3,7 @@
 use Rattle.std.specs.Prelude.{ℕ, ◌+◌, nat_le, Bool, true, false, not, ◌&&◌, ◌||◌, List, [], ◌∷◌, length, Option, Some, None}
 use Rattle.std.specs.List.{list_all}
 use Rattle.rule_table.specs.declared.rule.Rule.{Rule}
-use Rattle.rule_table.specs.declared.rule.Rule.TheVariants.{Syntax, BadLabel, BadBreak, DuplicateCase}
+use Rattle.rule_table.specs.declared.rule.Rule.TheVariants.{Syntax, BadLabel, BadBreak, DuplicateCase, LongText}
 use Rattle.rule_table.specs.FaultRules.{first_rule}
 use Rattle.f66_tree.specs.Syntax.{Act, Assign, Sign, When, Loop, Read, Write}
 use Rattle.f66_tree.specs.Units.{Context}
@@ -12,6 +12,7 @@ use Rattle.f66_names.specs.Rules.{breaks_name}
 use Rattle.f66_flow.specs.Acts.{is_specification, is_format}
 use Rattle.rat_check.specs.Parts.{Form, Bare, Statement, CaseList, ForHead, ReturnHead, Labels, no_label, with_label, Part}
 use Rattle.rat_check.specs.Said.{said_by}
+use Rattle.rat_check.specs.LongTexts.{is_long_form}
 
 -- ---- what is built ----
 
@@ -93,6 +94,7 @@ breaks_own formats b v Syntax = is_late_form b.begun v.form
 breaks_own formats b v BadLabel = not (is_own_label b.labels v.label && finds_labels formats v.reached v.form)
 breaks_own formats b v BadBreak = not v.inside
 breaks_own formats b v DuplicateCase = is_second_default v.form
+breaks_own formats b v LongText = is_long_form v.form
 breaks_own formats b v _ = false
 
 -- what is said of names, from the n-th of the unit on, breaks a rule of names, types, counts, constants and stores

@@ -5,6 +5,7 @@ mod before;
 mod built;
 mod forms;
 mod labels;
+mod long_texts;
 mod parts;
 mod rules;
 mod said;

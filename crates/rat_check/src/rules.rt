@@ -9,6 +9,7 @@ ghost use Rattle.rat_check.specs.FormViews.{form_of};
 ghost use Rattle.rat_check.specs.PartViews.{part_of, before_of, whole_by};
 ghost use Rattle.rat_check.specs.Survey.{is_among};
 
+use crate::long_texts::is_long_form;
 use crate::{Before, Form, LabelSet, Part};
 use f66_flow::is_specification;
 use f66_names::{Names, Saying, saying_rule};
@@ -51,6 +52,9 @@ fn own_rule(formats: &LabelSet, before: &Before, part: &Part) -> Option<Rule>
     }
     if part.form.is_second_default() {
         return Some(Rule::DuplicateCase);
+    }
+    if is_long_form(part.form) {
+        return Some(Rule::LongText);
     }
     None
 }

@@ -1,5 +1,5 @@
 // The texts of expressions.
-ghost use Rattle.std.specs.Prelude.{◌≡◌, map};
+ghost use Rattle.std.specs.Prelude.{◌≡◌, ◌≤◌, [], length, map, IsSome, IfSome, ◌↔◌};
 ghost use Rattle.f66_tree.specs.Syntax.{Item};
 ghost use Rattle.f66_tree.specs.Views.{chained, formula_of};
 ghost use Rattle.stmt_text.specs.Emitting.{Emits};
@@ -7,6 +7,17 @@ ghost use Rattle.stmt_text.specs.Texts.{formula_text, formulas_text, operator_te
 
 use crate::writer::{StatementText, push, push_all, push_number};
 use f66_tree::{Expr, Name, Operator};
+
+/// The text of an expression, unless it passes twenty cards.
+pub fn expression_text(e: &Expr) -> Option<StatementText>
+    ensures fits { IsSome result ↔ (length (formula_text (formula_of e.now) []) ≤ 1320) }
+    ensures text { IfSome result (λ text. text.items ≡ formula_text (formula_of e.now) []) }
+{
+    let mut text = StatementText::new();
+    push_formula(&mut text, e)?;
+    prove!(text.len() <= 1320);
+    Some(text)
+}
 
 /// Adds an expression.
 #[cycle(texts)]

@@ -1,4 +1,4 @@
-//! The texts of statements and headers, as cards have them.
+//! The texts of statements, headers and expressions, as cards have them.
 #![tactic(auto)]
 
 mod declarations;
@@ -10,6 +10,7 @@ mod lists;
 mod statements;
 mod writer;
 
+pub use expressions::expression_text;
 pub use headers::header_text;
 pub use statements::statement_text;
 pub use writer::StatementText;
