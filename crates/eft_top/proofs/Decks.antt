@@ -49,3 +49,7 @@ labels_fit unit sound k d l =
     let line : slice_get (lines_of all) k ≡ Some (line_of (slice_index_or all k d)) = slice_get-map line_of all k ∙ ap (option_map line_of) at in
     let labels = (clean_line (routine_of unit) sound k (line_of (slice_index_or all k d)) BadLabel line).0 in
     label_fits (lines_of all) k (slice_index_or all k d).label (or_parts (has_bad_label (lines_of all) k (line_of (slice_index_or all k d))) _ labels).0
+
+-- of one unit alone
+pub alone_printable : (u : Routine) → All IsPrintable (u ∷ []) → IsPrintable u
+alone_printable u h = h zero u (omega arith)

@@ -1,8 +1,0 @@
--- The lemmas of eft_top.
-mod ReadWords
-mod Statuses
-mod StepNumbers
-mod ReadsInARow
-mod Puts
-mod Reports
-mod Runs

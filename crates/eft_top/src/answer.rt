@@ -19,7 +19,7 @@ use crate::report::Report;
 use crate::words::{Asked, read_words};
 use deck::push_unit;
 use front::{Compiled, TextRefusal, compile_text};
-use ground::{Dialect, Memory};
+use ground::{Dialect, Memory, Refusal};
 use ports::{Library, Source};
 use std::alloc::Global;
 use unit_walk::walk;
@@ -113,7 +113,8 @@ fn print_unit(alloc: Global, compiled: &Compiled) -> Result<Report, Memory>
     let mut deck = Vec::new(alloc);
     match push_unit(compiled.unit.unit(), &mut deck) {
         Ok(()) => Ok(Report::of_deck(deck)),
-        Err(_) => Err(Memory),
+        Err(Refusal::Memory) => Err(Memory),
+        Err(Refusal::Fault(_)) => unreachable!(),
     }
 }
 

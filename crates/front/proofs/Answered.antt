@@ -33,6 +33,7 @@ use Rattle.rat_lower.specs.Served.{Serves, AllServe}
 use Rattle.front.specs.Checked.{Meaning, Checked, Means}
 use Rattle.front.specs.Ratfor.{command_place, first_in, one_main, or_fault, checked}
 use Rattle.front.specs.Verdict.{IsChecked, in_files, IsVerdictOf, Becomes}
+use Rattle.stmt_text.specs.Fitting.{IsPrintable}
 use Rattle.front.specs.Programs.{IsProgramOf}
 
 -- ---- parse ----
@@ -62,6 +63,7 @@ program_by body unit serves = record {
   linked = (serves.header, refl);
   agrees = serves.agrees;
   found = serves.found;
+  printable = alone_all IsPrintable (unit_routine unit) serves.printable;
 }
 
 -- the unit of a program that has no second one

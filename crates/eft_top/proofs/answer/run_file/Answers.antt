@@ -1,10 +1,9 @@
 -- Why `run_file` keeps its clauses.
-use Rattle.std.proofs.Common.{rules, refl}
+use Rattle.std.proofs.Common.{refl}
 use Rattle.front.specs.Verdict.{Accepts, Refuses}
-use Rattle.eft_top.specs.Outcome.{HasFault}
-use Rattle.eft_top.specs.Report.{IsReport}
+use Rattle.eft_top.specs.Words.{Run}
 use Rattle.eft_top.specs.Story.{Shows}
-use Rattle.eft_top.proofs.Reports.{if_ok, told_of}
+use Rattle.eft_top.proofs.Reports.{if_ok, told_of, refused_came}
 use Rattle.eft_top.proofs.answer.run_file.Goals as goal
 
 pub returns-in-Ok-clause-came : goal.returns-in-Ok-clause-came
@@ -19,9 +18,9 @@ returns-in-Ok-clause-came g c =
 pub returns-in-Ok-clause-unread : goal.returns-in-Ok-clause-unread
 returns-in-Ok-clause-unread g c = if_ok (λ report needs none. absurd (needs none)) c.read_and_run.result c.read_and_run.ensures.needs
 
-pub returns-in_ok-of_fault-in-Err-Fault-clause-came : goal.returns-in_ok-of_fault-in-Err-Fault-clause-came
-returns-in_ok-of_fault-in-Err-Fault-clause-came g c =
-    let text = rw c.in-Err-Fault.field-0-is at c.in-Err-Fault.ensures.text in
-    let same = rw c.in-Err-Fault.field-0-is at c.in-Err-Fault.ensures.cause in
-    let shows : IsReport c.in_ok-of_fault-in-Err-Fault.field-0 (HasFault c.in-Err-Fault.fault c.in-Err-Fault.name) = search rules in
-    Shows (HasFault c.in-Err-Fault.fault c.in-Err-Fault.name) (text.known, text.of, (Refuses c.in-Err-Fault.fault c.in-Err-Fault.name, text.gives, refl)) same shows
+pub returns-in-Err-clause-came : goal.returns-in-Err-clause-came
+returns-in-Err-clause-came g c =
+    if_ok (λ report shows.
+    refused_came (Run c.args.limit c.args.language c.args.file.now) c.args.language c.args.file.now _ _ _ _ c.in-Err.refusal report (λ fault name known becomes. (Refuses fault name, becomes, refl)) c.in-Err.ensures.text c.in-Err.ensures.cause shows)
+    c.refused.result
+    c.refused.ensures
