@@ -39,6 +39,7 @@ class Grammar:
                 assert production not in self.rows, production
                 self.productions.append(production)
                 self.rows[production] = (nonterminal, words, only)
+        assert max(len(self.productions), len(self.terminals)) <= 256, 'an enum has at most 256 variants'
         self.nonterminals = list(dict.fromkeys(row[0] for row in self.rows.values()))
         for production, (_, words, _) in self.rows.items():
             for word in words:
