@@ -1,0 +1,22 @@
+//! What the parts of an EFL text give, and how it is taken apart.
+#![tactic(auto)]
+
+mod counts;
+mod expressions;
+mod lists;
+mod value;
+mod words;
+
+pub use expressions::{
+    into_expr, into_expr_if_any, into_joins, into_path, into_rest, into_steps, ordered_steps,
+};
+pub use lists::{Item, longer, more_by, no_items, ordered, pop_value, skip};
+pub use value::{
+    CountValue, DeclarationValue, ExpressionValue, Lists, Opening, ProcedureValue, RecordValue,
+    Rest, StatementValue, Tail, TypeValue, Value,
+};
+pub use words::{
+    NOWHERE, into_name, into_text, into_word, is_decrement, is_minus, is_word, operator_of,
+    place_of, take_count_or_one, take_integer, take_letter, take_number, take_place, take_sign,
+    take_truth,
+};
