@@ -17,7 +17,7 @@ use Rattle.efl_tree.specs.declared.statement.EflEdit.TheVariants as edits
 use Rattle.efl_tree.specs.Syntax.{Text, EflExpr, Int, EflExprs, NoExpr, EflPlace, Path, EflSteps, NoStep, EflVar, EflType, Integer, EflGroups, NoGroup, AndGroup, EflPreset, EflDeclKind, Variables, EflDecl, WriteItem, ReadItem, EflStmt, Statement, Empty, EflStmts, NoStmt, EflCases, NoCase, AndCase, EflProcedure, EflProgram}
 use Rattle.efl_tree.specs.Syntax as efl
 use Rattle.efl_parse_table.specs.Words.{is_spelled}
-use Rattle.efl_parse_values.specs.Kinds.{Joins, Tail, Rest, Called}
+use Rattle.efl_parse_values.specs.Kinds.{Joins, Tail, Rest, Called, Opening}
 use Rattle.efl_parse_values.specs.Kinds as part
 use Rattle.efl_parse_values.specs.Values.{Val, tok}
 use Rattle.efl_parse_values.specs.Values as val
@@ -137,6 +137,11 @@ first_letter (c ∷ cs) = c
 abbrev pub letter_in : Val → ℕ
 letter_in v = first_letter (name_in v)
 
+-- the first letter of a name, if the part is one
+abbrev pub letter_part : Val → Option ℕ
+letter_part (tok t) = Some (first_letter (kind_name t.kind))
+letter_part _ = None
+
 -- what a part gives that is of this kind
 abbrev pub as_expr : Val → EflExpr
 as_expr (val.expression (part.expr x)) = x
@@ -188,6 +193,11 @@ abbrev pub as_ranges : Val → List (ℕ × ℕ)
 as_ranges (val.count (part.ranges xs)) = xs
 as_ranges _ = []
 
+-- an upper bound, if the part is one
+abbrev pub upper_part : Val → Option (Option ℤ)
+upper_part (val.count (part.upper o)) = Some o
+upper_part _ = None
+
 abbrev pub count_in : Val → ℕ
 count_in (val.count (part.leaving n k)) = n
 count_in _ = 1
@@ -226,6 +236,10 @@ abbrev pub as_groups : Val → EflGroups
 as_groups (val.type_part (part.groups x)) = x
 as_groups _ = NoGroup
 
+abbrev pub groups_part : Val → Option EflGroups
+groups_part (val.type_part (part.groups x)) = Some x
+groups_part _ = None
+
 abbrev pub outline_groups : Val → Option EflGroups
 outline_groups (val.type_part (part.outline o xs)) = o
 outline_groups _ = None
@@ -233,6 +247,10 @@ outline_groups _ = None
 abbrev pub constant_in : Val → EflConst
 constant_in (val.declaration_part (part.constant x)) = x
 constant_in _ = constants.Int (pos 0)
+
+abbrev pub constant_part : Val → Option EflConst
+constant_part (val.declaration_part (part.constant x)) = Some x
+constant_part _ = None
 
 abbrev pub datum_in : Val → ℕ × EflConst
 datum_in (val.declaration_part (part.datum n c)) = (n, c)
@@ -284,6 +302,15 @@ abbrev pub as_stmt : Val → EflStmt
 as_stmt (val.statement (part.stmt x)) = x
 as_stmt _ = Statement [] nowhere Empty
 
+abbrev pub stmt_part : Val → Option EflStmt
+stmt_part (val.statement (part.stmt x)) = Some x
+stmt_part _ = None
+
+-- the condition of `until`, and its place
+abbrev pub until_part : Val → Option (EflExpr × Place)
+until_part (val.expression (part.located p x)) = Some (x, p)
+until_part _ = None
+
 abbrev pub as_stmts : Val → EflStmts
 as_stmts (val.statement (part.stmts x)) = x
 as_stmts _ = NoStmt
@@ -304,6 +331,10 @@ decls_in _ = []
 abbrev pub body_in : Val → EflStmts
 body_in (val.statement (part.lists ds ss)) = ss
 body_in _ = NoStmt
+
+abbrev pub opening_part : Val → Option Opening
+opening_part (val.statement (part.opening o)) = Some o
+opening_part _ = None
 
 abbrev pub heading_name : Val → Option Text
 heading_name (val.procedure_part (part.heading x xs)) = x

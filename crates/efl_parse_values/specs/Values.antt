@@ -3,6 +3,7 @@ use Rattle.std.specs.Prelude.{ℕ, ℤ, zero, suc, Bool, Option, None, Some, Lis
 use Rattle.ground.specs.declared.place.Place.{Place}
 use Rattle.ground.specs.declared.token.Token.{Token}
 use Rattle.std.specs.declared.vec.Vec.{Vec}
+use Rattle.std.specs.declared.boxed.Box.{Box}
 use Rattle.std.specs.declared.alloc.Global.{Global}
 use Rattle.grammar.specs.Stack.{piled}
 use Rattle.efl_tree.specs.declared.expression.EflOperator.{EflOperator}
@@ -10,6 +11,7 @@ use Rattle.efl_tree.specs.declared.expression.EflExpr as trees
 use Rattle.efl_tree.specs.declared.declaration.EflBound.{EflBound}
 use Rattle.efl_tree.specs.declared.declaration.EflConst.{EflConst}
 use Rattle.efl_tree.specs.declared.declaration.EflGroup as group_trees
+use Rattle.efl_tree.specs.declared.statement.EflStmt as stmt_trees
 use Rattle.efl_tree.specs.declared.statement.LoopKind.{LoopKind}
 use Rattle.efl_tree.specs.declared.statement.EflEdit.{EflEdit}
 use Rattle.efl_tree.specs.Syntax.{Text, EflExpr, EflExprs, EflPlace, EflSteps, EflVar, EflType, EflGroups, EflPreset, EflDeclKind, EflDecl, WriteItem, ReadItem, EflStmt, EflStmts, EflCases, EflProcedure, EflProgram}
@@ -206,10 +208,22 @@ abbrev pub groups_if_any : Option (Vec group_trees.EflGroup Global) → Option E
 groups_if_any None = None
 groups_if_any (Some all) = Some (groups_of all.items)
 
+abbrev pub stmt_if_any : Option (Box stmt_trees.EflStmt Global) → Option EflStmt
+stmt_if_any None = None
+stmt_if_any (Some s) = Some (stmt_of s.value)
+
+abbrev pub until_if_any : Option (trees.EflExpr × Place) → Option (EflExpr × Place)
+until_if_any None = None
+until_if_any (Some u) = Some (expr_of u.0, u.1)
+
 abbrev pub opening_of : openings.Opening → Opening
 opening_of (in_opening.Declares vs ls) = Declares (vars_of (reverse vs.items)) (decls_of (reverse ls.declarations.items)) (stmts_of (reverse ls.body.items))
 opening_of (in_opening.Begins r ss) = Begins (rest_of r) (stmts_of (reverse ss.items))
 opening_of (in_opening.Labels s ss) = Labels (stmt_of s) (stmts_of (reverse ss.items))
+
+abbrev pub opening_if_any : Option (Box openings.Opening Global) → Option Opening
+opening_if_any None = None
+opening_if_any (Some o) = Some (opening_of o.value)
 
 abbrev pub expression_value : ExpressionValue → ExpressionVal
 expression_value (in_expression.Expr a) = part.expr (expr_of a)

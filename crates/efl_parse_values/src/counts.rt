@@ -2,12 +2,12 @@
 ghost use Rattle.std.specs.Prelude.{◌≡◌, ◌∷◌, ℕ, ℤ, List, reverse, refl};
 ghost use Rattle.efl_tree.specs.Syntax.{Text as Word};
 ghost use Rattle.efl_parse_values.specs.Values.{value, names, integers, ranges};
-ghost use Rattle.efl_parse_values.specs.Parts.{name_in, integer_in, range_in, as_names, as_integers, as_ranges};
+ghost use Rattle.efl_parse_values.specs.Parts.{name_in, integer_in, range_in, as_names, as_integers, as_ranges, upper_part, count_in, loop_in};
 
 use crate::lists::Item;
 use crate::value::{CountValue, ProcedureValue, Value};
 use crate::words::{into_name, take_integer};
-use efl_tree::EflName;
+use efl_tree::{EflName, LoopKind};
 use std::alloc::Global;
 
 impl Item for EflName {
@@ -109,7 +109,7 @@ impl Item for (u8, u8) {
     fn into_item(_alloc: Global, part: Value) -> (u8, u8)
         ensures { (rest : List (ℕ × ℕ)) → result ∷ rest ≡ range_in (value part) ∷ rest }
     {
-        into_range(part)
+        take_range(part)
     }
 
     fn into_list(alloc: Global, part: Value) -> Vec<(u8, u8)>
@@ -131,7 +131,7 @@ impl Item for (u8, u8) {
     }
 }
 
-fn into_range(part: Value) -> (u8, u8)
+pub fn take_range(part: Value) -> (u8, u8)
     ensures { result ≡ range_in (value part) }
 {
     match part {
@@ -139,6 +139,33 @@ fn into_range(part: Value) -> (u8, u8)
         other => {
             drop(other);
             (0, 0)
+        }
+    }
+}
+
+/// An upper bound, which is missing where it is `*`.
+pub fn take_upper_if_any(part: Value) -> Option<Option<i64>>
+    ensures { result ≡ upper_part (value part) }
+{
+    match part {
+        Value::Count(CountValue::Upper(upper)) => Some(upper),
+        other => {
+            drop(other);
+            None
+        }
+    }
+}
+
+/// What `break` and `next` count, and the kind that they name.
+pub fn take_leaving(part: Value) -> (u32, Option<LoopKind>)
+    ensures count { result.0 ≡ count_in (value part) }
+    ensures kind { result.1 ≡ loop_in (value part) }
+{
+    match part {
+        Value::Count(CountValue::Leaving(count, kind)) => (count, kind),
+        other => {
+            drop(other);
+            (1, None)
         }
     }
 }

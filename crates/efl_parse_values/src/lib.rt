@@ -2,11 +2,17 @@
 #![tactic(auto)]
 
 mod counts;
+mod declarations;
 mod expressions;
 mod lists;
 mod value;
 mod words;
 
+pub use counts::{take_leaving, take_range, take_upper_if_any};
+pub use declarations::{
+    into_decl, into_groups_if_any, into_outline, into_type, into_values, take_constant,
+    take_constant_if_any,
+};
 pub use expressions::{
     into_expr, into_expr_if_any, into_joins, into_path, into_rest, into_steps, ordered_steps,
 };
@@ -17,6 +23,6 @@ pub use value::{
 };
 pub use words::{
     NOWHERE, into_name, into_text, into_word, is_decrement, is_minus, is_word, operator_of,
-    place_of, take_count_or_one, take_integer, take_letter, take_number, take_place, take_sign,
-    take_truth,
+    place_of, take_count_or_one, take_integer, take_letter, take_letter_if_any, take_number,
+    take_place, take_sign, take_truth,
 };

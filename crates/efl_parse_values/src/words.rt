@@ -2,7 +2,7 @@
 ghost use Rattle.std.specs.Prelude.{◌≡◌};
 ghost use Rattle.efl_parse_table.specs.Words.{is_spelled as spells};
 ghost use Rattle.efl_parse_values.specs.Values.{value};
-ghost use Rattle.efl_parse_values.specs.Parts.{place_in, kind_name, name_in, kind_text, text_in, letter_in, first_letter, kind_integer, integer_in, capped as capped_so, number_in, count_or_one, kind_sign, sign_in, is_minus as minus, is_decrement as decrement, operator_of as operator, kind_word, is_word as word_is, is_true as truth};
+ghost use Rattle.efl_parse_values.specs.Parts.{place_in, kind_name, name_in, kind_text, text_in, letter_in, letter_part, first_letter, kind_integer, integer_in, capped as capped_so, number_in, count_or_one, kind_sign, sign_in, is_minus as minus, is_decrement as decrement, operator_of as operator, kind_word, is_word as word_is, is_true as truth};
 
 use crate::value::{
     CountValue, DeclarationValue, ExpressionValue, ProcedureValue, StatementValue, TypeValue, Value,
@@ -103,6 +103,19 @@ pub fn take_letter(alloc: Global, part: Value) -> u8
     ensures { result ≡ letter_in (value part) }
 {
     first_of(&into_word(alloc, part))
+}
+
+/// The first letter of a name, if the part is one.
+pub fn take_letter_if_any(alloc: Global, part: Value) -> Option<u8>
+    ensures { result ≡ letter_part (value part) }
+{
+    match part {
+        Value::Token(token) => Some(first_of(&word_of_kind(alloc, token.kind))),
+        other => {
+            drop(other);
+            None
+        }
+    }
 }
 
 fn first_of(word: &Text) -> u8
