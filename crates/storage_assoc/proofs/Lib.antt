@@ -8,3 +8,6 @@ pub mod WalkLemmas
 pub mod TableLemmas
 pub mod NamingLemmas
 pub mod NamingExamples
+pub mod ListingLemmas
+pub mod PlacingLemmas
+pub mod RowLemmas

@@ -1,13 +1,19 @@
 //! Which places of FORTRAN's names are one storage unit.
 #![tactic(auto)]
 
+mod associating;
 mod association;
+mod blocks;
 mod commons;
 mod equivalences;
-mod laws;
+mod listing;
+mod number;
+mod placed;
+mod sizes;
+mod table;
 mod units;
 mod walk;
 
-pub use association::{Association, Table, associate};
-pub use laws::lists_serve;
+pub use associating::associate;
+pub use association::Association;
 pub use units::number_units;

@@ -1,16 +1,23 @@
--- The sum fits, since all numbers are below the total.
-use Rattle.std.proofs.Common.{◌<◌, ℕ, List, Option, slice_index, sym, arith}
-use Rattle.std.specs.HashMap.{get_by}
-use Rattle.std.specs.Str.{bytes_eq}
-use Rattle.storage_assoc.proofs.TableLemmas.{number_below}
+-- A row that a name has is one of the rows, and the sum fits.
+use Rattle.std.proofs.Common.{◌<◌, slice_index, sym, arith}
 use Rattle.storage_assoc.proofs.association.Association.number_of.Goals as goal
+
+pub offset_bounds-sizes-row : goal.offset_bounds-sizes-row
+offset_bounds-sizes-row c =
+    let i = (c.args.self.now.inside c.args.name.now c.in_ok-row.field-0.now (sym c.in_ok-row.ensures.value)).0 in
+    grind (arith, i, c.args.self.now.sizes.small)
+
+pub bounds-sizes-row : goal.bounds-sizes-row
+bounds-sizes-row c =
+    rw c.as_slice-sizes.ensures.value (c.args.self.now.inside c.args.name.now c.in_ok-row.field-0.now (sym c.in_ok-row.ensures.value)).0
+
+pub bounds-firsts-row : goal.bounds-firsts-row
+bounds-firsts-row c =
+    rw c.as_slice-firsts.ensures.value (c.args.self.now.inside c.args.name.now c.in_ok-row.field-0.now (sym c.in_ok-row.ensures.value)).1
 
 pub overflow_add-result : goal.overflow_add-result
 overflow_add-result c =
-    let find : List ℕ → Option ℕ = λ q. get_by (λ k. bytes_eq q k.now) c.args.self.now.rows in
-    let sizes = c.args.self.now.sizes.items in
-    let firsts = c.args.self.now.firsts.items in
     let row = c.in_ok-row.field-0.now in
-    let o_in : c.args.place < slice_index sizes row = rw c.as_slice-sizes.ensures.value at c.if-place-sizes.true in
-    let l = number_below c.requires.associated.0 find sizes firsts c.args.self.now.total c.requires.associated.1 c.args.name.now row c.args.place (sym c.in_ok-row.ensures.value) o_in in
+    let o_in : c.args.place < slice_index c.args.self.now.sizes.items row = rw c.as_slice-sizes.ensures.value at c.if-place-sizes.true in
+    let l = c.args.self.now.fits c.args.name.now row c.args.place (sym c.in_ok-row.ensures.value) o_in in
     rw c.as_slice-firsts.ensures.value (omega (arith, l))

@@ -13,8 +13,8 @@ use Rattle.f66_tree.specs.Views.{par_of, routine_of}
 use Rattle.storage_assoc.specs.Tables.{IsTable}
 use Rattle.storage_assoc.specs.Walks.{LinesLinked}
 use Rattle.storage_assoc.proofs.BridgeLemmas.{bad_links}
-use Rattle.storage_assoc.proofs.TableLemmas.{within, some_counts, bad_at_last, indexed, first_bad, associated, too_many}
-use Rattle.storage_assoc.proofs.association.associate.Goals as goal
+use Rattle.storage_assoc.proofs.TableLemmas.{within, some_counts, bad_at_last, indexed, first_bad, associated, number_below, too_many}
+use Rattle.storage_assoc.proofs.associating.associate_by.Goals as goal
 
 pub number_units-requires-clause-within : goal.number_units-requires-clause-within
 number_units-requires-clause-within c =
@@ -209,3 +209,29 @@ returns-clause-associated c =
     let total = c.in-Some.numbers.total in
     let n : NumberRightly count links sizes firsts total = rw (c.in-Some.is, c.deref-3.ensures.value, c.deref-4.ensures.value) at c.in-Ok-number_units.ensures.numbered in
     associated r find blocks dims sizes count rows index t fills links counts w firsts total n (let q = c.if-numbers-gt-MOST.false in omega (arith, q))
+
+pub invariant_of-result : goal.invariant_of-result
+invariant_of-result c =
+    let r = routine_of c.args.unit.now in
+    let find : List ℕ → Option ℕ = λ q. get_by (λ k. bytes_eq q k.now) c.args.table.rows in
+    let blocks : List ℕ → Option ℕ = λ q. get_by (λ k. bytes_eq q k.now) c.args.table.areas in
+    let dims : List ℕ → Option (List Par) = λ q. option_map (λ ps. map par_of ps.now) (get_by (λ k. bytes_eq q k.now) c.args.table.dims) in
+    let sizes = c.args.table.sizes.items in
+    let count = c.args.table.count in
+    let rows = c.requires.0 in
+    let index = c.requires.1 in
+    let t : IsTable r find blocks dims sizes count rows index = c.requires.2 in
+    let links = c.in-Ok.walked.links.items in
+    let counts = c.in-Ok.walked.counts.items in
+    let fills = c.in-Ok.ensures.0 in
+    let linked : LinesLinked find blocks dims sizes r.lines fills links counts = rw (c.deref.ensures.value, c.deref-2.ensures.value) at c.in-Ok.ensures.1 in
+    let w = linked 0 (context_of r) rows index t.tabled in
+    let firsts = c.in-Some.numbers.firsts.items in
+    let total = c.in-Some.numbers.total in
+    let n : NumberRightly count links sizes firsts total = rw (c.in-Some.is, c.deref-3.ensures.value, c.deref-4.ensures.value) at c.in-Ok-number_units.ensures.numbered in
+    let is = associated r find blocks dims sizes count rows index t fills links counts w firsts total n (let q = c.if-numbers-gt-MOST.false in omega (arith, q)) in
+    let many : length firsts ≡ length sizes = rw (c.in-Some.is, c.deref-4.ensures.value) at c.in-Ok-number_units.ensures.many in
+    record {
+      inside = λ x i e. (let f = (t.sized.finds 0 x i e).0 in let m = t.sized.many in (omega (arith, f, m), omega (arith, f, m, many)));
+      fits = λ x i o e o_in. (let l = number_below r find sizes firsts total is x i o e o_in in omega (arith, l));
+    }
