@@ -1,0 +1,3 @@
+-- The lemmas of call_cycles.
+pub mod MarkLemmas
+pub mod FallLemmas

@@ -1,0 +1,3 @@
+-- The lemmas of f66_mentions.
+pub mod DimensionLemmas
+pub mod FormLemmas

@@ -1,0 +1,6 @@
+-- The lemmas of f66_program.
+pub mod WholeLemmas
+pub mod TieLemmas
+pub mod ProgramLemmas
+pub mod CountLemmas
+pub mod Examples

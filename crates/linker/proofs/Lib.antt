@@ -1,0 +1,3 @@
+-- The lemmas of linker.
+pub mod PartLemmas
+pub mod MainLemmas

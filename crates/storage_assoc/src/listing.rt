@@ -1,0 +1,45 @@
+// Names with numbers, in the order in which they are listed.
+ghost use Rattle.std.specs.Prelude.{◌≡◌, ◌<◌, ◌^◌, ◌||◌, ℕ, List, OnOk, IfOk, false};
+ghost use Rattle.std.specs.Str.{bytes_eq};
+ghost use Rattle.storage_assoc.specs.Listings.{IsListing, has_name};
+
+use std::alloc::{AllocError, Global};
+use std::collections::HashMap;
+
+/// Names, each once, with their numbers, which count from a first one on.
+#[derive(Drop)]
+pub(crate) struct Listing<'a> {
+    pub(crate) numbers: HashMap<&'a [u8], usize>,
+    pub(crate) names: Vec<&'a [u8]>,
+}
+
+/// No names.
+pub(crate) fn no_names<'a>(alloc: Global) -> Listing<'a>
+    ensures listing { (first : ℕ) → IsListing first result }
+    ensures none { (q : List ℕ) → has_name result q ≡ false }
+{
+    Listing {
+        numbers: HashMap::new(alloc),
+        names: Vec::new(alloc),
+    }
+}
+
+/// Lists a name, where it is not yet listed.
+pub(crate) fn list_name<'a>(
+    first: usize,
+    listing: &mut Listing<'a>,
+    name: &'a [u8],
+) -> Result<(), AllocError>
+    requires few { first < 2 ^ 62 }
+    requires listing { IsListing first listing.old }
+    ensures listing { OnOk result (IsListing first listing.new) }
+    ensures listed { OnOk result ((q : List ℕ) → has_name listing.new q ≡ (has_name listing.old q || bytes_eq q name.now)) }
+{
+    if listing.numbers.contains_key(name) {
+        return Ok(());
+    }
+    let number = first + listing.names.len();
+    listing.numbers.insert(name, number)?;
+    listing.names.push(name)?;
+    Ok(())
+}
