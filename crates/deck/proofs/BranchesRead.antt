@@ -54,12 +54,16 @@ goto_of_tokens : (w : List ℕ) (l : ℕ) → after_word (codes "GOTO") (t.Word 
 goto_of_tokens w l h =
     ap (λ (o : Option (List Token)). or_else (or_else (then_if o (λ rest. or_else (goto_of rest) (computed_of rest))) None) None) h
 
+pub goto_lexed : (l : ℕ) → l ≤ 2147483647 → tokens_of (statement_text (Goto l)) ≡ t.Word (71 ∷ 79 ∷ 84 ∷ 79 ∷ decimal l) ∷ []
+goto_lexed l small = word_goes_on (codes "GOTO") (decimal l) [] (digits_all l small)
+
+-- what stands behind the word
+pub goto_behind : (l : ℕ) → l ≤ 2147483647 → after_word (codes "GOTO") (t.Word (71 ∷ 79 ∷ 84 ∷ 79 ∷ decimal l) ∷ []) ≡ Some (t.Number l ∷ [])
+goto_behind l small =
+    ap (after_word (codes "GOTO")) (sym (goto_lexed l small)) ∙ keyword_taken (codes "GOTO") (decimal l ++ []) ∙ ap (λ (x : List Token). Some x) (number_begins false l [] small)
+
 pub goto_read : (l : ℕ) → l ≤ 2147483647 → statement_of (tokens_of (statement_text (Goto l))) ≡ Some (Goto l)
-goto_read l small =
-    let whole : lexed (InWord (codes "GOTO")) (decimal l ++ []) ≡ t.Word (71 ∷ 79 ∷ 84 ∷ 79 ∷ decimal l) ∷ [] = word_goes_on (codes "GOTO") (decimal l) [] (digits_all l small) in
-    let behind_it : lexed (Clear false) (decimal l ++ []) ≡ t.Number l ∷ [] = number_begins false l [] small in
-    ap statement_of whole
-    ∙ goto_of_tokens (79 ∷ 84 ∷ 79 ∷ decimal l) l (ap (after_word (codes "GOTO")) (sym whole) ∙ keyword_taken (codes "GOTO") (decimal l ++ []) ∙ ap (λ (x : List Token). Some x) behind_it)
+goto_read l small = ap statement_of (goto_lexed l small) ∙ goto_of_tokens (79 ∷ 84 ∷ 79 ∷ decimal l) l (goto_behind l small)
 
 -- ---- DO ----
 

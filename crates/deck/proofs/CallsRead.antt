@@ -52,7 +52,7 @@ others_lexed : (es : List Formula) (k : List ℕ) → AllByRecursion (λ e. is_r
 others_lexed [] k all b = refl
 others_lexed (e ∷ es) k all b = ap (λ (y : List Token). t.Comma ∷ y) (argument_lexed e (more_formulas_text (chained es) k) all.0 (others_break es k b) ∙ ap (λ (y : List Token). spell e y) (others_lexed es k all.1 b))
 
-arguments_lexed : (e : Formula) (es : List Formula) (k : List ℕ) → is_readable_argument e ≡ true → AllByRecursion (λ a. is_readable_argument a ≡ true) es → IsBreak k
+pub arguments_lexed : (e : Formula) (es : List Formula) (k : List ℕ) → is_readable_argument e ≡ true → AllByRecursion (λ a. is_readable_argument a ≡ true) es → IsBreak k
     → lexed (Clear true) (formulas_text (chained (e ∷ es)) k) ≡ spell_members spell t.Comma e es (lexed (Clear false) k)
 arguments_lexed e es k first all b = argument_lexed e (more_formulas_text (chained es) k) first (others_break es k b) ∙ ap (λ (y : List Token). spell e y) (others_lexed es k all b)
 
@@ -65,7 +65,7 @@ others_list (e ∷ es) k = ap (λ (y : List Token). t.Comma ∷ spell e y) (othe
 pub no_equals : (tokens : List Token) → cut is_equals 0 tokens ≡ None → assignment_of tokens ≡ None
 no_equals tokens is = ap (λ (o : Option Halves). then_if o (λ h. then_if (expression_of h.0) (λ a. then_if (place_if a) (λ x. then_if (expression_of h.1) (λ e. Some (Assign x e)))))) is
 
-call_is_none : (w : List ℕ) (e : Formula) (es : List Formula) → assignment_of (t.Word w ∷ t.Open ∷ spell_members spell t.Comma e es (t.Close ∷ [])) ≡ None
+pub call_is_none : (w : List ℕ) (e : Formula) (es : List Formula) → assignment_of (t.Word w ∷ t.Open ∷ spell_members spell t.Comma e es (t.Close ∷ [])) ≡ None
 call_is_none w e es =
     no_equals (t.Word w ∷ t.Open ∷ spell_members spell t.Comma e es (t.Close ∷ []))
     (ap (λ (y : List Token). cut is_equals 0 (t.Word w ∷ t.Open ∷ spell e y)) (sym (others_list es (t.Close ∷ []))) ∙ cut_spelled is_equals equals_outside (Item w (chained (e ∷ es))) 0 [])
@@ -82,7 +82,7 @@ call_first w tokens rest a none behind_it is =
     called (assignment_of (t.Word (67 ∷ 65 ∷ w) ∷ tokens)) (then_if (after_word (codes "CALL") (t.Word (67 ∷ 65 ∷ w) ∷ tokens)) call_of) _ _ a none (ap (λ (o : Option (List Token)). then_if o call_of) behind_it ∙ is)
 
 -- what stands behind the word, where the rest of the text gives these tokens
-call_behind : (x k : List ℕ) (tokens : List Token) → is_name x ≡ true → IsBreak k → lexed (Clear false) k ≡ tokens
+pub call_behind : (x k : List ℕ) (tokens : List Token) → is_name x ≡ true → IsBreak k → lexed (Clear false) k ≡ tokens
     → (tokens_of (codes "CALL " ++ x ++ k) ≡ t.Word (codes "CALL" ++ x) ∷ tokens) × (after_word (codes "CALL") (t.Word (codes "CALL" ++ x) ∷ tokens) ≡ Some (t.Word x ∷ tokens))
 call_behind x k tokens name b is =
     let whole : lexed (InWord (codes "CALL")) (x ++ k) ≡ t.Word (codes "CALL" ++ x) ∷ tokens =

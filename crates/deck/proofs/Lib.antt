@@ -13,3 +13,7 @@ pub mod LinesRead
 pub mod CallsRead
 pub mod TypesRead
 pub mod FrontLemmas
+pub mod AsBranch
+pub mod ChoicesRead
+pub mod ConditionalsRead
+pub mod ActsRead

@@ -33,7 +33,7 @@ par_spelled (Constant (pos n)) k is = refl
 par_spelled (Constant (negsuc n)) k is = absurd cc
 par_spelled (Named x) k is = refl
 
-more_break : {A : Type 0} (text : A → List ℕ → List ℕ) (all : List A) (k : List ℕ) → IsBreak k → IsBreak (more_commas text all k)
+pub more_break : {A : Type 0} (text : A → List ℕ → List ℕ) (all : List A) (k : List ℕ) → IsBreak k → IsBreak (more_commas text all k)
 more_break text [] k b = b
 more_break text (a ∷ all) k b = (refl, refl, refl, refl)
 

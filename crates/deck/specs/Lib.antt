@@ -5,3 +5,4 @@ pub mod Fronts
 pub mod Written
 pub mod Endings
 pub mod Readable
+pub mod ReadableStatements

@@ -5,8 +5,7 @@ mod laws;
 mod writer;
 
 pub use laws::{
-    assignment_lines_are_read, assignments_are_read, blanks_are_nothing, calls_are_read,
-    decks_are_read, declarations_are_read, expressions_are_read, hollerith_texts_are_read,
-    jumps_are_read, keywords_are_taken, loops_are_read,
+    assignment_lines_are_read, blanks_are_nothing, decks_are_read, expressions_are_read,
+    hollerith_texts_are_read, keywords_are_taken, statements_are_read,
 };
 pub use writer::{push_unit, write_deck};

@@ -1,0 +1,48 @@
+-- Which statements have a text that is read back: those of the grammar of expressions, with names that are names and numbers
+-- in range. READ, WRITE, FORMAT, COMMON, EQUIVALENCE and DATA are not among them yet.
+use Rattle.std.specs.Prelude.{◌≡◌, ℕ, ◌≤◌, ◌<◌, true, List, ◌∷◌, Some, None}
+use Rattle.std.specs.List.{AllByRecursion}
+use Rattle.f66_tree.specs.declared.declaration.TypeWord.{TypeWord}
+use Rattle.f66_tree.specs.Syntax.{Text, Formula, NoFormula, Par, Declared, Act, Assign, Goto, Computed, Sign, When, Loop, Invoke, Continue, Stop, Return, Typed, Dimension}
+use Rattle.f66_tree.specs.Views.{chained}
+use Rattle.stmt_reader.specs.Exactness.{IsArgument, IsDeclared}
+use Rattle.stmt_reader.specs.Levels.{is_name, stands}
+use Rattle.stmt_reader.specs.Taking.{place_if}
+use Rattle.deck.specs.Readable.{is_readable, is_readable_argument, is_readable_declared, is_readable_par}
+
+-- an expression of the grammar with numbers in range
+pub record IsReadable (e : Formula) : Type 0 where
+  pub stands : stands 0 e ≡ true
+  pub readable : is_readable e ≡ true
+
+abbrev pub IsLabelInRange : ℕ → Type 0
+IsLabelInRange l = l ≤ 2147483647
+
+-- an argument of a CALL: such an expression, or a Hollerith text of one character
+pub record IsReadableArgument (e : Formula) : Type 0 where
+  pub is_argument : IsArgument e
+  pub readable : is_readable_argument e ≡ true
+
+pub record IsReadableDeclared (d : Declared) : Type 0 where
+  pub is_declared : IsDeclared d
+  pub readable : is_readable_declared d ≡ true
+
+-- a statement that a logical IF may hold
+pub data IsReadableBranch : Act → Type 0 where
+  assignment : (x e : Formula) → place_if x ≡ Some x → IsReadable x → IsReadable e → IsReadableBranch (Assign x e)
+  jump : (l : ℕ) → IsLabelInRange l → IsReadableBranch (Goto l)
+  computed : (l : ℕ) (ls : List ℕ) (x : Text) → IsLabelInRange l → AllByRecursion IsLabelInRange ls → is_name x ≡ true → IsReadableBranch (Computed (l ∷ ls) x)
+  sign : (e : Formula) (l m n : ℕ) → IsReadable e → IsLabelInRange l → IsLabelInRange m → IsLabelInRange n → IsReadableBranch (Sign e l m n)
+  bare_call : (x : Text) → is_name x ≡ true → IsReadableBranch (Invoke x NoFormula)
+  call : (x : Text) (e : Formula) (es : List Formula) → is_name x ≡ true → IsReadableArgument e → AllByRecursion IsReadableArgument es → IsReadableBranch (Invoke x (chained (e ∷ es)))
+  continuation : IsReadableBranch Continue
+  stop : IsReadableBranch (Stop None)
+  stop_number : (n : ℕ) → n < 32768 → IsReadableBranch (Stop (Some n))
+  return : IsReadableBranch Return
+
+pub data IsReadableAct : Act → Type 0 where
+  branch : (a : Act) → IsReadableBranch a → IsReadableAct a
+  conditional : (e : Formula) (a : Act) → IsReadable e → IsReadableBranch a → IsReadableAct (When e a)
+  loop : (l : ℕ) (x : Text) (a b c : Par) → IsLabelInRange l → is_name x ≡ true → is_readable_par a ≡ true → is_readable_par b ≡ true → is_readable_par c ≡ true → IsReadableAct (Loop l x a b c)
+  typed : (w : TypeWord) (d : Declared) (ds : List Declared) → IsReadableDeclared d → AllByRecursion IsReadableDeclared ds → IsReadableAct (Typed w (d ∷ ds))
+  dimension : (d : Declared) (ds : List Declared) → IsReadableDeclared d → AllByRecursion IsReadableDeclared ds → IsReadableAct (Dimension (d ∷ ds))
