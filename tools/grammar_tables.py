@@ -270,7 +270,7 @@ def packed(items):
     """As many items on a line as there is room for."""
     lines = []
     for item in items:
-        if lines and len(lines[-1]) + len(item) + 2 <= WIDTH:
+        if lines and len(lines[-1]) + len(item) + 2 < WIDTH:
             lines[-1] += f' {item},'
         else:
             lines.append(f'    {item},')

@@ -3,10 +3,10 @@
 use anyhow::{Result, bail};
 use f66_check::check_unit;
 use free_scan::scan;
+use front::{Compiled, compile_text};
 use ground::{Dialect, Fault};
 use macro_define::{Gathered, TextRefusal, gather};
 use ports::FileLibrary;
-use front::{Compiled, compile_text};
 use rat_parse::parse;
 use std::fs;
 

@@ -21,14 +21,14 @@ pub fn build_expressions(
 {
     match production {
         Production::NamedExpr | Production::NamedPrime => acts::named_by(alloc, parts),
-        Production::AtomExpr | Production::NegatedExpr => expressions::twice_joined_by(alloc, parts),
+        Production::AtomExpr | Production::NegatedExpr => expressions::twice_joined_by(
+            alloc, parts,
+        ),
         Production::PrefixedExpr | Production::PrimeUnary => expressions::joined_by(alloc, parts),
         Production::Affirmed => expressions::thrice_joined_by(alloc, parts),
         Production::AfterFactor => expressions::after_factor_by(alloc, parts),
-        Production::OrMore
-        | Production::SumMore
-        | Production::TimesMore
-        | Production::OverMore => expressions::more_joins_by(alloc, parts),
+        Production::OrMore | Production::SumMore | Production::TimesMore | Production::OverMore =>
+            expressions::more_joins_by(alloc, parts),
         Production::AndMore => expressions::more_bare_joins_by(alloc, parts),
         Production::Compared => expressions::one_twice_joined_by(alloc, parts),
         Production::Raised => expressions::one_join_by(alloc, parts),
@@ -65,16 +65,16 @@ fn build_acts(
     ensures { IfOk result (λ v. value v ≡ acts_built production (values parts.old.items)) }
 {
     match production {
-        Production::ExprPlace | Production::DeedPlace | Production::DeedStored => Ok(
-            acts::steps_by(alloc, parts),
-        ),
+        Production::ExprPlace | Production::DeedPlace | Production::DeedStored => Ok(acts::steps_by(
+            alloc, parts,
+        )),
         Production::ExprEmpty => acts::called_with_joins_by(alloc, parts),
         Production::ExprFull => Ok(acts::arguments_and_steps_by(alloc, parts)),
         Production::ExprJoined => acts::reached_with_joins_by(alloc, parts),
         Production::PrimePlace => Ok(acts::reached_by(alloc, parts)),
-        Production::PrimeEmpty | Production::DeedEmpty | Production::DeedCalled => Ok(
-            acts::called(alloc),
-        ),
+        Production::PrimeEmpty | Production::DeedEmpty | Production::DeedCalled => Ok(acts::called(
+            alloc,
+        )),
         Production::PrimeFull => Ok(acts::reached_with_arguments_by(alloc, parts)),
         Production::DeedFull => Ok(acts::arguments_by(alloc, parts)),
         Production::StepDeed => Ok(acts::step_deed_by(alloc, parts)),
@@ -103,9 +103,9 @@ fn build_types(
         Production::ImplicitName => Ok(types::named_before_by(alloc, parts)),
         Production::ImplicitStruct | Production::StructType => Ok(types::struct_by(parts)),
         Production::ImplicitShape => Ok(types::nameless_before_by(alloc, parts)),
-        Production::ImplicitStructName | Production::StructTypeName => Ok(
-            types::type_named_by(alloc, parts),
-        ),
+        Production::ImplicitStructName | Production::StructTypeName => Ok(types::type_named_by(
+            alloc, parts,
+        )),
         Production::ImplicitBare | Production::NoShape | Production::NoUpper => Ok(Value::Nothing),
         Production::NamedType => Ok(types::named_by(alloc, parts)),
         Production::NamelessShape => Ok(types::nameless_by(alloc, parts)),

@@ -123,11 +123,7 @@ fn refused(alloc: Global, refusal: TextRefusal) -> Result<Report, Memory>
 {
     match refusal {
         TextRefusal::Fault(fault, name) => Ok(Report::of_fault(alloc, fault, &name)?),
-        TextRefusal::Library => Ok(Report::fixed(
-            alloc,
-            Status::LibraryFault,
-            "library fault\n",
-        )),
+        TextRefusal::Library => Ok(Report::fixed(alloc, Status::LibraryFault, "library fault\n")),
         TextRefusal::Memory => Err(Memory),
     }
 }

@@ -7,8 +7,8 @@ ghost use Rattle.eft_top.specs.Report.{IsReport, line_bytes, out_bytes};
 
 use crate::Status;
 use crate::lines::{fault_text, limit_text, stop_text, trap_text};
-use ground::{Fault, Text, Trap};
 use front::name_of;
+use ground::{Fault, Text, Trap};
 use record_tape::Lines;
 use std::alloc::{AllocError, Global};
 use unit_walk::{RunEnd, Walked};

@@ -26,11 +26,7 @@ pub fn saying_breaks(
 }
 
 /// What a condition breaks.
-pub fn condition_breaks(
-    alloc: Global,
-    names: &Names,
-    e: &Expr,
-) -> Result<Option<Rule>, AllocError>
+pub fn condition_breaks(alloc: Global, names: &Names, e: &Expr) -> Result<Option<Rule>, AllocError>
     ensures { IfOk result
         (λ o. (i : ℕ) → o ≡ first_rule (breaks_name (context_in names.now.declarations) (acts_in names.now.declarations) i (When (formula_of e.now) Continue))) }
 {
