@@ -1,5 +1,5 @@
 #!/bin/sh
-# How fast the tokens of a Ratfor text become its tree: whether ten times the tokens take at most twelve times as long, and how many
+# How fast the tokens of a text become its tree, in both languages: whether ten times the tokens take at most twelve times as long, and how many
 # times as long as gathering alone it takes.
 . "$(dirname "$0")/common.sh"
 wants "$layers"
@@ -15,11 +15,28 @@ blocks_unit() { # 768 conditions of 26 tokens, and `end`
     echo end
 }
 
-for shape in sums blocks; do
-    ${shape}_unit >"$work/$shape.small"
-    for number in 1 2 3 4 5 6 7 8 9 10; do cat "$work/$shape.small"; done >"$work/$shape.large"
-    large=$(layer_time parse ratfor "$work/$shape.large" 5)
-    compare "$shape: 200,000 tokens and 20,000" "$large" "$(layer_time parse ratfor "$work/$shape.small" 10)" 12
-    compare "$shape: 200,000 tokens, and gathering them" "$large" "$(layer_time gather ratfor "$work/$shape.large" 5)" 2.5
-done
+efl_sums_unit() { # the same assignments in a procedure
+    echo procedure
+    yes 'total = total + 1' | head -n 3330
+    echo end
+}
+
+efl_blocks_unit() { # 768 conditions of 25 tokens in a procedure
+    echo procedure
+    yes 'if (k > f(i, 2) * 3) { k = -k; s(k) }' | head -n 768
+    echo end
+}
+
+times() { # LANGUAGE SHAPE
+    $2_unit >"$work/$2.small"
+    for number in 1 2 3 4 5 6 7 8 9 10; do cat "$work/$2.small"; done >"$work/$2.large"
+    large=$(layer_time parse "$1" "$work/$2.large" 5)
+    compare "$2: 200,000 tokens and 20,000" "$large" "$(layer_time parse "$1" "$work/$2.small" 10)" 12
+    compare "$2: 200,000 tokens, and gathering them" "$large" "$(layer_time gather "$1" "$work/$2.large" 5)" 2.5
+}
+
+times ratfor sums
+times ratfor blocks
+times efl efl_sums
+times efl efl_blocks
 exit $status

@@ -4,10 +4,10 @@ use anyhow::{Result, bail};
 use f66_check::check_unit;
 use free_scan::scan;
 use front::{Compiled, compile_text};
-use ground::{Dialect, Fault};
+use ground::{Dialect, Fault, List, Token};
 use macro_define::{Gathered, TextRefusal, gather};
 use ports::FileLibrary;
-use rat_parse::parse;
+use std::alloc::Global;
 use std::fs;
 
 /// The tokens of the file alone.
@@ -35,27 +35,31 @@ pub fn gathered(rt: &HostRuntime, dialect: Dialect, path: &str) -> Result<usize>
 pub fn parsed(rt: &HostRuntime, dialect: Dialect, path: &str) -> Result<usize> {
     let mut library = FileLibrary::new(rt);
     match gather(rt.alloc(), dialect, path, &mut library) {
-        Ok(Gathered { tokens, files: _ }) => {
-            let program = parse(rt.alloc(), &tokens)?;
-            Ok(program.units.len())
-        }
+        Ok(Gathered { tokens, files: _ }) => units_in(rt.alloc(), dialect, &tokens),
         Err(refusal) => refused(refusal),
     }
 }
 
+fn units_in(alloc: Global, dialect: Dialect, tokens: &List<Token>) -> Result<usize> {
+    match dialect {
+        Dialect::Ratfor => Ok(rat_parse::parse(alloc, tokens)?.units.len()),
+        Dialect::Efl => Ok(efl_parse::parse(alloc, tokens)?.procedures.len()),
+    }
+}
+
 /// The statements of the unit that the text becomes.
-pub fn compiled(rt: &HostRuntime, path: &str) -> Result<usize> {
+pub fn compiled(rt: &HostRuntime, dialect: Dialect, path: &str) -> Result<usize> {
     let mut library = FileLibrary::new(rt);
-    match compile_text(rt.alloc(), path, &mut library) {
+    match compile_text(rt.alloc(), dialect, path, &mut library) {
         Ok(Compiled { unit, files: _ }) => Ok(unit.unit().statements.len()),
         Err(refusal) => refused(refusal),
     }
 }
 
 /// The statements of that unit once it has been checked.
-pub fn checked(rt: &HostRuntime, path: &str) -> Result<usize> {
+pub fn checked(rt: &HostRuntime, dialect: Dialect, path: &str) -> Result<usize> {
     let mut library = FileLibrary::new(rt);
-    match compile_text(rt.alloc(), path, &mut library) {
+    match compile_text(rt.alloc(), dialect, path, &mut library) {
         Ok(Compiled { unit, files: _ }) => {
             let unit = check_unit(rt.alloc(), unit.into_unit())?;
             Ok(unit.unit().statements.len())

@@ -47,8 +47,8 @@ fn made(rt: &HostRuntime, layer: Layer, dialect: Dialect, path: &str) -> Result<
         Layer::Scan => scanned(rt, dialect, path),
         Layer::Gather => gathered(rt, dialect, path),
         Layer::Parse => parsed(rt, dialect, path),
-        Layer::Compile => compiled(rt, path),
-        Layer::Check => checked(rt, path),
+        Layer::Compile => compiled(rt, dialect, path),
+        Layer::Check => checked(rt, dialect, path),
     }
 }
 
