@@ -1,6 +1,7 @@
--- Small main units, by computation: what they mean, what their units do, that they are checked, and what is refused.
+-- Small main units, by computation: what they mean, what their units do and how they are printed, that they are checked, and what
+-- is refused.
 use Rattle.std.proofs.Common.{◌≡◌, ◌≢◌, ℕ, ◌+◌, ◌≤◌, Bool, true, false, true≢false, List, [], ◌∷◌, Some, None, refl, sym, ap, ◌∙◌, arith}
-use Rattle.std.specs.Prelude.{pos, nat_eq, codes}
+use Rattle.std.specs.Prelude.{pos, nat_eq, codes, map}
 use Rattle.std.specs.Fmt.{digits}
 use Rattle.std.specs.Str.{bytes_eq}
 use Rattle.std.proofs.lemmas.Bool.{ne_eqb}
@@ -12,6 +13,7 @@ use Rattle.f66_tree.specs.Syntax.{Text, Pair, NoFormula, AndFormula, Constant, A
 use Rattle.f66_tree.specs.World.{Record, Shown, Ended, Done, GoesOn}
 use Rattle.f66_tree.specs.Agreement.{Agrees}
 use Rattle.f66_tree.specs.OneUnit.{executed}
+use Rattle.stmt_text.specs.Texts.{statement_text}
 use Rattle.f66_tree.proofs.ExampleParts.{here, i, k, num, var, set, write, i3}
 use Rattle.rat_tree.specs.Syntax.{Command, Block, If, Repeat, RepeatUntil, Do, Switch, Break, Next, Return, Plain, Commands, NoCommand, AndCommand, NoClause, AndClause}
 use Rattle.rat_check.specs.Parts.{unit_parts}
@@ -48,6 +50,9 @@ shows cs b = means (all cs) [] b
 abbrev runs : List Command → ℕ → Shown
 runs cs most = executed (unit cs) [] most
 
+abbrev printed : List Command → List (List ℕ)
+printed cs = map (λ (s : Line). statement_text s.act) (unit cs)
+
 -- ---- a switch ----
 
 -- i = 2; switch (i) { case 1: k = 1; case 3, 2: k = 7; default: k = 9 }; write(6,9) k
@@ -71,6 +76,13 @@ switch_runs = refl
 switch_ends : (runs switch 40).end ≡ Ended Done
 unfolding digits
 switch_ends = refl
+
+switch_printed :
+    printed switch ≡ codes "INTEGER Z00001" ∷ codes "I=2" ∷ codes "Z00001=I" ∷ codes "IF(Z00001.EQ.(1))GO TO 23001" ∷ codes "IF(Z00001.EQ.(3))GO TO 23002" ∷ codes "IF(Z00001.EQ.(2))GO TO 23002" ∷ codes "GO TO 23003"
+    ∷ codes "CONTINUE" ∷ codes "K=1" ∷ codes "GO TO 23000" ∷ codes "CONTINUE" ∷ codes "K=7" ∷ codes "GO TO 23000" ∷ codes "CONTINUE" ∷ codes "K=9" ∷ codes "GO TO 23000" ∷ codes "CONTINUE"
+    ∷ codes "WRITE(6,9)K" ∷ codes "FORMAT(I3)" ∷ codes "STOP" ∷ []
+unfolding digits
+switch_printed = refl
 
 -- the theorem's premises can be met
 differs : (x y : Text) → bytes_eq x y ≡ false → x ≢ y
@@ -120,6 +132,12 @@ loops =
 loops_accepted : fault_of_parts (unit_parts (all loops)) ≡ None
 unfolding digits
 loops_accepted = refl
+
+loops_printed :
+    printed loops ≡ codes "DO 23000 I=1,3" ∷ codes "IF(.NOT.(I.EQ.2))GO TO 23002" ∷ codes "GO TO 23000" ∷ codes "CONTINUE" ∷ codes "WRITE(6,9)I" ∷ codes "CONTINUE" ∷ codes "CONTINUE"
+    ∷ codes "K=0" ∷ codes "K=K+1" ∷ codes "IF(.NOT.(K.LT.3))GO TO 23003" ∷ codes "GO TO 20" ∷ codes "CONTINUE" ∷ codes "WRITE(6,9)K" ∷ codes "STOP" ∷ codes "FORMAT(I3)" ∷ []
+unfolding digits
+loops_printed = refl
 
 loops_mean : (shows loops 3).records ≡ codes "  1" ∷ codes "  3" ∷ codes "  3" ∷ []
 unfolding digits

@@ -8,6 +8,9 @@
 -- (Early), formats are named (FormatsNamed); so none is broken (FlowRules, FlowUnits). The rules of names read the whole unit:
 -- names have the same forms, types and classes in the unit as in its source (Classes, Alike), none is declared again
 -- (Redeclared), and the spare name is an integer variable (CleanUnits). Lines puts both together.
+--
+-- That each statement fits its cards is kept the same way: a condition, a value or the words of a DO leave room for what is put
+-- around them (Texts, PrintedUnits).
 pub mod Kept
 pub mod KeptBack
 pub mod Says
@@ -21,3 +24,5 @@ pub mod Redeclared
 pub mod Alike
 pub mod Lines
 pub mod CleanUnits
+pub mod Texts
+pub mod PrintedUnits

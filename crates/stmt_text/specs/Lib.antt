@@ -2,4 +2,5 @@
 pub mod Characters
 pub mod Texts
 pub mod Emitting
+pub mod Fitting
 pub mod Breaks
