@@ -1,7 +1,7 @@
 -- A sound unit whose texts fit their cards can be written as a deck.
-use Rattle.std.proofs.Common.{◌≡◌, ◌≤◌, ◌<◌, ℕ, zero, suc, Bool, true, false, ◌||◌, ◌==◌, List, [], ◌∷◌, length, Option, Some, None, unwrap_or, refl, sym, ap, ◌∙◌, option_map, arith}
+use Rattle.std.proofs.Common.{◌≡◌, ◌≤◌, ◌<◌, ℕ, zero, Bool, true, false, ◌||◌, ◌==◌, List, [], ◌∷◌, length, Option, Some, None, unwrap_or, refl, sym, ap, ◌∙◌, option_map, arith}
 use Rattle.std.specs.Prelude.{nat_lt, if◌then◌else◌}
-use Rattle.std.specs.List.{All, slice_get, slice_index_or}
+use Rattle.std.specs.List.{All, AllByRecursion, slice_get, slice_index_or}
 use Rattle.std.proofs.lemmas.Bool.{or_parts, le-ltb, ltb-false}
 use Rattle.std.proofs.lemmas.Option.{slice_get-map, slice_get_read}
 use Rattle.ground.specs.declared.place.Place.{Place}
@@ -25,11 +25,11 @@ use Rattle.deck.specs.LongTexts.{limit_nine, fault_of_text, fault_of_line, or_el
 text_fits : (p : Place) (text : List ℕ) → length text ≤ 1320 → fault_of_text p text ≡ None
 text_fits p text h = ap (λ b. if b then limit_nine p else None) (le-ltb 1320 (length text) h)
 
-lines_fit : (lines : List Line) → All FitsCards lines → first_fault fault_of_line lines ≡ None
+lines_fit : (lines : List Line) → AllByRecursion FitsCards lines → first_fault fault_of_line lines ≡ None
 lines_fit [] h = refl
 lines_fit (s ∷ rest) h =
-    ap (λ o. or_else o (first_fault fault_of_line rest)) (text_fits s.place (statement_text s.act) (h zero s (omega arith)))
-    ∙ lines_fit rest (λ k d l. h (suc k) d (omega (arith, l)))
+    ap (λ o. or_else o (first_fault fault_of_line rest)) (text_fits s.place (statement_text s.act) h.0)
+    ∙ lines_fit rest h.1
 
 pub unit_fits : (u : Routine) → IsPrintable u → fault_of_unit u ≡ None
 unit_fits u h = ap (λ o. or_else o (first_fault fault_of_line u.lines)) (text_fits u.place (header_text u.header) h.header) ∙ lines_fit u.lines h.lines
