@@ -3,7 +3,7 @@ use Rattle.std.proofs.Common.{◌≡◌, ◌≤◌, ◌<◌, ℕ, zero, Bool, tr
 use Rattle.std.specs.Prelude.{nat_lt, if◌then◌else◌}
 use Rattle.std.specs.List.{All, AllByRecursion, slice_get, slice_index_or}
 use Rattle.std.proofs.lemmas.Bool.{or_parts, le-ltb, ltb-false}
-use Rattle.std.proofs.lemmas.Option.{slice_get-map, slice_get_read}
+use Rattle.std.proofs.lemmas.Option.{slice_get-map, slice_get-get_or}
 use Rattle.ground.specs.declared.place.Place.{Place}
 use Rattle.rule_table.specs.declared.rule.Rule.TheVariants.{BadLabel}
 use Rattle.rule_table.specs.Words.{is_some_and, is_below}
@@ -45,7 +45,7 @@ label_fits lines i (Some l) h =
 pub labels_fit : (unit : Unit) → IsSound (routine_of unit) → HasCardLabels unit
 labels_fit unit sound k d l =
     let all = unit.statements.items in
-    let at : slice_get all k ≡ Some (slice_index_or all k d) = slice_get_read all d k (slice_index_or all k d) refl l refl in
+    let at : slice_get all k ≡ Some (slice_index_or all k d) = slice_get-get_or all k d l in
     let line : slice_get (lines_of all) k ≡ Some (line_of (slice_index_or all k d)) = slice_get-map line_of all k ∙ ap (option_map line_of) at in
     let labels = (clean_line (routine_of unit) sound k (line_of (slice_index_or all k d)) BadLabel line).0 in
     label_fits (lines_of all) k (slice_index_or all k d).label (or_parts (has_bad_label (lines_of all) k (line_of (slice_index_or all k d))) _ labels).0
