@@ -13,7 +13,7 @@ use Rattle.rat_lower.specs.Code.{case_test}
 use Rattle.rat_lower.proofs.Soundness.Kept.{AllSay, Keeps, KeepsValues}
 use Rattle.rat_lower.proofs.Soundness.Redeclared.{declaration}
 
--- a condition, a value and the words of a DO leave as much free as their expression may have for others
+-- a condition, a value and the words of a DO are short enough for what is put around them
 abbrev pub LeavesRoom : Act → Type 0
 LeavesRoom (When e Continue) = length (formula_text e []) ≤ 1200
 LeavesRoom (Sign e l m n) = length (formula_text e []) ≤ 1200
