@@ -1,9 +1,9 @@
 -- The statements of the unit that a main unit without a fault becomes fit their cards, as what its source says does.
-use Rattle.std.proofs.Common.{◌≡◌, ℕ, ◌+◌, ◌≤◌, Bool, true, false, true≢false, List, [], ◌∷◌, ◌++◌, length, Option, Some, None, refl, sym, ap, ◌∙◌, subst, arith}
-use Rattle.std.specs.Prelude.{◌&&◌, ◌||◌, if◌then◌else◌, decimal, unsigned_abs}
+use Rattle.std.proofs.Common.{◌≡◌, ℕ, ◌+◌, ◌≤◌, Bool, true, false, true≢false, List, [], ◌∷◌, ◌++◌, length, Option, Some, None, refl, sym, ◌∙◌, arith}
+use Rattle.std.specs.Prelude.{◌||◌, if◌then◌else◌, unsigned_abs}
 use Rattle.std.specs.List.{list_any, AllByRecursion}
 use Rattle.std.proofs.lemmas.Bool.{or_parts, ltb-false}
-use Rattle.std.proofs.lemmas.List.{append-nil, length-append}
+use Rattle.std.proofs.lemmas.List.{length-append}
 use Rattle.std.proofs.lemmas.List.Folds.{list_any-append}
 use Rattle.ground.specs.declared.place.Place.{Place}
 use Rattle.rule_table.specs.declared.rule.Rule.TheVariants.{NameTooLong}
@@ -11,13 +11,13 @@ use Rattle.f66_tree.specs.Syntax.{Text, Formula, Formulas, NoFormula, AndFormula
 use Rattle.f66_names.specs.Uses.{Usage, uses_of_par}
 use Rattle.f66_names.specs.NameRules.{has_name, is_long}
 use Rattle.stmt_text.specs.Characters.{comma, equals}
-use Rattle.stmt_text.specs.Texts.{par_text, is_one, step_text, loop_text, statement_text}
+use Rattle.stmt_text.specs.Texts.{par_text, is_one, step_text, loop_text}
 use Rattle.stmt_text.specs.Fitting.{FitsCards}
 use Rattle.stmt_text.proofs.TextLengths.{length-decimal}
 use Rattle.rat_tree.specs.Syntax.{Commands}
 use Rattle.rat_check.specs.Parts.{Form, Bare, RepeatHead, Statement, Condition, Selector, CaseList, ForHead, DoHead, LoopExit, ReturnHead, Part, unit_parts}
 use Rattle.rat_check.specs.Said.{said_by, said_in, value_acts, said_if_any, condition_if_any}
-use Rattle.rat_check.specs.LongTexts.{is_long_statement, is_long_expression, are_some_long, is_long_if_any, is_long_test, is_long_form}
+use Rattle.rat_check.specs.LongTexts.{is_long_expression, are_some_long, is_long_if_any, is_long_test, is_long_form}
 use Rattle.rat_check.specs.Rules.{is_plain, is_simple, is_ratfor, Before, behind, nothing_before, UnitRules, break_names}
 use Rattle.rat_check.specs.FirstFault.{unit_whole, fault_of_parts}
 use Rattle.rat_check.proofs.CleanLemmas.{and_true, AllKeep}
@@ -49,8 +49,14 @@ words_length x a b c short =
     let first = or_parts (is_long x) (any_long (uses_of_par a ++ (uses_of_par b ++ uses_of_par c))) short in
     let second = or_parts (any_long (uses_of_par a)) (any_long (uses_of_par b ++ uses_of_par c)) (sym (list_any-append (λ (u : Usage). is_long u.name) (uses_of_par a) (uses_of_par b ++ uses_of_par c)) ∙ first.1) in
     let third = or_parts (any_long (uses_of_par b)) (any_long (uses_of_par c)) (sym (list_any-append (λ (u : Usage). is_long u.name) (uses_of_par b) (uses_of_par c)) ∙ second.1) in
-    omega (arith, length-append x (equals ∷ par_text a (comma ∷ par_text b (step_text c []))), ltb-false 6 (length x) first.0,
-    par_length a (comma ∷ par_text b (step_text c [])) second.0, par_length b (step_text c []) third.0, step_length c third.1)
+    omega (
+      arith,
+      length-append x (equals ∷ par_text a (comma ∷ par_text b (step_text c []))),
+      ltb-false 6 (length x) first.0,
+      par_length a (comma ∷ par_text b (step_text c [])) second.0,
+      par_length b (step_text c []) third.0,
+      step_length c third.1,
+    )
 
 -- ---- what a part says ----
 

@@ -1,12 +1,11 @@
 -- Statements that fit their cards with room for what the compiler puts around their conditions, values and DO words.
 use Rattle.std.proofs.Common.{◌≡◌, ℕ, ◌≤◌, List, [], ◌∷◌, ◌++◌, length, refl, ap, arith}
-use Rattle.std.specs.Prelude.{codes, decimal, ⊤}
+use Rattle.std.specs.Prelude.{codes, ⊤}
 use Rattle.std.specs.Fmt.{digits}
 use Rattle.std.specs.List.{AllByRecursion}
 use Rattle.std.proofs.lemmas.List.{length-append}
-use Rattle.f66_tree.specs.declared.declaration.TypeWord.TheVariants.{Integer}
-use Rattle.f66_tree.specs.Syntax.{Text, Formula, Ref, Par, Act, Assign, Goto, Sign, When, Loop, Continue, Typed, Line}
-use Rattle.stmt_text.specs.Characters.{closing, comma, equals, opening, blank}
+use Rattle.f66_tree.specs.Syntax.{Text, Formula, Par, Act, Goto, Sign, When, Loop, Continue, Line}
+use Rattle.stmt_text.specs.Characters.{closing, equals, opening, blank}
 use Rattle.stmt_text.specs.Texts.{formula_text, loop_text, statement_text}
 use Rattle.stmt_text.specs.Fitting.{FitsCards}
 use Rattle.stmt_text.proofs.TextLengths.{length-formula_text, length-decimal}
@@ -14,7 +13,7 @@ use Rattle.rat_lower.specs.Code.{case_test}
 use Rattle.rat_lower.proofs.Soundness.Kept.{AllSay, Keeps, KeepsValues}
 use Rattle.rat_lower.proofs.Soundness.Redeclared.{declaration}
 
--- a condition, a value and the words of a DO leave as much free as their expression may have for others
+-- a condition, a value and the words of a DO are short enough for what is put around them
 abbrev pub LeavesRoom : Act → Type 0
 LeavesRoom (When e Continue) = length (formula_text e []) ≤ 1200
 LeavesRoom (Sign e l m n) = length (formula_text e []) ≤ 1200
