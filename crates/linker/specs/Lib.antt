@@ -1,3 +1,7 @@
 -- The definitions that the contracts of linker cite.
 pub mod Rules
 pub mod Mains
+pub mod Sites
+pub mod CallRules
+pub mod SiteViews
+pub mod CallViews
