@@ -1,11 +1,9 @@
 -- What the tests of calls say.
-use Rattle.std.proofs.Common.{◌≡◌, ◌∙◌, ◌∷◌, [], ℕ, zero, suc, Bool, true, false, List, map, Option, None, Some, option_map, refl, sym, ap, subst}
+use Rattle.std.proofs.Common.{◌≡◌, ◌∙◌, ◌∷◌, [], ℕ, zero, suc, Bool, true, List, map, Option, None, Some, option_map, refl, ap}
 use Rattle.std.specs.List.{slice_get}
 use Rattle.rule_table.specs.Words.{is_some_and}
-use Rattle.ground.specs.declared.place.Place.{Place}
-use Rattle.ground.specs.declared.fault.FaultKind.TheVariants.{MissingUnit, WrongCount}
 use Rattle.f66_tree.specs.Syntax.{Routine}
-use Rattle.f66_program.specs.Calls.{Call, miscounts, unit_named}
+use Rattle.f66_program.specs.Calls.{miscounts, unit_named}
 use Rattle.f66_program.specs.Linking.{Program, LeadsTo}
 use Rattle.linker.specs.CallRules.{is_missing, is_miscounted, is_nothing}
 use Rattle.linker.specs.Sites.{Site}

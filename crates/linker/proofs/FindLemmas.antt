@@ -1,8 +1,7 @@
 -- The first element that passes, looked for one by one.
-use Rattle.std.proofs.Common.{◌≡◌, ◌<◌, ◌≤◌, ◌+◌, ◌∙◌, ◌∷◌, ◌++◌, [], ℕ, zero, suc, Bool, true, false, cond, List, length, map, take, get_or, Option, None, Some, find, refl, sym, ap, arith}
+use Rattle.std.proofs.Common.{◌≡◌, ◌<◌, ◌+◌, ◌∙◌, ◌∷◌, ◌++◌, [], ℕ, zero, suc, Bool, true, false, cond, List, length, map, take, get_or, Option, None, Some, find, refl, sym, ap}
 use Rattle.std.specs.Option.{option_or}
 use Rattle.std.proofs.lemmas.List.{map-append, take_more}
-use Rattle.std.proofs.Math.Seq.{take-length}
 use Rattle.rule_table.proofs.WordLemmas.{find-push}
 use Rattle.f66_tree.specs.declared.expression.Expr.{Expr}
 use Rattle.f66_tree.specs.Views.{formulas_of}

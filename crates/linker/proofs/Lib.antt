@@ -5,3 +5,4 @@ pub mod NumberLemmas
 pub mod SiteLemmas
 pub mod FindLemmas
 pub mod CallLemmas
+pub mod CycleLemmas

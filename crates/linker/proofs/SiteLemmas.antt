@@ -1,6 +1,6 @@
 -- The list of a program's calls has each of them, and no others, in reading order. So the first one of the list that breaks a rule
 -- stands at the first statement that does.
-use Rattle.std.proofs.Common.{◌≡◌, ◌<◌, ◌≤◌, ◌+◌, ◌⊎◌, inl, inr, ◌∙◌, ◌∷◌, ◌++◌, [], ℕ, zero, suc, Bool, true, false, List, length, map, get_or, Option, None, Some, find, option_map, refl, sym, ap, subst, arith}
+use Rattle.std.proofs.Common.{◌≡◌, ◌<◌, ◌≤◌, ◌+◌, inl, inr, ◌∙◌, ◌∷◌, ◌++◌, [], ℕ, zero, suc, Bool, true, false, List, length, map, get_or, Option, None, Some, find, option_map, refl, sym, ap, subst, arith}
 use Rattle.std.proofs.lemmas.List.Elements.{All-nil, All-append, All-map, All-contains, All-contains_itself, All-weaker, Contains-append_left, Contains-append_right}
 use Rattle.std.specs.Prelude.{⊤, if◌then◌else◌}
 use Rattle.std.proofs.lemmas.List.{get_or-map, length-map}
@@ -12,14 +12,14 @@ use Rattle.f66_tree.specs.Syntax.{Line, Routine}
 use Rattle.f66_tree.specs.Units.{Context}
 use Rattle.f66_program.specs.Mentions.{context_of}
 use Rattle.f66_program.specs.Calls.{Call, calls_in}
-use Rattle.f66_program.specs.Linking.{Program, Part, at_part, IsEarlier, IsLine, HasCall, place_in, place_of_part, limit_number, Breaks}
+use Rattle.f66_program.specs.Linking.{Program, Part, at_part, IsEarlier, HasCall, limit_number, Breaks}
 use Rattle.linker.specs.Rules.{IsFirstBroken, IsKept}
 use Rattle.linker.specs.Sites.{Site, site_at, line_sites, sites_from, sites_of, IsNotBefore, IsSiteIn}
 use Rattle.linker.proofs.PartLemmas.{place_here}
 
 -- order
 
-abbrev IsOrdered : List Site → Type 0
+abbrev pub IsOrdered : List Site → Type 0
 IsOrdered [] = ⊤
 IsOrdered (s ∷ sites) = All (IsNotBefore s) sites × IsOrdered sites
 
@@ -59,7 +59,7 @@ units_behind u (r ∷ rs) =
     (All-weaker (IsBehind u 0) (λ s. u ≤ s.unit) (λ s b. (let e = b.0 in omega (arith, e))) (line_sites u 0 (context_of r) r.lines) (lines_behind u 0 (context_of r) r.lines))
     (All-weaker (λ s. suc u ≤ s.unit) (λ s. u ≤ s.unit) (λ s le. omega (arith, le)) (sites_from (suc u) rs) (units_behind (suc u) rs))
 
-sites_ordered : (u : ℕ) (rs : List Routine) → IsOrdered (sites_from u rs)
+pub sites_ordered : (u : ℕ) (rs : List Routine) → IsOrdered (sites_from u rs)
 sites_ordered u [] = tt
 sites_ordered u (r ∷ rs) =
     ordered_append (line_sites u 0 (context_of r) r.lines) (sites_from (suc u) rs) (lines_ordered u 0 (context_of r) r.lines) (sites_ordered (suc u) rs)
@@ -147,7 +147,7 @@ site_in rs s m =
 
 -- and each call of the program is one of the list
 
-Contains-map : {X Y : Type 0} (f : X → Y) (xs : List X) (x : X) → Contains xs x → Contains (map f xs) (f x)
+pub Contains-map : {X Y : Type 0} (f : X → Y) (xs : List X) (x : X) → Contains xs x → Contains (map f xs) (f x)
 Contains-map f xs x c = (c.0, rw length-map c.1, get_or-map f xs c.0 x (f x) c.1 ∙ ap f c.2)
 
 lines_whole : (u i : ℕ) (c : Context) (lines : List Line) (j : ℕ) (l : Line) (k : Call) → slice_get lines j ≡ Some l → Contains (calls_in c l.act) k →
@@ -223,29 +223,26 @@ found : (test : Site → Bool) (xs : List Site) (s : Site) → IsOrdered xs → 
 found test [] s o e = absurd (cc)
 found test (x ∷ xs) s o e = found_at test x xs s o.0 (test x) refl (λ f. found test xs s o.1 f) e
 
-module _ (kind : FaultKind) (p : Program) (test : Site → Bool) (Holds : ℕ → Context → Call → Type 0)
-    (is_rule : (q : Part) → Breaks kind p q → HasCall p q (Holds q.unit)) (rule_is : (q : Part) → HasCall p q (Holds q.unit) → Breaks kind p q)
-    (sound : (s : Site) (r : Routine) → slice_get p.units s.unit ≡ Some r → test s ≡ true → Holds s.unit (context_of r) s.call)
-    (whole : (s : Site) (r : Routine) → slice_get p.units s.unit ≡ Some r → Holds s.unit (context_of r) s.call → test s ≡ true) where
-  listed : (q : Part) (h : HasCall p q (Holds q.unit)) → Contains (sites_of p.units) (site_at q.unit h.at.index h.at.line.place h.call)
-  listed q h = call_listed p.units q.unit h.at.unit h.at.index h.at.line h.call h.at.here h.at.stands h.called
+not_earlier : (s t : Site) (q : Part) (i : ℕ) → IsNotBefore s t → t.unit ≡ q.unit → t.line ≡ i → q.part ≡ suc i → IsEarlier q (at_part s.unit (suc s.line)) → ⊥
+not_earlier s t q i (inl n) u l k (inl e) = omega (arith, n, u, e)
+not_earlier s t q i (inl n) u l k (inr e) = (let a = e.0 in omega (arith, n, u, a))
+not_earlier s t q i (inr n) u l k (inl e) = (let a = n.0 in omega (arith, a, u, e))
+not_earlier s t q i (inr n) u l k (inr e) = (let a = n.1 in let b = e.1 in omega (arith, a, b, l, k))
 
-  passes : (q : Part) (h : HasCall p q (Holds q.unit)) → test (site_at q.unit h.at.index h.at.line.place h.call) ≡ true
-  passes q h = whole (site_at q.unit h.at.index h.at.line.place h.call) h.at.unit h.at.here h.holds
+-- a rule on calls: where no call of the list breaks it, it is kept, and where one does that no other one stands before, that is the first
 
-  pub rule_kept : find test (sites_of p.units) ≡ None → IsKept kind p
-  rule_kept e q b = (let h = is_rule q b in found_none test (sites_of p.units) (site_at q.unit h.at.index h.at.line.place h.call) e (listed q h) (passes q h))
+module _ (kind : FaultKind) (p : Program) (Holds : ℕ → Context → Call → Type 0)
+    (is_rule : (q : Part) → Breaks kind p q → HasCall p q (Holds q.unit)) (rule_is : (q : Part) → HasCall p q (Holds q.unit) → Breaks kind p q) where
+  pub kept_by : ((s : Site) (r : Routine) → Contains (sites_of p.units) s → slice_get p.units s.unit ≡ Some r → Holds s.unit (context_of r) s.call → ⊥) → IsKept kind p
+  kept_by none q b =
+      let h = is_rule q b in
+      none (site_at q.unit h.at.index h.at.line.place h.call) h.at.unit (call_listed p.units q.unit h.at.unit h.at.index h.at.line h.call h.at.here h.at.stands h.called) h.at.here h.holds
 
-  not_earlier : (s t : Site) (q : Part) (i : ℕ) → IsNotBefore s t → t.unit ≡ q.unit → t.line ≡ i → q.part ≡ suc i → IsEarlier q (at_part s.unit (suc s.line)) → ⊥
-  not_earlier s t q i (inl n) u l k (inl e) = omega (arith, n, u, e)
-  not_earlier s t q i (inl n) u l k (inr e) = (let a = e.0 in omega (arith, n, u, a))
-  not_earlier s t q i (inr n) u l k (inl e) = (let a = n.0 in omega (arith, a, u, e))
-  not_earlier s t q i (inr n) u l k (inr e) = (let a = n.1 in let b = e.1 in omega (arith, a, b, l, k))
-
-  pub rule_broken : (s : Site) → find test (sites_of p.units) ≡ Some s → (f : Fault) → f.kind ≡ kind → f.number ≡ limit_number kind → f.place ≡ s.place → IsFirstBroken kind p f
-  rule_broken s e f k n place =
-      let h = found test (sites_of p.units) s (sites_ordered 0 p.units) e in
-      let m = site_in p.units s h.listed in
+  pub broken_at : (s : Site) → Contains (sites_of p.units) s → ((r : Routine) → slice_get p.units s.unit ≡ Some r → Holds s.unit (context_of r) s.call) →
+      ((t : Site) (r : Routine) → Contains (sites_of p.units) t → slice_get p.units t.unit ≡ Some r → Holds t.unit (context_of r) t.call → IsNotBefore s t) →
+      (f : Fault) → f.kind ≡ kind → f.number ≡ limit_number kind → f.place ≡ s.place → IsFirstBroken kind p f
+  broken_at s listed holds first f k n place =
+      let m = site_in p.units s listed in
       let part = at_part s.unit (suc s.line) in
       record {
         kind = k;
@@ -255,13 +252,24 @@ module _ (kind : FaultKind) (p : Program) (test : Site → Bool) (Holds : ℕ �
           at = record { unit = m.unit; index = s.line; line = m.line; here = m.here; number = refl; stands = m.stands };
           call = s.call;
           called = m.called;
-          holds = sound s m.unit m.here h.passes;
+          holds = holds m.unit m.here;
         });
         earlier = λ q before b.
             let c = is_rule q b in
             let t = site_at q.unit c.at.index c.at.line.place c.call in
-            let l = listed q c in
-            let behind = subst (IsNotBefore s) l.2 (h.first l.0 t l.1 (ap test l.2 ∙ passes q c)) in
-            not_earlier s t q c.at.index behind refl refl c.at.number before;
+            let l = call_listed p.units q.unit c.at.unit c.at.index c.at.line c.call c.at.here c.at.stands c.called in
+            not_earlier s t q c.at.index (first t c.at.unit l c.at.here c.holds) refl refl c.at.number before;
         place = place_here p part m.unit m.here ∙ ap (option_map (λ (l : Line). l.place)) m.stands ∙ ap Some (sym m.place ∙ sym place);
       }
+
+  module _ (test : Site → Bool)
+      (sound : (s : Site) (r : Routine) → slice_get p.units s.unit ≡ Some r → test s ≡ true → Holds s.unit (context_of r) s.call)
+      (whole : (s : Site) (r : Routine) → slice_get p.units s.unit ≡ Some r → Holds s.unit (context_of r) s.call → test s ≡ true) where
+    pub rule_kept : find test (sites_of p.units) ≡ None → IsKept kind p
+    rule_kept e = kept_by (λ s r m here h. found_none test (sites_of p.units) s e m (whole s r here h))
+
+    pub rule_broken : (s : Site) → find test (sites_of p.units) ≡ Some s → (f : Fault) → f.kind ≡ kind → f.number ≡ limit_number kind → f.place ≡ s.place → IsFirstBroken kind p f
+    rule_broken s e f k n place =
+        let h = found test (sites_of p.units) s (sites_ordered 0 p.units) e in
+        broken_at s h.listed (λ r here. sound s r here h.passes)
+        (λ t r m here holds. subst (IsNotBefore s) m.2 (h.first m.0 t m.1 (ap test m.2 ∙ whole t r here holds))) f k n place

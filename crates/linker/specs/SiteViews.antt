@@ -1,5 +1,4 @@
 -- Calls in memory.
-use Rattle.std.specs.Prelude.{List, map}
 use Rattle.f66_tree.specs.Views.{formulas_of, routine_of}
 use Rattle.f66_tree.specs.Syntax.{Routine}
 use Rattle.f66_program.specs.Calls.{Call}

@@ -1,5 +1,5 @@
 -- The first call that breaks the rule, or one more that does not.
-use Rattle.std.proofs.Common.{◌≡◌, ◌∙◌, map, Some, find, option_map, ap, sym}
+use Rattle.std.proofs.Common.{◌∙◌, find, option_map, ap, sym}
 use Rattle.linker.specs.CallRules.{is_broken}
 use Rattle.linker.specs.CallViews.{units_in}
 use Rattle.linker.specs.SiteViews.{site_of}

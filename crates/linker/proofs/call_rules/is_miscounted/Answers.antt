@@ -1,5 +1,5 @@
 -- The unit of the name, where it is there.
-use Rattle.std.proofs.Common.{◌≡◌, ◌∙◌, Some, None, map, ap, sym, arith}
+use Rattle.std.proofs.Common.{◌≡◌, ◌∙◌, Some, None, ap, sym, arith}
 use Rattle.std.specs.Option.{option_copied}
 use Rattle.std.specs.List.{slice_get}
 use Rattle.rule_table.proofs.WordLemmas.{got_at}
