@@ -1,3 +1,8 @@
 -- The lemmas of linker.
 pub mod PartLemmas
 pub mod MainLemmas
+pub mod NumberLemmas
+pub mod SiteLemmas
+pub mod FindLemmas
+pub mod CallLemmas
+pub mod CycleLemmas

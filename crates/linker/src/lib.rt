@@ -1,7 +1,19 @@
 //! Whole programs: what linking asks of units together, rule by rule, each at the first part that breaks it.
 #![tactic(auto)]
 
+mod call_rules;
+mod calls;
 mod mains;
+mod missing;
+mod numbers;
+mod recursion;
+mod rule;
+mod site;
+mod sites;
 mod tells;
 
+pub use calls::{Calls, calls_of};
 pub use mains::main_count;
+pub use missing::{missing_unit, wrong_count};
+pub use recursion::first_recursion;
+pub use site::Site;

@@ -1,0 +1,9 @@
+-- No call before breaks the rule.
+use Rattle.std.proofs.Common.{◌≡◌, take, map, find, None}
+use Rattle.linker.specs.CallRules.{is_broken}
+use Rattle.linker.specs.CallViews.{units_in}
+use Rattle.linker.specs.SiteViews.{site_of}
+use Rattle.linker.proofs.call_rules.first_broken.Given as goal
+
+abbrev pub invariant-loop-site : goal.invariant-loop-site
+invariant-loop-site l = find (is_broken l.rule (units_in l.calls)) (map site_of (take l.site-index l.calls.sites.items)) ≡ None

@@ -1,0 +1,9 @@
+-- The calls before have their edges.
+use Rattle.std.proofs.Common.{◌≡◌, take, map}
+use Rattle.linker.specs.CallViews.{units_in}
+use Rattle.linker.specs.Cycles.{edge_of}
+use Rattle.linker.specs.SiteViews.{site_of}
+use Rattle.linker.proofs.recursion.edges_of.Given as goal
+
+abbrev pub invariant-loop-site : goal.invariant-loop-site
+invariant-loop-site l = l.edges.items ≡ map (edge_of (units_in l.calls)) (map site_of (take l.site-index l.led))
