@@ -7,13 +7,14 @@ use Rattle.stmt_reader.specs.Exactness.{IsArgument, IsDeclared}
 use Rattle.stmt_reader.specs.Lexing.{tokens_of}
 use Rattle.stmt_reader.specs.Statements.{statement_of}
 use Rattle.deck.specs.Readable.{is_readable_argument, is_readable_declared}
-use Rattle.deck.specs.ReadableStatements.{IsReadableArgument, IsReadableDeclared, IsReadableBranch, assignment, jump, computed, sign, bare_call, call, continuation, stop, stop_number, return, IsReadableAct, branch, conditional, loop, typed, dimension}
+use Rattle.deck.specs.ReadableStatements.{IsReadableArgument, IsReadableDeclared, IsReadableBranch, assignment, jump, computed, sign, bare_call, call, read, write, continuation, stop, stop_number, return, IsReadableAct, branch, conditional, loop, typed, dimension}
 use Rattle.deck.proofs.AsBranch.{ReadsAsBranch}
 use Rattle.deck.proofs.StatementsRead.{assignment_read}
 use Rattle.deck.proofs.BranchesRead.{goto_read, loop_read}
 use Rattle.deck.proofs.CallsRead.{bare_call_read, call_read}
 use Rattle.deck.proofs.TypesRead.{types_read, dimensions_read}
 use Rattle.deck.proofs.ChoicesRead.{choice_branch, choice_read, sign_branch, sign_read, stop_branch, stop_read}
+use Rattle.deck.proofs.RecordsRead.{read_branch, read_read, write_branch, write_read}
 use Rattle.deck.proofs.ConditionalsRead.{assignment_branch, goto_branch, bare_call_branch, call_branch, continue_branch, stop_alone_branch, return_branch, conditional_read}
 
 arguments_stand : (es : List Formula) → AllByRecursion IsReadableArgument es → AllByRecursion IsArgument es
@@ -40,6 +41,8 @@ branch_reads a (computed l ls x small all name) = choice_branch l ls x small all
 branch_reads a (sign e l m n fine below zero_label above) = sign_branch e l m n fine below zero_label above
 branch_reads a (bare_call x name) = bare_call_branch x name
 branch_reads a (call x e es name first others) = call_branch x e es name first.is_argument (arguments_stand es others) first.readable (arguments_readable es others)
+branch_reads a (read u l es ru small all) = read_branch u l es ru small all
+branch_reads a (write u l es ru small all) = write_branch u l es ru small all
 branch_reads a continuation = continue_branch
 branch_reads a stop = stop_alone_branch
 branch_reads a (stop_number n small) = stop_branch n small
@@ -52,6 +55,8 @@ branch_alone a (computed l ls x small all name) = choice_read l ls x small all n
 branch_alone a (sign e l m n fine below zero_label above) = sign_read e l m n fine below zero_label above
 branch_alone a (bare_call x name) = bare_call_read x name
 branch_alone a (call x e es name first others) = call_read x e es name first.is_argument (arguments_stand es others) first.readable (arguments_readable es others)
+branch_alone a (read u l es ru small all) = read_read u l es ru small all
+branch_alone a (write u l es ru small all) = write_read u l es ru small all
 branch_alone a continuation = refl
 branch_alone a stop = refl
 branch_alone a (stop_number n small) = stop_read n small

@@ -80,7 +80,7 @@ par_lexed (Constant (pos n)) h k is b = number_begins h n k (leb-true n 21474836
 par_lexed (Constant (negsuc n)) h k is b = absurd cc
 par_lexed (Named x) h k is b = name_begins h x k is ∙ word_ends x k b
 
-step_lexed_by : (c : Par) (b : Bool) → is_readable_par c ≡ true → lexed (Clear false) (cond b [] (44 ∷ par_text c [])) ≡ cond b [] (t.Comma ∷ par_token c ∷ [])
+pub step_lexed_by : (c : Par) (b : Bool) → is_readable_par c ≡ true → lexed (Clear false) (cond b [] (44 ∷ par_text c [])) ≡ cond b [] (t.Comma ∷ par_token c ∷ [])
 step_lexed_by c true is = refl
 step_lexed_by c false is = ap (λ (x : List Token). t.Comma ∷ x) (par_lexed c true [] is tt)
 
@@ -88,12 +88,12 @@ step_breaks_by : (c : Par) (b : Bool) → IsBreak (cond b [] (44 ∷ par_text c 
 step_breaks_by c true = tt
 step_breaks_by c false = (refl, refl, refl, refl)
 
-par_is : (p : Par) → is_readable_par p ≡ true → par_if (par_token p) ≡ Some p
+pub par_is : (p : Par) → is_readable_par p ≡ true → par_if (par_token p) ≡ Some p
 par_is (Constant (pos n)) is = refl
 par_is (Constant (negsuc n)) is = absurd cc
 par_is (Named x) is = refl
 
-one_is : (c : Par) → is_one c ≡ true → c ≡ Constant (pos 1)
+pub one_is : (c : Par) → is_one c ≡ true → c ≡ Constant (pos 1)
 one_is (Constant (pos n)) is = ap (λ (m : ℕ). Constant (pos m)) (eqb-true n 1 is)
 one_is (Constant (negsuc n)) is = absurd cc
 one_is (Named x) is = absurd cc

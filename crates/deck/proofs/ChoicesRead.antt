@@ -54,11 +54,11 @@ more_numbers (l ∷ ls) k = ap (λ (y : List Token). t.Comma ∷ t.Number l ∷ 
 
 -- ---- computed GO TO ----
 
-jumped : (o c r1 r2 : Option Act) (a : Act) → o ≡ None → c ≡ Some a → or_else o (or_else None (or_else (or_else o (or_else c r1)) r2)) ≡ Some a
+pub jumped : (o c r1 r2 : Option Act) (a : Act) → o ≡ None → c ≡ Some a → or_else o (or_else None (or_else (or_else o (or_else c r1)) r2)) ≡ Some a
 jumped (Some b) c r1 r2 a none is = absurd cc
 jumped None c r1 r2 a none is = ap (λ (x : Option Act). or_else (or_else x r1) r2) is
 
-branched : (o c r : Option Act) (a : Act) → o ≡ None → c ≡ Some a → or_else o (or_else c r) ≡ Some a
+pub branched : (o c r : Option Act) (a : Act) → o ≡ None → c ≡ Some a → or_else o (or_else c r) ≡ Some a
 branched (Some b) c r a none is = absurd cc
 branched None c r a none is = ap (λ (x : Option Act). or_else x r) is
 

@@ -14,6 +14,8 @@ pub mod CallsRead
 pub mod TypesRead
 pub mod FrontLemmas
 pub mod AsBranch
+pub mod EntriesRead
 pub mod ChoicesRead
 pub mod ConditionalsRead
+pub mod RecordsRead
 pub mod ActsRead
