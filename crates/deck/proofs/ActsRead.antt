@@ -7,13 +7,14 @@ use Rattle.stmt_reader.specs.Exactness.{IsArgument, IsDeclared}
 use Rattle.stmt_reader.specs.Lexing.{tokens_of}
 use Rattle.stmt_reader.specs.Statements.{statement_of}
 use Rattle.deck.specs.Readable.{is_readable_argument, is_readable_declared}
-use Rattle.deck.specs.ReadableStatements.{IsReadableArgument, IsReadableDeclared, IsReadableBranch, assignment, jump, computed, sign, bare_call, call, read, write, continuation, stop, stop_number, return, IsReadableAct, branch, conditional, loop, typed, dimension}
+use Rattle.deck.specs.ReadableStatements.{IsReadableArgument, IsReadableDeclared, IsReadableBranch, assignment, jump, computed, sign, bare_call, call, read, write, continuation, stop, stop_number, return, IsReadableAct, branch, conditional, loop, format, typed, dimension}
 use Rattle.deck.proofs.AsBranch.{ReadsAsBranch}
 use Rattle.deck.proofs.StatementsRead.{assignment_read}
 use Rattle.deck.proofs.BranchesRead.{goto_read, loop_read}
 use Rattle.deck.proofs.CallsRead.{bare_call_read, call_read}
 use Rattle.deck.proofs.TypesRead.{types_read, dimensions_read}
 use Rattle.deck.proofs.ChoicesRead.{choice_branch, choice_read, sign_branch, sign_read, stop_branch, stop_read}
+use Rattle.deck.proofs.FormatsRead.{format_read}
 use Rattle.deck.proofs.RecordsRead.{read_branch, read_read, write_branch, write_read}
 use Rattle.deck.proofs.ConditionalsRead.{assignment_branch, goto_branch, bare_call_branch, call_branch, continue_branch, stop_alone_branch, return_branch, conditional_read}
 
@@ -66,5 +67,6 @@ pub act_read : (a : Act) → IsReadableAct a → statement_of (tokens_of (statem
 act_read a (branch b readable) = branch_alone b readable
 act_read a (conditional e b fine readable) = conditional_read e b fine (branch_reads b readable)
 act_read a (loop l x first last step small name ra rb rc) = loop_read l x first last step small name ra rb rc
+act_read a (format fs all) = format_read fs all
 act_read a (typed w d ds first others) = types_read w d ds first.is_declared (names_stand ds others) first.readable (names_readable ds others)
 act_read a (dimension d ds first others) = dimensions_read d ds first.is_declared (names_stand ds others) first.readable (names_readable ds others)

@@ -44,7 +44,7 @@ digits_more : (n : ℕ) (ds : List ℕ) → 10 ≤ n → DigitsAll (n / 10) ds �
 unfolding DigitsAll
 digits_more n ds ten all = all_append ds ((48 + n % 10) ∷ []) all (and_from (is_alnum (48 + n % 10)) true (digit_alnum (n % 10) (omega arith)) refl)
 
-digits_all : (n : ℕ) → n ≤ 2147483647 → list_all is_alnum (decimal n) ≡ true
+pub digits_all : (n : ℕ) → n ≤ 2147483647 → list_all is_alnum (decimal n) ≡ true
 unfolding DigitsAll
 digits_all n small = decimal_by_steps DigitsAll digits_one digits_more n (omega (arith, small))
 

@@ -18,4 +18,5 @@ pub mod EntriesRead
 pub mod ChoicesRead
 pub mod ConditionalsRead
 pub mod RecordsRead
+pub mod FormatsRead
 pub mod ActsRead

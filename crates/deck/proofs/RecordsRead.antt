@@ -71,17 +71,17 @@ entries_lexed (AndEntry e es) all = entry_lexed e false (more_entries_text es []
 -- ---- no assignment ----
 
 -- where no cut is made in what follows
-abbrev IsUncut : ℕ → List Token → Type 0
+abbrev pub IsUncut : ℕ → List Token → Type 0
 IsUncut d k = cut is_equals d k ≡ None
 
 never_open : (d : ℕ) → cuts is_equals d t.Open ≡ false
 never_open zero = refl
 never_open (suc d) = refl
 
-uncut_open : (d : ℕ) (k : List Token) → IsUncut (suc d) k → IsUncut d (t.Open ∷ k)
+pub uncut_open : (d : ℕ) (k : List Token) → IsUncut (suc d) k → IsUncut d (t.Open ∷ k)
 uncut_open d k h = token_then is_equals d t.Open k (λ y. y) None (never_open d) h
 
-uncut_close : (d : ℕ) (k : List Token) → IsUncut d k → IsUncut (suc d) (t.Close ∷ k)
+pub uncut_close : (d : ℕ) (k : List Token) → IsUncut d k → IsUncut (suc d) (t.Close ∷ k)
 uncut_close d k h = ap (fronted (λ front. t.Close ∷ front)) h
 
 never_comma : (d : ℕ) → cuts is_equals d t.Comma ≡ false
