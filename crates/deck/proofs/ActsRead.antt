@@ -30,12 +30,12 @@ names_stand : (ds : List Declared) → AllByRecursion IsReadableDeclared ds → 
 names_stand [] all = tt
 names_stand (d ∷ ds) all = (all.0.is_declared, names_stand ds all.1)
 
-names_readable : (ds : List Declared) → AllByRecursion IsReadableDeclared ds → AllByRecursion (λ d. is_readable_declared d ≡ true) ds
+pub names_readable : (ds : List Declared) → AllByRecursion IsReadableDeclared ds → AllByRecursion (λ d. is_readable_declared d ≡ true) ds
 names_readable [] all = tt
 names_readable (d ∷ ds) all = (all.0.readable, names_readable ds all.1)
 
 -- a statement as a logical IF holds it
-branch_reads : (a : Act) → IsReadableBranch a → ReadsAsBranch a
+pub branch_reads : (a : Act) → IsReadableBranch a → ReadsAsBranch a
 branch_reads a (assignment x e place left right) = assignment_branch x e place left right
 branch_reads a (jump l small) = goto_branch l small
 branch_reads a (computed l ls x small all name) = choice_branch l ls x small all name

@@ -29,6 +29,7 @@ use Rattle.deck.proofs.LexingLemmas.{IsBreak, word_goes_on, word_ends, number_be
 use Rattle.deck.proofs.HollerithLemmas.{hollerith_read}
 use Rattle.deck.proofs.BranchesRead.{digits_all}
 use Rattle.deck.proofs.CallsRead.{no_equals}
+use Rattle.deck.proofs.KnownTokens.{is_known, AreKnown, items_known}
 use Rattle.deck.proofs.RecordsRead.{IsUncut, uncut_open, uncut_close}
 
 -- ---- what is written ----
@@ -312,7 +313,13 @@ formatted : (o c r : Option Act) (a : Act) → o ≡ None → c ≡ Some a → o
 formatted (Some b) c r a none is = absurd cc
 formatted None c r a none is = ap (λ (x : Option Act). or_else x r) is
 
+format_lexed : (fs : Fields) → AreReadableFields fs → tokens_of (statement_text (Format fs)) ≡ t.Word (codes "FORMAT") ∷ t.Open ∷ spell_items (written fs) (t.Close ∷ [])
+format_lexed fs all = ap (λ (y : List Token). t.Word (codes "FORMAT") ∷ t.Open ∷ y) (fields_lexed fs (41 ∷ []) all (refl, refl, refl, refl))
+
+pub format_known : (fs : Fields) → AreReadableFields fs → AreKnown (tokens_of (statement_text (Format fs)))
+format_known fs all = ap (list_all is_known) (format_lexed fs all) ∙ items_known (written fs) (t.Close ∷ []) refl
+
 pub format_read : (fs : Fields) → AreReadableFields fs → statement_of (tokens_of (statement_text (Format fs))) ≡ Some (Format fs)
 format_read fs all =
-    ap (λ (y : List Token). statement_of (t.Word (codes "FORMAT") ∷ t.Open ∷ y)) (fields_lexed fs (41 ∷ []) all (refl, refl, refl, refl))
+    ap statement_of (format_lexed fs all)
     ∙ formatted (assignment_of (t.Word (codes "FORMAT") ∷ format_tokens fs)) (format_of (format_tokens fs)) _ (Format fs) (format_none fs) (format_is fs all)

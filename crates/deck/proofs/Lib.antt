@@ -9,10 +9,10 @@ pub mod KeywordLemmas
 pub mod BranchesRead
 pub mod BlankLemmas
 pub mod HollerithLemmas
-pub mod LinesRead
 pub mod CallsRead
 pub mod TypesRead
 pub mod FrontLemmas
+pub mod KnownTokens
 pub mod AsBranch
 pub mod EntriesRead
 pub mod ChoicesRead
@@ -20,3 +20,6 @@ pub mod ConditionalsRead
 pub mod RecordsRead
 pub mod FormatsRead
 pub mod ActsRead
+pub mod ActsKnown
+pub mod LinesRead
+pub mod MainsRead

@@ -17,6 +17,7 @@ use Rattle.stmt_reader.proofs.CutLemmas.{cut_spelled, equals_outside, token_then
 use Rattle.deck.specs.Readable.{is_readable_par}
 use Rattle.deck.specs.ReadableStatements.{IsLabelInRange, IsReadableEntry, IsReadableList, AreReadableEntries}
 use Rattle.deck.proofs.AsBranch.{ReadsAsBranch}
+use Rattle.deck.proofs.KnownTokens.{AreKnown, spell_known, par_known, step_known}
 use Rattle.deck.proofs.LexingLemmas.{IsBreak, name_begins, word_ends, number_begins, number_ends}
 use Rattle.deck.proofs.BranchesRead.{par_token, par_lexed, par_is}
 use Rattle.deck.proofs.TextsRead.{text_lexed}
@@ -152,6 +153,26 @@ filed : (o c r : Option Act) (a : Act) → o ≡ None → c ≡ Some a → or_el
 filed (Some b) c r a none is = absurd cc
 filed None c r a none is = ap (λ (x : Option Act). or_else x r) is
 
+mutual
+  entry_known : (e : Entry) (k : List Token) → IsReadableEntry e → AreKnown k → AreKnown (spell_entry e k)
+  entry_known (One e) k fine all = spell_known e k all
+  entry_known (Many NoEntry x a b c) k fine all = absurd fine.0
+  entry_known (Many (AndEntry e es) x a b c) k fine all =
+      entry_known e (more_entries es (t.Comma ∷ t.Word x ∷ t.Equals ∷ par_token a ∷ t.Comma ∷ par_token b ∷ step_then c (t.Close ∷ k))) fine.0.0
+      (more_known es (t.Comma ∷ t.Word x ∷ t.Equals ∷ par_token a ∷ t.Comma ∷ par_token b ∷ step_then c (t.Close ∷ k)) fine.0.1
+      (par_known a (t.Comma ∷ par_token b ∷ step_then c (t.Close ∷ k)) fine.2 (par_known b (step_then c (t.Close ∷ k)) fine.3 (step_known c (is_one c) (t.Close ∷ k) fine.4 all))))
+
+  more_known : (es : Entries) (k : List Token) → AreReadableEntries es → AreKnown k → AreKnown (more_entries es k)
+  more_known NoEntry k fine all = all
+  more_known (AndEntry e es) k fine all = entry_known e (more_entries es k) fine.0 (more_known es k fine.1 all)
+
+entries_known : (es : Entries) → AreReadableEntries es → AreKnown (spell_entries es [])
+entries_known NoEntry fine = refl
+entries_known (AndEntry e es) fine = entry_known e (more_entries es []) fine.0 (more_known es [] fine.1 refl)
+
+record_known : (u : Par) (l : ℕ) (es : Entries) → is_readable_par u ≡ true → AreReadableEntries es → AreKnown (t.Open ∷ record_tokens u l es)
+record_known u l es ru all = par_known u (t.Comma ∷ t.Number l ∷ t.Close ∷ spell_entries es []) ru (entries_known es all)
+
 read_lexed : (u : Par) (l : ℕ) (es : Entries) → is_readable_par u ≡ true → IsLabelInRange l → AreReadableEntries es → tokens_of (statement_text (Read u l es)) ≡ t.Word (codes "READ") ∷ t.Open ∷ record_tokens u l es
 read_lexed u l es ru small all = ap (λ (y : List Token). t.Word (codes "READ") ∷ t.Open ∷ y) (record_lexed u l es ru small all)
 
@@ -163,6 +184,7 @@ read_branch u l es ru small all = record {
   word = codes "READ";
   others = t.Open ∷ record_tokens u l es;
   tokens = read_lexed u l es ru small all;
+  known = record_known u l es ru all;
   read = branched (assignment_of (t.Word (codes "READ") ∷ t.Open ∷ record_tokens u l es)) (record_of Read (t.Open ∷ record_tokens u l es)) _ (Read u l es) (record_none (codes "READ") u l es) (record_is Read u l es ru all);
 }
 
@@ -176,6 +198,7 @@ write_branch u l es ru small all = record {
   word = codes "WRITE";
   others = t.Open ∷ record_tokens u l es;
   tokens = write_lexed u l es ru small all;
+  known = record_known u l es ru all;
   read = last (assignment_of (t.Word (codes "WRITE") ∷ t.Open ∷ record_tokens u l es)) (record_of Write (t.Open ∷ record_tokens u l es)) (Write u l es) (record_none (codes "WRITE") u l es) (record_is Write u l es ru all);
 }
 
