@@ -1,5 +1,5 @@
 -- All tokens of a statement that can be read back are known.
-use Rattle.std.proofs.Common.{◌≡◌, true, cond, List, [], ◌∷◌, refl, ap, ◌∙◌, codes}
+use Rattle.std.proofs.Common.{cond, [], ◌∷◌, refl, ap, ◌∙◌, codes}
 use Rattle.std.specs.List.{list_all}
 use Rattle.f66_tree.specs.declared.declaration.TypeWord.TheVariants.{Integer, Logical, Other}
 use Rattle.f66_tree.specs.Syntax.{Act}

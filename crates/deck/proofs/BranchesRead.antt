@@ -8,7 +8,7 @@ use Rattle.f66_tree.specs.Syntax.{Text, Ref, Par, Constant, Named, Act, Assign, 
 use Rattle.stmt_text.specs.Texts.{statement_text, par_text, is_one, step_text, loop_text}
 use Rattle.stmt_reader.specs.declared.token.Token.{Token}
 use Rattle.stmt_reader.specs.declared.token.Token.TheVariants as t
-use Rattle.stmt_reader.specs.declared.lexer.Part.TheVariants.{Clear, InWord, InNumber}
+use Rattle.stmt_reader.specs.declared.lexer.Part.TheVariants.{Clear, InNumber}
 use Rattle.stmt_reader.specs.Levels.{is_capital, is_digit, is_name}
 use Rattle.stmt_reader.specs.Lexing.{Lexed, behind, at_clear, at, lexed, tokens_of}
 use Rattle.stmt_reader.specs.Machine.{State, final}

@@ -1,8 +1,8 @@
 -- The machine that reads the list of a READ or WRITE takes each entry that is spelled. Within the parentheses of an item it
 -- gathers the item's tokens; behind an entry it has the entry among those before, and then wants another, or is at its end.
-use Rattle.std.proofs.Common.{◌≡◌, ℕ, zero, suc, pos, Bool, true, false, cond, List, [], ◌∷◌, ◌++◌, Option, Some, None, refl, sym, ap, ◌∙◌, append_assoc}
+use Rattle.std.proofs.Common.{◌≡◌, ℕ, zero, suc, pos, Bool, true, false, cond, List, [], ◌∷◌, ◌++◌, Option, Some, refl, sym, ap, ◌∙◌, append_assoc}
 use Rattle.std.proofs.lemmas.List.{append-nil}
-use Rattle.f66_tree.specs.Syntax.{Text, Formula, Int, Truth, Letter, Ref, Item, Group, Plus, Minus, Not, Pair, Formulas, NoFormula, AndFormula, Par, Constant, Named, Entry, One, Many, Entries, NoEntry, AndEntry}
+use Rattle.f66_tree.specs.Syntax.{Text, Formula, Int, Truth, Letter, Ref, Item, Group, Plus, Minus, Not, Pair, Formulas, NoFormula, AndFormula, Par, Constant, Entry, One, Many, Entries, NoEntry, AndEntry}
 use Rattle.f66_tree.specs.Views.{listed}
 use Rattle.f66_tree.specs.declared.expression.Operator.TheVariants.{Add, Sub}
 use Rattle.stmt_text.specs.Texts.{is_one}
@@ -10,12 +10,11 @@ use Rattle.stmt_reader.specs.declared.token.Token.{Token}
 use Rattle.stmt_reader.specs.declared.token.Token.TheVariants as t
 use Rattle.stmt_reader.specs.Spelling.{spell, spell_list, spell_more}
 use Rattle.stmt_reader.specs.Taking.{then_if, place_if}
-use Rattle.stmt_reader.specs.Machine.{expression_of}
-use Rattle.stmt_reader.specs.Entries.{Lists, State, Wants, Within, Behind, Counts, Counted, add, add_item, wants_if, control_in, counts, close_control, run, all_of, final, entries_of}
+use Rattle.stmt_reader.specs.Entries.{Lists, State, Wants, Within, Behind, Counted, add, add_item, wants_if, counts, run, all_of, final, entries_of}
 use Rattle.stmt_reader.proofs.Complete.{expression_spelled}
 use Rattle.stmt_reader.proofs.Assignments.{spell-append}
 use Rattle.deck.specs.Readable.{is_readable_par}
-use Rattle.deck.specs.ReadableStatements.{IsReadable, IsReadableEntry, IsReadableList, AreReadableEntries}
+use Rattle.deck.specs.ReadableStatements.{IsReadable, IsReadableEntry, AreReadableEntries}
 use Rattle.deck.proofs.BranchesRead.{par_token, par_is, one_is}
 
 -- ---- how entries are spelled ----

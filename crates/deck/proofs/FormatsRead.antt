@@ -1,6 +1,6 @@
 -- The text of a FORMAT is read as this FORMAT: its tokens spell what is written, commas and counts among it; commas stand where
 -- they may; and what is written means the same fields.
-use Rattle.std.proofs.Common.{◌≡◌, ℕ, zero, suc, ◌+◌, ◌-◌, ◌*◌, ◌/◌, ◌%◌, ◌≤◌, ◌<◌, min, Bool, true, false, cond, List, [], ◌∷◌, ◌++◌, length, Option, Some, None, refl, sym, ap, ◌∙◌, codes, arith, append_assoc}
+use Rattle.std.proofs.Common.{◌≡◌, ℕ, zero, suc, ◌+◌, ◌-◌, ◌*◌, ◌/◌, ◌%◌, ◌≤◌, ◌<◌, Bool, true, false, cond, List, [], ◌∷◌, ◌++◌, length, Option, Some, None, refl, sym, ap, ◌∙◌, codes, arith, append_assoc}
 use Rattle.std.specs.Prelude.{decimal, nat_le, ◌==◌, ◌||◌, ◌&&◌}
 use Rattle.std.specs.Fmt.{digits}
 use Rattle.std.specs.List.{list_all}
@@ -11,16 +11,16 @@ use Rattle.f66_tree.specs.declared.editing.EditKind.{EditKind}
 use Rattle.f66_tree.specs.declared.editing.EditKind.TheVariants as edits
 use Rattle.f66_tree.specs.declared.expression.Operator.TheVariants.{Div}
 use Rattle.f66_tree.specs.Fields.{Step, Takes, Blanks, Chars, Slash, Fields, NoField, Single, Group}
-use Rattle.f66_tree.specs.Syntax.{Text, Act, Format}
+use Rattle.f66_tree.specs.Syntax.{Act, Format}
 use Rattle.stmt_text.specs.Texts.{edit_letter, is_slash, separated, fields_text, statement_text}
 use Rattle.stmt_reader.specs.declared.token.Token.{Token}
 use Rattle.stmt_reader.specs.declared.token.Token.TheVariants as t
 use Rattle.stmt_reader.specs.declared.lexer.Part.TheVariants.{Clear, InWord, InNumber}
 use Rattle.stmt_reader.specs.Levels.{is_digit}
-use Rattle.stmt_reader.specs.Lexing.{Lexed, at_clear, at, lexed, tokens_of}
-use Rattle.stmt_reader.specs.Cutting.{fronted, cuts, cut, is_equals}
+use Rattle.stmt_reader.specs.Lexing.{Lexed, at, lexed, tokens_of}
+use Rattle.stmt_reader.specs.Cutting.{fronted, cuts, is_equals}
 use Rattle.stmt_reader.specs.Taking.{then_if}
-use Rattle.stmt_reader.specs.Formats.{Item, Edit, Words, Stroke, Point, Nest, Items, Ends, Then, count_tokens, spell_item, spell_items, items_of, Before, Nothing, Comma, Stroke', Field, may_begin, may_end, is_separated, small, count_of, value_after, width_of, sized, with_field, grouped, field_of, fields_of, inside_of, format_of}
+use Rattle.stmt_reader.specs.Formats.{Item, Edit, Words, Stroke, Point, Nest, Items, Ends, Then, count_tokens, spell_item, spell_items, Before, Nothing, Comma, Stroke', Field, may_begin, may_end, is_separated, small, count_of, value_after, width_of, sized, with_field, grouped, field_of, fields_of, inside_of, format_of}
 use Rattle.stmt_reader.specs.Statements.{or_else, assignment_of, statement_of}
 use Rattle.stmt_reader.proofs.CutLemmas.{token_then}
 use Rattle.stmt_reader.proofs.FormatItems.{items_spelled}

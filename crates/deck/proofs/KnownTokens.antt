@@ -1,8 +1,7 @@
 -- Tokens that some statement has.
-use Rattle.std.proofs.Common.{◌≡◌, ℕ, pos, negsuc, Bool, true, false, cond, List, [], ◌∷◌, Some, None, refl}
+use Rattle.std.proofs.Common.{◌≡◌, ℕ, pos, negsuc, Bool, true, false, cond, List, [], ◌∷◌, Some, None}
 use Rattle.std.specs.List.{list_all}
-use Rattle.f66_tree.specs.Syntax.{Formula, Int, Truth, Letter, Ref, Item, Group, Plus, Minus, Not, Pair, Formulas, NoFormula, AndFormula, Par, Constant, Named, Declared, Entry, One, Many, Entries, NoEntry, AndEntry}
-use Rattle.stmt_text.specs.Texts.{is_one}
+use Rattle.f66_tree.specs.Syntax.{Formula, Int, Truth, Letter, Ref, Item, Group, Plus, Minus, Not, Pair, Formulas, NoFormula, AndFormula, Par, Constant, Named, Declared}
 use Rattle.stmt_reader.specs.declared.token.Token.{Token}
 use Rattle.stmt_reader.specs.declared.token.Token.TheVariants as t
 use Rattle.stmt_reader.specs.Spelling.{spell, spell_list, spell_more, spell_others}

@@ -9,13 +9,13 @@ use Rattle.stmt_reader.specs.declared.lexer.Part.TheVariants.{Clear}
 use Rattle.stmt_reader.specs.Levels.{is_name}
 use Rattle.stmt_reader.specs.Spelling.{spell}
 use Rattle.stmt_reader.specs.Lexing.{lexed, tokens_of}
-use Rattle.stmt_reader.specs.Cutting.{Halves, depth, fronted, cuts, cut, is_equals}
+use Rattle.stmt_reader.specs.Cutting.{fronted, cuts, cut, is_equals}
 use Rattle.stmt_reader.specs.Taking.{then_if}
 use Rattle.stmt_reader.specs.Entries.{entries_of, record_of}
-use Rattle.stmt_reader.specs.Statements.{or_else, assignment_of, branch_of, statement_of}
+use Rattle.stmt_reader.specs.Statements.{or_else, assignment_of, statement_of}
 use Rattle.stmt_reader.proofs.CutLemmas.{cut_spelled, equals_outside, token_then}
 use Rattle.deck.specs.Readable.{is_readable_par}
-use Rattle.deck.specs.ReadableStatements.{IsLabelInRange, IsReadableEntry, IsReadableList, AreReadableEntries}
+use Rattle.deck.specs.ReadableStatements.{IsLabelInRange, IsReadableEntry, AreReadableEntries}
 use Rattle.deck.proofs.AsBranch.{ReadsAsBranch}
 use Rattle.deck.proofs.KnownTokens.{AreKnown, spell_known, par_known, step_known}
 use Rattle.deck.proofs.LexingLemmas.{IsBreak, name_begins, word_ends, number_begins, number_ends}
