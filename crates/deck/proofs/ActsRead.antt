@@ -7,13 +7,15 @@ use Rattle.stmt_reader.specs.Exactness.{IsArgument, IsDeclared}
 use Rattle.stmt_reader.specs.Lexing.{tokens_of}
 use Rattle.stmt_reader.specs.Statements.{statement_of}
 use Rattle.deck.specs.Readable.{is_readable_argument, is_readable_declared}
-use Rattle.deck.specs.ReadableStatements.{IsReadableArgument, IsReadableDeclared, IsReadableBranch, assignment, jump, computed, sign, bare_call, call, continuation, stop, stop_number, return, IsReadableAct, branch, conditional, loop, typed, dimension}
+use Rattle.deck.specs.ReadableStatements.{IsReadableArgument, IsReadableDeclared, IsReadableBranch, assignment, jump, computed, sign, bare_call, call, read, write, continuation, stop, stop_number, return, IsReadableAct, branch, conditional, loop, format, typed, dimension}
 use Rattle.deck.proofs.AsBranch.{ReadsAsBranch}
 use Rattle.deck.proofs.StatementsRead.{assignment_read}
 use Rattle.deck.proofs.BranchesRead.{goto_read, loop_read}
 use Rattle.deck.proofs.CallsRead.{bare_call_read, call_read}
 use Rattle.deck.proofs.TypesRead.{types_read, dimensions_read}
 use Rattle.deck.proofs.ChoicesRead.{choice_branch, choice_read, sign_branch, sign_read, stop_branch, stop_read}
+use Rattle.deck.proofs.FormatsRead.{format_read}
+use Rattle.deck.proofs.RecordsRead.{read_branch, read_read, write_branch, write_read}
 use Rattle.deck.proofs.ConditionalsRead.{assignment_branch, goto_branch, bare_call_branch, call_branch, continue_branch, stop_alone_branch, return_branch, conditional_read}
 
 arguments_stand : (es : List Formula) → AllByRecursion IsReadableArgument es → AllByRecursion IsArgument es
@@ -28,18 +30,20 @@ names_stand : (ds : List Declared) → AllByRecursion IsReadableDeclared ds → 
 names_stand [] all = tt
 names_stand (d ∷ ds) all = (all.0.is_declared, names_stand ds all.1)
 
-names_readable : (ds : List Declared) → AllByRecursion IsReadableDeclared ds → AllByRecursion (λ d. is_readable_declared d ≡ true) ds
+pub names_readable : (ds : List Declared) → AllByRecursion IsReadableDeclared ds → AllByRecursion (λ d. is_readable_declared d ≡ true) ds
 names_readable [] all = tt
 names_readable (d ∷ ds) all = (all.0.readable, names_readable ds all.1)
 
 -- a statement as a logical IF holds it
-branch_reads : (a : Act) → IsReadableBranch a → ReadsAsBranch a
+pub branch_reads : (a : Act) → IsReadableBranch a → ReadsAsBranch a
 branch_reads a (assignment x e place left right) = assignment_branch x e place left right
 branch_reads a (jump l small) = goto_branch l small
 branch_reads a (computed l ls x small all name) = choice_branch l ls x small all name
 branch_reads a (sign e l m n fine below zero_label above) = sign_branch e l m n fine below zero_label above
 branch_reads a (bare_call x name) = bare_call_branch x name
 branch_reads a (call x e es name first others) = call_branch x e es name first.is_argument (arguments_stand es others) first.readable (arguments_readable es others)
+branch_reads a (read u l es ru small all) = read_branch u l es ru small all
+branch_reads a (write u l es ru small all) = write_branch u l es ru small all
 branch_reads a continuation = continue_branch
 branch_reads a stop = stop_alone_branch
 branch_reads a (stop_number n small) = stop_branch n small
@@ -52,6 +56,8 @@ branch_alone a (computed l ls x small all name) = choice_read l ls x small all n
 branch_alone a (sign e l m n fine below zero_label above) = sign_read e l m n fine below zero_label above
 branch_alone a (bare_call x name) = bare_call_read x name
 branch_alone a (call x e es name first others) = call_read x e es name first.is_argument (arguments_stand es others) first.readable (arguments_readable es others)
+branch_alone a (read u l es ru small all) = read_read u l es ru small all
+branch_alone a (write u l es ru small all) = write_read u l es ru small all
 branch_alone a continuation = refl
 branch_alone a stop = refl
 branch_alone a (stop_number n small) = stop_read n small
@@ -61,5 +67,6 @@ pub act_read : (a : Act) → IsReadableAct a → statement_of (tokens_of (statem
 act_read a (branch b readable) = branch_alone b readable
 act_read a (conditional e b fine readable) = conditional_read e b fine (branch_reads b readable)
 act_read a (loop l x first last step small name ra rb rc) = loop_read l x first last step small name ra rb rc
+act_read a (format fs all) = format_read fs all
 act_read a (typed w d ds first others) = types_read w d ds first.is_declared (names_stand ds others) first.readable (names_readable ds others)
 act_read a (dimension d ds first others) = dimensions_read d ds first.is_declared (names_stand ds others) first.readable (names_readable ds others)

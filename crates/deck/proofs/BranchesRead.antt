@@ -8,7 +8,7 @@ use Rattle.f66_tree.specs.Syntax.{Text, Ref, Par, Constant, Named, Act, Assign, 
 use Rattle.stmt_text.specs.Texts.{statement_text, par_text, is_one, step_text, loop_text}
 use Rattle.stmt_reader.specs.declared.token.Token.{Token}
 use Rattle.stmt_reader.specs.declared.token.Token.TheVariants as t
-use Rattle.stmt_reader.specs.declared.lexer.Part.TheVariants.{Clear, InWord, InNumber}
+use Rattle.stmt_reader.specs.declared.lexer.Part.TheVariants.{Clear, InNumber}
 use Rattle.stmt_reader.specs.Levels.{is_capital, is_digit, is_name}
 use Rattle.stmt_reader.specs.Lexing.{Lexed, behind, at_clear, at, lexed, tokens_of}
 use Rattle.stmt_reader.specs.Machine.{State, final}
@@ -44,7 +44,7 @@ digits_more : (n : ℕ) (ds : List ℕ) → 10 ≤ n → DigitsAll (n / 10) ds �
 unfolding DigitsAll
 digits_more n ds ten all = all_append ds ((48 + n % 10) ∷ []) all (and_from (is_alnum (48 + n % 10)) true (digit_alnum (n % 10) (omega arith)) refl)
 
-digits_all : (n : ℕ) → n ≤ 2147483647 → list_all is_alnum (decimal n) ≡ true
+pub digits_all : (n : ℕ) → n ≤ 2147483647 → list_all is_alnum (decimal n) ≡ true
 unfolding DigitsAll
 digits_all n small = decimal_by_steps DigitsAll digits_one digits_more n (omega (arith, small))
 
@@ -80,7 +80,7 @@ par_lexed (Constant (pos n)) h k is b = number_begins h n k (leb-true n 21474836
 par_lexed (Constant (negsuc n)) h k is b = absurd cc
 par_lexed (Named x) h k is b = name_begins h x k is ∙ word_ends x k b
 
-step_lexed_by : (c : Par) (b : Bool) → is_readable_par c ≡ true → lexed (Clear false) (cond b [] (44 ∷ par_text c [])) ≡ cond b [] (t.Comma ∷ par_token c ∷ [])
+pub step_lexed_by : (c : Par) (b : Bool) → is_readable_par c ≡ true → lexed (Clear false) (cond b [] (44 ∷ par_text c [])) ≡ cond b [] (t.Comma ∷ par_token c ∷ [])
 step_lexed_by c true is = refl
 step_lexed_by c false is = ap (λ (x : List Token). t.Comma ∷ x) (par_lexed c true [] is tt)
 
@@ -88,12 +88,12 @@ step_breaks_by : (c : Par) (b : Bool) → IsBreak (cond b [] (44 ∷ par_text c 
 step_breaks_by c true = tt
 step_breaks_by c false = (refl, refl, refl, refl)
 
-par_is : (p : Par) → is_readable_par p ≡ true → par_if (par_token p) ≡ Some p
+pub par_is : (p : Par) → is_readable_par p ≡ true → par_if (par_token p) ≡ Some p
 par_is (Constant (pos n)) is = refl
 par_is (Constant (negsuc n)) is = absurd cc
 par_is (Named x) is = refl
 
-one_is : (c : Par) → is_one c ≡ true → c ≡ Constant (pos 1)
+pub one_is : (c : Par) → is_one c ≡ true → c ≡ Constant (pos 1)
 one_is (Constant (pos n)) is = ap (λ (m : ℕ). Constant (pos m)) (eqb-true n 1 is)
 one_is (Constant (negsuc n)) is = absurd cc
 one_is (Named x) is = absurd cc
@@ -136,25 +136,33 @@ name_alnum (c ∷ cs) is =
     let here : is_alnum c ≡ true = ap (λ (b : Bool). b || is_digit c) p.0 in
     and_from (is_alnum c) (list_all is_alnum cs) here p.1
 
-pub loop_read : (l : ℕ) (x : Text) (a b c : Par) → l ≤ 2147483647 → is_name x ≡ true → is_readable_par a ≡ true → is_readable_par b ≡ true → is_readable_par c ≡ true
-    → statement_of (tokens_of (statement_text (Loop l x a b c))) ≡ Some (Loop l x a b c)
-loop_read l x a b c small name ra rb rc =
-    let tail : List Token = par_token a ∷ t.Comma ∷ par_token b ∷ step_tokens c in
-    let pars : lexed (Clear false) (par_text a (44 ∷ par_text b (step_text c []))) ≡ par_token a ∷ t.Comma ∷ par_token b ∷ step_tokens c =
+-- the tokens of a DO, the last of which are those of its parameters
+abbrev loop_tokens : Par → Par → Par → List Token
+loop_tokens a b c = par_token a ∷ t.Comma ∷ par_token b ∷ step_tokens c
+
+parameters_lexed : (a b c : Par) → is_readable_par a ≡ true → is_readable_par b ≡ true → is_readable_par c ≡ true → lexed (Clear false) (par_text a (44 ∷ par_text b (step_text c []))) ≡ loop_tokens a b c
+parameters_lexed a b c ra rb rc =
     par_lexed a false (44 ∷ par_text b (step_text c [])) ra (refl, refl, refl, refl)
-    ∙ ap (λ (k : List Token). par_token a ∷ t.Comma ∷ k) (par_lexed b true (step_text c []) rb (step_breaks_by c (is_one c)) ∙ ap (λ (k : List Token). par_token b ∷ k) (step_lexed_by c (is_one c) rc)) in
-    let whole : lexed (InWord (codes "DO")) (decimal l ++ 32 ∷ loop_text x a b c []) ≡ t.Word (68 ∷ 79 ∷ (decimal l ++ x)) ∷ t.Equals ∷ par_token a ∷ t.Comma ∷ par_token b ∷ step_tokens c =
+    ∙ ap (λ (k : List Token). par_token a ∷ t.Comma ∷ k) (par_lexed b true (step_text c []) rb (step_breaks_by c (is_one c)) ∙ ap (λ (k : List Token). par_token b ∷ k) (step_lexed_by c (is_one c) rc))
+
+pub loop_lexed : (l : ℕ) (x : Text) (a b c : Par) → l ≤ 2147483647 → is_name x ≡ true → is_readable_par a ≡ true → is_readable_par b ≡ true → is_readable_par c ≡ true
+    → tokens_of (statement_text (Loop l x a b c)) ≡ t.Word (68 ∷ 79 ∷ (decimal l ++ x)) ∷ t.Equals ∷ par_token a ∷ t.Comma ∷ par_token b ∷ cond (is_one c) [] (t.Comma ∷ par_token c ∷ [])
+loop_lexed l x a b c small name ra rb rc =
     word_goes_on (codes "DO") (decimal l) (32 ∷ loop_text x a b c []) (digits_all l small)
     ∙ word_goes_on (codes "DO" ++ decimal l) x (61 ∷ par_text a (44 ∷ par_text b (step_text c []))) (name_alnum x name)
     ∙ word_ends ((codes "DO" ++ decimal l) ++ x) (61 ∷ par_text a (44 ∷ par_text b (step_text c []))) (refl, refl, refl, refl)
-    ∙ ap (λ (k : List Token). t.Word ((codes "DO" ++ decimal l) ++ x) ∷ t.Equals ∷ k) pars in
-    let behind_it : lexed (Clear false) (decimal l ++ 32 ∷ loop_text x a b c []) ≡ t.Number l ∷ t.Word x ∷ t.Equals ∷ par_token a ∷ t.Comma ∷ par_token b ∷ step_tokens c =
+    ∙ ap (λ (k : List Token). t.Word ((codes "DO" ++ decimal l) ++ x) ∷ t.Equals ∷ k) (parameters_lexed a b c ra rb rc)
+
+pub loop_read : (l : ℕ) (x : Text) (a b c : Par) → l ≤ 2147483647 → is_name x ≡ true → is_readable_par a ≡ true → is_readable_par b ≡ true → is_readable_par c ≡ true
+    → statement_of (tokens_of (statement_text (Loop l x a b c))) ≡ Some (Loop l x a b c)
+loop_read l x a b c small name ra rb rc =
+    let behind_it : lexed (Clear false) (decimal l ++ 32 ∷ loop_text x a b c []) ≡ t.Number l ∷ t.Word x ∷ t.Equals ∷ loop_tokens a b c =
     number_begins false l (32 ∷ loop_text x a b c []) small
     ∙ number_then_name l x (61 ∷ par_text a (44 ∷ par_text b (step_text c []))) name
     ∙ ap (λ (k : List Token). t.Number l ∷ k) (name_begins false x (61 ∷ par_text a (44 ∷ par_text b (step_text c []))) name ∙ word_ends x (61 ∷ par_text a (44 ∷ par_text b (step_text c []))) (refl, refl, refl, refl))
-    ∙ ap (λ (k : List Token). t.Number l ∷ t.Word x ∷ t.Equals ∷ k) pars in
-    ap statement_of whole
-    ∙ loop_first (t.Word (68 ∷ 79 ∷ (decimal l ++ x)) ∷ t.Equals ∷ par_token a ∷ t.Comma ∷ par_token b ∷ step_tokens c) (t.Number l ∷ t.Word x ∷ t.Equals ∷ par_token a ∷ t.Comma ∷ par_token b ∷ step_tokens c) (Loop l x a b c)
+    ∙ ap (λ (k : List Token). t.Number l ∷ t.Word x ∷ t.Equals ∷ k) (parameters_lexed a b c ra rb rc) in
+    ap statement_of (loop_lexed l x a b c small name ra rb rc)
+    ∙ loop_first (t.Word (68 ∷ 79 ∷ (decimal l ++ x)) ∷ t.Equals ∷ loop_tokens a b c) (t.Number l ∷ t.Word x ∷ t.Equals ∷ loop_tokens a b c) (Loop l x a b c)
     (no_assignment (68 ∷ 79 ∷ (decimal l ++ x)) a (par_token b ∷ step_tokens c) ra)
-    (ap (after_word (codes "DO")) (sym whole) ∙ keyword_taken (codes "DO") (decimal l ++ 32 ∷ loop_text x a b c []) ∙ ap (λ (k : List Token). Some k) behind_it)
+    (ap (after_word (codes "DO")) (sym (loop_lexed l x a b c small name ra rb rc)) ∙ keyword_taken (codes "DO") (decimal l ++ 32 ∷ loop_text x a b c []) ∙ ap (λ (k : List Token). Some k) behind_it)
     (loop_taken l x a b c (is_one c) refl ra rb rc)

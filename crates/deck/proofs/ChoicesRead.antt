@@ -25,6 +25,7 @@ use Rattle.stmt_reader.proofs.CallReads.{choice_spelled}
 use Rattle.stmt_reader.proofs.Conditions.{sign_spelled}
 use Rattle.deck.specs.ReadableStatements.{IsReadable, IsLabelInRange}
 use Rattle.deck.proofs.AsBranch.{ReadsAsBranch}
+use Rattle.deck.proofs.KnownTokens.{spell_known, labels_known}
 use Rattle.deck.proofs.LexingLemmas.{IsBreak, is_alnum, word_goes_on, name_begins, word_ends, number_begins, number_ends}
 use Rattle.deck.proofs.CallsRead.{no_equals}
 use Rattle.deck.proofs.TextsRead.{text_lexed}
@@ -54,11 +55,11 @@ more_numbers (l ∷ ls) k = ap (λ (y : List Token). t.Comma ∷ t.Number l ∷ 
 
 -- ---- computed GO TO ----
 
-jumped : (o c r1 r2 : Option Act) (a : Act) → o ≡ None → c ≡ Some a → or_else o (or_else None (or_else (or_else o (or_else c r1)) r2)) ≡ Some a
+pub jumped : (o c r1 r2 : Option Act) (a : Act) → o ≡ None → c ≡ Some a → or_else o (or_else None (or_else (or_else o (or_else c r1)) r2)) ≡ Some a
 jumped (Some b) c r1 r2 a none is = absurd cc
 jumped None c r1 r2 a none is = ap (λ (x : Option Act). or_else (or_else x r1) r2) is
 
-branched : (o c r : Option Act) (a : Act) → o ≡ None → c ≡ Some a → or_else o (or_else c r) ≡ Some a
+pub branched : (o c r : Option Act) (a : Act) → o ≡ None → c ≡ Some a → or_else o (or_else c r) ≡ Some a
 branched (Some b) c r a none is = absurd cc
 branched None c r a none is = ap (λ (x : Option Act). or_else x r) is
 
@@ -86,6 +87,7 @@ choice_branch l ls x small all name = record {
   word = codes "GOTO";
   others = choice_tokens l ls x;
   tokens = choice_lexed l ls x small all name;
+  known = labels_known ls (t.Close ∷ t.Comma ∷ t.Word x ∷ []) refl;
   read = branched (assignment_of (t.Word (codes "GOTO") ∷ choice_tokens l ls x)) (computed_of (choice_tokens l ls x)) _ (Computed (l ∷ ls) x) (choice_is_none l ls x) (choice_is l ls x);
 }
 
@@ -121,6 +123,7 @@ sign_branch e l m n fine below zero_label above = record {
   word = codes "IF";
   others = sign_tokens e l m n;
   tokens = sign_lexed e l m n fine below zero_label above;
+  known = spell_known e (t.Close ∷ spell_members spell_label t.Comma l (m ∷ n ∷ []) []) refl;
   read = branched (assignment_of (t.Word (codes "IF") ∷ sign_tokens e l m n)) (sign_of (sign_tokens e l m n)) _ (Sign e l m n) (sign_is_none e l m n) (sign_is e l m n fine);
 }
 
@@ -211,6 +214,7 @@ stop_branch n small =
       word = codes "STOP" ++ digits 8 false n;
       others = [];
       tokens = stop_lexed n r;
+      known = refl;
       read = first (stop_with (digits 8 false n)) _ (Stop (Some n)) (stopped n (digits 8 false n) r);
     }
 

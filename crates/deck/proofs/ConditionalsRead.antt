@@ -9,7 +9,7 @@ use Rattle.stmt_text.specs.Texts.{formula_text, formulas_text, act_text, stateme
 use Rattle.stmt_reader.specs.declared.token.Token.{Token}
 use Rattle.stmt_reader.specs.declared.token.Token.TheVariants as t
 use Rattle.stmt_reader.specs.Levels.{is_name, stands, stand_all}
-use Rattle.stmt_reader.specs.Spelling.{spell, spell_members}
+use Rattle.stmt_reader.specs.Spelling.{spell, spell_members, spell_others}
 use Rattle.stmt_reader.specs.Exactness.{IsArgument, with_arguments}
 use Rattle.stmt_reader.specs.Lexing.{lexed, tokens_of}
 use Rattle.stmt_reader.specs.declared.lexer.Part.TheVariants.{Clear}
@@ -25,6 +25,7 @@ use Rattle.stmt_reader.proofs.Conditions.{condition_spelled}
 use Rattle.deck.specs.Readable.{is_readable_argument}
 use Rattle.deck.specs.ReadableStatements.{IsReadable, IsLabelInRange}
 use Rattle.deck.proofs.AsBranch.{ReadsAsBranch}
+use Rattle.deck.proofs.KnownTokens.{spell_known, arguments_known}
 use Rattle.deck.proofs.TextsRead.{text_lexed}
 use Rattle.deck.proofs.BranchesRead.{goto_lexed, goto_behind}
 use Rattle.deck.proofs.CallsRead.{call_behind, call_is_none, arguments_lexed}
@@ -43,12 +44,14 @@ assignment_branch (Ref x) e place left right = record {
   word = x;
   others = t.Equals ∷ spell e [];
   tokens = assignment_lexed (Ref x) e left right;
+  known = spell_known e [] refl;
   read = assigned (t.Word x ∷ t.Equals ∷ spell e []) (Assign (Ref x) e) (assignment_spelled (Ref x) e place left.stands right.stands);
 }
 assignment_branch (Item x es) e place left right = record {
   word = x;
   others = _;
   tokens = assignment_lexed (Item x es) e left right;
+  known = spell_known (Item x es) (t.Equals ∷ spell e []) (spell_known e [] refl);
   read = assigned (spell (Item x es) (t.Equals ∷ spell e [])) (Assign (Item x es) e) (assignment_spelled (Item x es) e place left.stands right.stands);
 }
 assignment_branch _ e place left right = absurd cc
@@ -58,6 +61,7 @@ goto_branch l small = record {
   word = 71 ∷ 79 ∷ 84 ∷ 79 ∷ decimal l;
   others = [];
   tokens = goto_lexed l small;
+  known = refl;
   read = ap (λ (o : Option (List Token)). or_else (then_if o (λ rest. or_else (goto_of rest) (computed_of rest))) None) (goto_behind l small);
 }
 
@@ -72,6 +76,7 @@ bare_call_branch x name =
       word = codes "CALL" ++ x;
       others = [];
       tokens = p.0;
+      known = refl;
       read = held (assignment_of (t.Word (codes "CALL" ++ x) ∷ [])) (then_if (after_word (codes "CALL") (t.Word (codes "CALL" ++ x) ∷ [])) call_of) _ (Invoke x NoFormula) refl (ap (λ (o : Option (List Token)). then_if o call_of) p.1);
     }
 
@@ -86,18 +91,19 @@ call_branch x e es name first others first_readable readable =
       word = codes "CALL" ++ x;
       others = tail;
       tokens = p.0;
+      known = spell_known e (spell_others spell t.Comma es (t.Close ∷ [])) (arguments_known es (t.Close ∷ []) refl);
       read = held (assignment_of (t.Word (codes "CALL" ++ x) ∷ tail)) (then_if (after_word (codes "CALL") (t.Word (codes "CALL" ++ x) ∷ tail)) call_of) _ (Invoke x (chained (e ∷ es))) (call_is_none (codes "CALL" ++ x) e es)
           (ap (λ (o : Option (List Token)). then_if o call_of) p.1 ∙ call_spelled _ _ (with_arguments x e es first others));
     }
 
 pub continue_branch : ReadsAsBranch Continue
-continue_branch = record { word = codes "CONTINUE"; others = []; tokens = refl; read = refl }
+continue_branch = record { word = codes "CONTINUE"; others = []; tokens = refl; known = refl; read = refl }
 
 pub stop_alone_branch : ReadsAsBranch (Stop None)
-stop_alone_branch = record { word = codes "STOP"; others = []; tokens = refl; read = refl }
+stop_alone_branch = record { word = codes "STOP"; others = []; tokens = refl; known = refl; read = refl }
 
 pub return_branch : ReadsAsBranch Return
-return_branch = record { word = codes "RETURN"; others = []; tokens = refl; read = refl }
+return_branch = record { word = codes "RETURN"; others = []; tokens = refl; known = refl; read = refl }
 
 -- ---- the logical IF ----
 
@@ -131,12 +137,14 @@ chosen (Some b) s c r a none unsigned is = absurd cc
 chosen None (Some b) c r a none unsigned is = absurd cc
 chosen None None c r a none unsigned is = ap (λ (x : Option Act). or_else x r) is
 
+pub conditional_lexed : (e : Formula) (a : Act) → IsReadable e → (r : ReadsAsBranch a) → tokens_of (statement_text (When e a)) ≡ t.Word (codes "IF") ∷ t.Open ∷ spell e (t.Close ∷ t.Word r.word ∷ r.others)
+conditional_lexed e a fine r =
+    ap (λ (y : List Token). t.Word (codes "IF") ∷ t.Open ∷ y) (text_lexed e true (41 ∷ act_text a []) fine.readable (refl, refl, refl, refl) ∙ ap (λ (y : List Token). spell e (t.Close ∷ y)) r.tokens)
+
 pub conditional_read : (e : Formula) (a : Act) → IsReadable e → ReadsAsBranch a → statement_of (tokens_of (statement_text (When e a))) ≡ Some (When e a)
 conditional_read e a fine r =
     let inside : List Token = t.Word r.word ∷ r.others in
-    let whole : tokens_of (statement_text (When e a)) ≡ t.Word (codes "IF") ∷ t.Open ∷ spell e (t.Close ∷ inside) =
-    ap (λ (y : List Token). t.Word (codes "IF") ∷ t.Open ∷ y) (text_lexed e true (41 ∷ act_text a []) fine.readable (refl, refl, refl, refl) ∙ ap (λ (y : List Token). spell e (t.Close ∷ y)) r.tokens) in
-    ap statement_of whole
+    ap statement_of (conditional_lexed e a fine r)
     ∙ chosen (assignment_of (t.Word (codes "IF") ∷ t.Open ∷ spell e (t.Close ∷ inside))) (sign_of (t.Open ∷ spell e (t.Close ∷ inside)))
     (then_if (condition_of (t.Open ∷ spell e (t.Close ∷ inside))) (λ c. then_if (branch_of c.1) (λ b. Some (When c.0 b)))) _ (When e a)
     (conditional_is_none e r.word r.others fine.stands) (no_signs e r.word r.others fine.stands)

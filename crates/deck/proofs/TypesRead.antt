@@ -25,6 +25,7 @@ use Rattle.deck.proofs.LexingLemmas.{IsBreak, word_goes_on, name_begins, word_en
 use Rattle.deck.proofs.KeywordLemmas.{keyword_taken}
 use Rattle.deck.proofs.BranchesRead.{name_alnum, par_token, par_lexed}
 use Rattle.deck.proofs.CallsRead.{no_equals}
+use Rattle.deck.proofs.KnownTokens.{is_known, AreKnown, spell_known, names_known}
 
 -- ---- names with dimensions ----
 
@@ -113,6 +114,11 @@ by_word letters d ds a first readable all =
     let r = names_read letters d ds first readable in
     ap statement_of r.whole
     ∙ word_first (Reads letters d ds a) (letters ++ d.name) d.sizes (spell_others spell_declared t.Comma ds []) all (ap assignment_of (sym r.whole) ∙ r.none) (ap (after_word letters) (sym r.whole) ∙ r.behind_it)
+
+-- all its tokens are known
+pub names_all_known : (letters : List ℕ) (d : Declared) (ds : List Declared) → is_readable_declared d ≡ true → AllByRecursion (λ b. is_readable_declared b ≡ true) ds → AreKnown (lexed (InWord letters) (declared_text d (more_commas declared_text ds [])))
+names_all_known letters d ds first readable =
+    ap (list_all is_known) (names_read letters d ds first readable).whole ∙ spell_known (sized_formula (letters ++ d.name) d.sizes) (spell_others spell_declared t.Comma ds []) (names_known ds [] refl)
 
 specified : (o c r : Option Act) (a : Act) → o ≡ None → c ≡ Some a → or_else o (or_else None (or_else (or_else o None) (or_else None (or_else None (or_else c r))))) ≡ Some a
 specified (Some b) c r a none is = absurd cc

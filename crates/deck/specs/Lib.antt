@@ -6,3 +6,4 @@ pub mod Written
 pub mod Endings
 pub mod Readable
 pub mod ReadableStatements
+pub mod ReadBack

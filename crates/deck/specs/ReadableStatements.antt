@@ -1,9 +1,11 @@
 -- Which statements have a text that is read back: those of the grammar of expressions, with names that are names and numbers
--- in range. READ, WRITE, FORMAT, COMMON, EQUIVALENCE and DATA are not among them yet.
-use Rattle.std.specs.Prelude.{◌≡◌, ℕ, ◌≤◌, ◌<◌, true, List, ◌∷◌, Some, None}
+-- in range. COMMON, EQUIVALENCE and DATA are not among them yet.
+use Rattle.std.specs.Prelude.{◌≡◌, ℕ, ◌≤◌, ◌<◌, true, List, ◌∷◌, length, Some, None}
 use Rattle.std.specs.List.{AllByRecursion}
 use Rattle.f66_tree.specs.declared.declaration.TypeWord.{TypeWord}
-use Rattle.f66_tree.specs.Syntax.{Text, Formula, NoFormula, Par, Declared, Act, Assign, Goto, Computed, Sign, When, Loop, Invoke, Continue, Stop, Return, Typed, Dimension}
+use Rattle.f66_tree.specs.declared.editing.EditKind.TheVariants as edits
+use Rattle.f66_tree.specs.Fields.{Step, Takes, Blanks, Chars, Slash, Fields, NoField, Single, Group}
+use Rattle.f66_tree.specs.Syntax.{Text, Formula, NoFormula, Par, Declared, Entry, One, Many, Entries, NoEntry, AndEntry, Act, Assign, Goto, Computed, Sign, When, Loop, Invoke, Continue, Stop, Return, Read, Write, Format, Typed, Dimension}
 use Rattle.f66_tree.specs.Views.{chained}
 use Rattle.stmt_reader.specs.Exactness.{IsArgument, IsDeclared}
 use Rattle.stmt_reader.specs.Levels.{is_name, stands}
@@ -27,6 +29,21 @@ pub record IsReadableDeclared (d : Declared) : Type 0 where
   pub is_declared : IsDeclared d
   pub readable : is_readable_declared d ≡ true
 
+-- what a READ or WRITE goes over: places, and implied DOs over one entry or more
+abbrev mutual
+  pub IsReadableEntry : Entry → Type 0
+  IsReadableEntry (One e) = (place_if e ≡ Some e) × IsReadable e
+  IsReadableEntry (Many es x a b c) = IsReadableList es × (is_name x ≡ true) × (is_readable_par a ≡ true) × (is_readable_par b ≡ true) × (is_readable_par c ≡ true)
+
+  -- one entry or more
+  pub IsReadableList : Entries → Type 0
+  IsReadableList NoEntry = ⊥
+  IsReadableList (AndEntry e es) = IsReadableEntry e × AreReadableEntries es
+
+  pub AreReadableEntries : Entries → Type 0
+  AreReadableEntries NoEntry = Unit {0}
+  AreReadableEntries (AndEntry e es) = IsReadableEntry e × AreReadableEntries es
+
 -- a statement that a logical IF may hold
 pub data IsReadableBranch : Act → Type 0 where
   assignment : (x e : Formula) → place_if x ≡ Some x → IsReadable x → IsReadable e → IsReadableBranch (Assign x e)
@@ -35,14 +52,31 @@ pub data IsReadableBranch : Act → Type 0 where
   sign : (e : Formula) (l m n : ℕ) → IsReadable e → IsLabelInRange l → IsLabelInRange m → IsLabelInRange n → IsReadableBranch (Sign e l m n)
   bare_call : (x : Text) → is_name x ≡ true → IsReadableBranch (Invoke x NoFormula)
   call : (x : Text) (e : Formula) (es : List Formula) → is_name x ≡ true → IsReadableArgument e → AllByRecursion IsReadableArgument es → IsReadableBranch (Invoke x (chained (e ∷ es)))
+  read : (u : Par) (l : ℕ) (es : Entries) → is_readable_par u ≡ true → IsLabelInRange l → AreReadableEntries es → IsReadableBranch (Read u l es)
+  write : (u : Par) (l : ℕ) (es : Entries) → is_readable_par u ≡ true → IsLabelInRange l → AreReadableEntries es → IsReadableBranch (Write u l es)
   continuation : IsReadableBranch Continue
   stop : IsReadableBranch (Stop None)
   stop_number : (n : ℕ) → n < 32768 → IsReadableBranch (Stop (Some n))
   return : IsReadableBranch Return
 
+-- what the tree of a format keeps: counts and widths up to 65535, a letter's width of one, and no count where the text has none
+abbrev pub IsReadableStep : ℕ → Step → Type 0
+IsReadableStep n (Takes edits.Whole w) = (n ≤ 65535) × (w ≤ 65535)
+IsReadableStep n (Takes edits.Truth w) = (n ≤ 65535) × (w ≤ 65535)
+IsReadableStep n (Takes edits.Letter w) = (n ≤ 65535) × (w ≡ 1)
+IsReadableStep n (Blanks m) = (n ≡ 1) × (m ≤ 65535)
+IsReadableStep n (Chars text) = (n ≡ 1) × (length text ≤ 65535)
+IsReadableStep n Slash = n ≡ 1
+
+abbrev pub AreReadableFields : Fields → Type 0
+AreReadableFields NoField = Unit {0}
+AreReadableFields (Single n s rest) = IsReadableStep n s × AreReadableFields rest
+AreReadableFields (Group n inside rest) = (n ≤ 65535) × AreReadableFields inside × AreReadableFields rest
+
 pub data IsReadableAct : Act → Type 0 where
   branch : (a : Act) → IsReadableBranch a → IsReadableAct a
   conditional : (e : Formula) (a : Act) → IsReadable e → IsReadableBranch a → IsReadableAct (When e a)
   loop : (l : ℕ) (x : Text) (a b c : Par) → IsLabelInRange l → is_name x ≡ true → is_readable_par a ≡ true → is_readable_par b ≡ true → is_readable_par c ≡ true → IsReadableAct (Loop l x a b c)
+  format : (fs : Fields) → AreReadableFields fs → IsReadableAct (Format fs)
   typed : (w : TypeWord) (d : Declared) (ds : List Declared) → IsReadableDeclared d → AllByRecursion IsReadableDeclared ds → IsReadableAct (Typed w (d ∷ ds))
   dimension : (d : Declared) (ds : List Declared) → IsReadableDeclared d → AllByRecursion IsReadableDeclared ds → IsReadableAct (Dimension (d ∷ ds))

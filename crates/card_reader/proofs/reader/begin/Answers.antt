@@ -1,0 +1,7 @@
+-- Nineteen continuations may follow.
+use Rattle.std.proofs.Common.{arith}
+use Rattle.std.proofs.lemmas.Grind.{common_steps}
+use Rattle.card_reader.proofs.reader.begin.Goals as goal
+
+pub returns : goal.returns
+returns c = grind (arith, common_steps)
