@@ -317,8 +317,8 @@ as_stmts _ = NoStmt
 
 -- the clause before those that follow it
 abbrev pub with_clause : Val → EflCases → EflCases
-with_clause (val.statement (part.clause f)) cs = f cs
-with_clause _ cs = AndCase [] false NoStmt nowhere cs
+with_clause (val.statement (part.clause f)) = f
+with_clause _ = AndCase [] false NoStmt nowhere
 
 abbrev pub as_clauses : Val → EflCases
 as_clauses (val.statement (part.clauses x)) = x

@@ -11,9 +11,7 @@ use crate::expressions::into_path;
 use crate::lists::Item;
 use crate::value::{DeclarationValue, TypeValue, Value};
 use crate::words::NOWHERE;
-use efl_tree::{
-    EflBound, EflConst, EflDeclKind, EflGroup, EflName, EflPreset, EflType, EflVar,
-};
+use efl_tree::{EflBound, EflConst, EflDeclKind, EflGroup, EflName, EflPreset, EflType, EflVar};
 use ground::{List, Text};
 use std::alloc::Global;
 
@@ -238,7 +236,10 @@ fn take_bound(part: Value) -> EflBound
         Value::Type(TypeValue::Bound(bound)) => bound,
         other => {
             drop(other);
-            EflBound { low: None, high: None }
+            EflBound {
+                low: None,
+                high: None,
+            }
         }
     }
 }

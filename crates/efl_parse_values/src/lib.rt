@@ -5,6 +5,9 @@ mod counts;
 mod declarations;
 mod expressions;
 mod lists;
+mod procedures;
+mod records;
+mod statements;
 mod value;
 mod words;
 
@@ -17,6 +20,8 @@ pub use expressions::{
     into_expr, into_expr_if_any, into_joins, into_path, into_rest, into_steps, ordered_steps,
 };
 pub use lists::{Item, longer, more_by, no_items, ordered, pop_value, skip};
+pub use records::take_edit;
+pub use statements::{clause, into_lists, into_statement};
 pub use value::{
     CountValue, DeclarationValue, ExpressionValue, Lists, Opening, ProcedureValue, RecordValue,
     Rest, StatementValue, Tail, TypeValue, Value,

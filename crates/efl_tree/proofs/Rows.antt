@@ -117,9 +117,10 @@ switch_kind a list =
 abbrev body_row_of : EflCase → (n : Count) × k.Row_of-EflStmt n
 body_row_of (cases.EflCase' tests fallback n row p) = (_, row)
 
-pub clause_is : (tests : Vec ℤ Global) (fallback : Bool) (body : Vec EflStmt Global) (p : Place) (rest : EflCases) →
-    case_then (cases.roll-EflCase (record { tests = tests; fallback = fallback; body = body; place = p })) rest ≡ AndCase tests.items fallback (stmts_of body.items) p rest
+-- a clause, before whatever follows it
+pub clause_is : (tests : Vec ℤ Global) (fallback : Bool) (body : Vec EflStmt Global) (p : Place) →
+    case_then (cases.roll-EflCase (record { tests = tests; fallback = fallback; body = body; place = p })) ≡ (λ rest. AndCase tests.items fallback (stmts_of body.items) p rest)
 unfolding Rattle.efl_tree.specs.declared.statement.EflKind.TheBlock.hidden-the_row-EflStmt-0 cases.roll-EflCase denote.Hole.Carrier.roll
-clause_is tests fallback body p rest =
+clause_is tests fallback body p =
     let row = body_row_of (cases.roll-EflCase (record { tests = tests; fallback = fallback; body = body; place = p })) in
-    ap (λ ss. AndCase tests.items fallback ss p rest) (row_stmts_are row.0 row.1 ∙ ap stmts_of (k.items_hidden-the_row-EflStmt-0 body))
+    ap (λ ss rest. AndCase tests.items fallback ss p rest) (row_stmts_are row.0 row.1 ∙ ap stmts_of (k.items_hidden-the_row-EflStmt-0 body))
