@@ -1,0 +1,1 @@
+-- The lemmas of efl_parse_statements.

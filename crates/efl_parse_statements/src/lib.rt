@@ -1,0 +1,4 @@
+//! What EFL's statements, records, lists and procedures make of their parts.
+#![tactic(auto)]
+
+pub mod lists;
