@@ -9,6 +9,7 @@ use Rattle.efl_parse.specs.Efl.{grammar}
 
 -- what a whole text gives is a program
 pub whole_again : (ts : List Token) (v : Val) → IsAccepted grammar meter ts v → program (as_program v) ≡ v
+unfolding Rattle.efl_parse.specs.Build.build_lists Rattle.efl_parse.specs.Build.build_procedures
 whole_again ts v accepted =
     let found = (accepted.value v).1 refl in
     ap (λ u. program (as_program u)) (sym found.1) ∙ found.1
