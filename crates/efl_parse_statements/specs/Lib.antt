@@ -1,0 +1,3 @@
+-- The definitions that the contracts of efl_parse_statements cite.
+pub mod Statements
+pub mod Choices

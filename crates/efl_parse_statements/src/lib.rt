@@ -1,0 +1,6 @@
+//! What EFL's statements, records, lists and procedures make of their parts.
+#![tactic(auto)]
+
+pub mod procedures;
+pub mod records;
+pub mod statements;
