@@ -81,7 +81,8 @@ pub fn longer<T: Item>(alloc: Global, first: T, rest: Value) -> Result<Value, Al
 
 /// The list that is the last part, with the part before it in front.
 pub fn more_by<T: Item>(alloc: Global, parts: &mut Vec<Value>) -> Result<Value, AllocError>
-    ensures { IfOk result (λ v. value v ≡ T.listed (T.with_item (at 1 (values parts.old.items)) (T.list_in (at 0 (values parts.old.items))))) }
+    ensures more { IfOk result (λ v. value v ≡ T.listed (T.with_item (at 1 (values parts.old.items)) (T.list_in (at 0 (values parts.old.items))))) }
+    ensures rest { values parts.new.items ≡ others (others (values parts.old.items)) }
 {
     let rest = pop_value(parts);
     let first = T::into_item(alloc, pop_value(parts));
