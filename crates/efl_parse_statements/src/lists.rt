@@ -12,9 +12,7 @@ use efl_parse_values::{
     Item, Lists, Opening, Rest, StatementValue, TypeValue, Value, into_decl, into_lists, into_rest,
     into_statement, into_type, into_word, more_by, ordered, place_of, pop_value, skip, take_place,
 };
-use efl_tree::{
-    EflDecl, EflDeclKind, EflGroup, EflKind, EflName, EflStmt, EflType, EflVar,
-};
+use efl_tree::{EflDecl, EflDeclKind, EflGroup, EflKind, EflName, EflStmt, EflType, EflVar};
 use ground::{Place, Text};
 use std::alloc::{AllocError, Global};
 

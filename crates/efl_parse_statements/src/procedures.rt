@@ -1,5 +1,5 @@
 // What the productions of programs, procedures and headers make.
-ghost use Rattle.std.specs.Prelude.{◌≡◌, None, Some, Option, List, map, reverse, IfOk};
+ghost use Rattle.std.specs.Prelude.{◌≡◌, [], None, Some, reverse, IfOk};
 ghost use Rattle.efl_tree.specs.Views.{decls_of, stmts_of, type_if_any, procedure_of};
 ghost use Rattle.efl_parse_values.specs.Values.{value, values, at, header as header_val, heading as heading_val, procedure as procedure_val, program as program_val};
 ghost use Rattle.efl_parse_values.specs.Parts.{place_in, name_in, type_in, as_names, heading_name, decls_in, body_in, as_procedures};
@@ -134,4 +134,10 @@ pub fn named_heading_by(alloc: Global, parts: &mut Vec<Value>) -> Result<Value, 
     let formals = EflName::into_list(alloc, pop_value(parts));
     let name = into_name(alloc, pop_value(parts));
     Ok(Value::Procedure(ProcedureValue::Heading(Some(name), formals)))
+}
+
+pub fn main_heading(alloc: Global) -> Value
+    ensures { value result ≡ heading_val None [] }
+{
+    Value::Procedure(ProcedureValue::Heading(None, Vec::new(alloc)))
 }

@@ -1,6 +1,7 @@
 // What the productions of `read` and `write` make.
 ghost use Rattle.std.specs.Prelude.{◌≡◌, IfOk};
 ghost use Rattle.efl_tree.specs.Syntax.{Write, Read, Value as Edited, Skip, Chars, Take};
+ghost use Rattle.efl_tree.specs.declared.statement.EflEdit.TheVariants as edits;
 ghost use Rattle.efl_tree.specs.Syntax as efl;
 ghost use Rattle.efl_tree.specs.Views.{write_item_of, read_item_of};
 ghost use Rattle.efl_parse_values.specs.Values.{value, values, at, edit as edit_val, write_item as write_item_val, read_item as read_item_val};
@@ -113,4 +114,10 @@ pub fn width_edit_by(parts: &mut Vec<Value>) -> Result<Value, AllocError>
     let edit = width_edit(&letter, width);
     drop(letter);
     Ok(Value::Record(RecordValue::Edit(edit)))
+}
+
+pub fn char_edit() -> Value
+    ensures { value result ≡ edit_val edits.Letter }
+{
+    Value::Record(RecordValue::Edit(EflEdit::Letter))
 }

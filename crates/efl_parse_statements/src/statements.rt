@@ -329,6 +329,12 @@ pub fn kind_first_by(parts: &mut Vec<Value>) -> Result<Value, AllocError>
     Ok(Value::Count(CountValue::Leaving(count, kind)))
 }
 
+pub fn bare_leaving() -> Value
+    ensures { value result ≡ leaving_val 1 None }
+{
+    Value::Count(CountValue::Leaving(1, None))
+}
+
 pub fn return_by(alloc: Global, parts: &mut Vec<Value>) -> Result<Value, AllocError>
     ensures { IfOk result (λ v. value v ≡ placed (at 2 (values parts.old.items)) (Return (expr_part (at 1 (values parts.old.items))))) }
 {
