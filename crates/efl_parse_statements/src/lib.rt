@@ -2,3 +2,6 @@
 #![tactic(auto)]
 
 pub mod lists;
+pub mod procedures;
+pub mod records;
+pub mod statements;
