@@ -8,6 +8,7 @@ use Rattle.f66_program.specs.Association.{Row, Own, Block, size_in}
 use Rattle.storage_assoc.specs.Indexing.{row_at}
 use Rattle.storage_assoc.specs.Lists.{block_by, row_by}
 use Rattle.storage_assoc.specs.Groups.{dims_by}
+use Rattle.storage_assoc.specs.Tables.{IsTableOf}
 
 abbrev pub IsMemberReady : Routine → Formula → Type 0
 IsMemberReady r (Ref x) = has_places r x ≡ true
@@ -49,3 +50,9 @@ abbrev pub index_by : (Text → Option ℕ) → (Text → Option ℕ) → Row �
 index_by find blocks (Own zero x) = row_by find x
 index_by find blocks (Own (suc u) x) = 0
 index_by find blocks (Block b) = block_by blocks b
+
+-- such a list of a unit that is ready is its table
+abbrev pub ListsServe : Type 0
+ListsServe =
+    (r : Routine) (find blocks : Text → Option ℕ) (dims : Text → Option (List Par)) (sizes : List ℕ) (count : ℕ) (rows : List Row) → IsReady r →
+    AreListed r find blocks dims sizes count rows → IsTableOf r find blocks dims sizes count

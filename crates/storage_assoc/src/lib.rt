@@ -6,6 +6,7 @@ mod association;
 mod blocks;
 mod commons;
 mod equivalences;
+mod laws;
 mod listing;
 mod number;
 mod placed;
@@ -16,4 +17,5 @@ mod walk;
 
 pub use associating::associate;
 pub use association::Association;
+pub use laws::lists_serve;
 pub use units::number_units;
