@@ -1,5 +1,5 @@
 #!/bin/sh
-# How fast the tokens of a text become its tree, in both languages: whether ten times the tokens take at most twelve times as long, and how many
+# How fast the tokens of a text become its tree, in Ratfor: whether ten times the tokens take at most twelve times as long, and how many
 # times as long as gathering alone it takes.
 . "$(dirname "$0")/common.sh"
 wants "$layers"
@@ -15,18 +15,6 @@ blocks_unit() { # 768 conditions of 26 tokens, and `end`
     echo end
 }
 
-efl_sums_unit() { # the same assignments in a procedure
-    echo procedure
-    yes 'total = total + 1' | head -n 3330
-    echo end
-}
-
-efl_blocks_unit() { # 768 conditions of 25 tokens in a procedure
-    echo procedure
-    yes 'if (k > f(i, 2) * 3) { k = -k; s(k) }' | head -n 768
-    echo end
-}
-
 times() { # LANGUAGE SHAPE
     $2_unit >"$work/$2.small"
     for number in 1 2 3 4 5 6 7 8 9 10; do cat "$work/$2.small"; done >"$work/$2.large"
@@ -37,6 +25,4 @@ times() { # LANGUAGE SHAPE
 
 times ratfor sums
 times ratfor blocks
-times efl efl_sums
-times efl efl_blocks
 exit $status

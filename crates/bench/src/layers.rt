@@ -43,7 +43,7 @@ pub fn parsed(rt: &HostRuntime, dialect: Dialect, path: &str) -> Result<usize> {
 fn units_in(alloc: Global, dialect: Dialect, tokens: &List<Token>) -> Result<usize> {
     match dialect {
         Dialect::Ratfor => Ok(rat_parse::parse(alloc, tokens)?.units.len()),
-        Dialect::Efl => Ok(efl_parse::parse(alloc, tokens)?.procedures.len()),
+        Dialect::Efl => bail!("EFL has no tree yet"),
     }
 }
 

@@ -1,3 +1,0 @@
--- The lemmas of efl_parse.
-pub mod WholeLemmas
-pub mod OneTreeLemmas

@@ -1,2 +1,0 @@
--- The lemmas of efl_parse_statements.
-pub mod TreeLemmas
