@@ -4,8 +4,8 @@ use Rattle.std.specs.Prelude.{slice_get}
 use Rattle.front.proofs.Answered.{has_first}
 use Rattle.front.proofs.efl.fault_of.Goals as goal
 
-pub returns-in-Some : goal.returns-in-Some
-returns-in-Some c =
+pub returns : goal.returns
+returns c =
     let first : slice_get c.args.tokens.now.items 0 ≡ Some c.in-Some.token.now = search rules in
     (c.in-Some.token.now, first, search rules)
 
