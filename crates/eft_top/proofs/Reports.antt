@@ -1,5 +1,5 @@
 -- From the report of a run to what came of the command.
-use Rattle.std.proofs.Common.{◌∙◌, ap, sym, ℕ, Bool, true, false, List, [], ◌∷◌, refl}
+use Rattle.std.proofs.Common.{◌≡◌, ◌∙◌, ◌&&◌, if◌then◌else◌, ap, subst, sym, ℕ, Bool, true, false, List, [], ◌∷◌, Option, Some, None, refl}
 use Rattle.std.specs.Prelude.{Result, Ok, Err, IfOk}
 use Rattle.f66_tree.specs.Views.{routine_of}
 use Rattle.front.specs.Checked.{Meaning}
@@ -13,11 +13,16 @@ use Rattle.macro_define.specs.Answers.{Known}
 use Rattle.macro_define.specs.Gathered.{HasCause}
 use Rattle.macro_define.specs.declared.refusal.TextRefusal.{TextRefusal}
 use Rattle.macro_define.specs.declared.refusal.TextRefusal.TheVariants as refusals
+use Rattle.ground.specs.declared.trap.Trap.{Trap}
+use Rattle.f66_tree.specs.World.{End, Ended, GoesOn, Lost, Done, Stopped, Trapped, Wrong}
 use Rattle.eft_top.specs.Words.{Command, Cards}
+use Rattle.eft_top.specs.Causes.{NeedsNoInput}
+use Rattle.eft_top.specs.declared.status.Status.{Status}
+use Rattle.eft_top.specs.declared.status.Status.TheVariants.{Done as IsDone, Stopped as IsStopped, Trapped as IsTrapped, StepLimit, InputFault}
 use Rattle.eft_top.specs.Story.{CameOf, NotFetched, NoMemory, Shows}
 use Rattle.eft_top.specs.declared.report.Report.{Report}
 use Rattle.eft_top.specs.Input.{Got, is_too_long, is_unread, records_of}
-use Rattle.eft_top.specs.Outcome.{Outcome, HasFault, HasLongInput, Runs, RunsIn, RunsOver, IsOutcomeOf}
+use Rattle.eft_top.specs.Outcome.{Outcome, HasFault, HasLongInput, Runs, RunsIn, RunsOver, IsOutcomeOf, is_end_of_input, end_status}
 use Rattle.eft_top.specs.Report.{IsReport, ReportsIn, ReportsOn, ReportsRefusal}
 
 pub if_ok : {T E : Type 0} {P Q : T → Type 0} → ((t : T) → P t → Q t) → (r : Result T E) → IfOk r P → IfOk r Q
@@ -39,6 +44,24 @@ module _ (report : Report) (compiled : Compiled) (meaning : Meaning) (limit : �
 
   pub told_of : ReportsOn report compiled limit got → (o : Outcome) × RunsOver compiled.files.items meaning limit got o × IsReport report o
   told_of reports = told_by (is_too_long got) reports
+
+-- ---- what a run needs ----
+
+same_status : (s t : Status) → Some s ≡ Some t → s ≡ t
+same_status s t e = cc
+
+trapped_needs : (cut : Bool) (trap : Trap) (s : Status) → Some s ≡ Some (if cut then InputFault else IsTrapped trap) → NeedsNoInput s → ⊥
+trapped_needs true trap s e none = subst (λ t. NeedsNoInput t) (same_status s InputFault e) none
+trapped_needs false trap s e none = subst (λ t. NeedsNoInput t) (same_status s (IsTrapped trap) e) none
+
+-- a run has read its input
+pub needs_input : (failed : Bool) (end : End) (s : Status) → Some s ≡ end_status failed end → NeedsNoInput s → ⊥
+needs_input failed (Ended Done) s e none = subst (λ t. NeedsNoInput t) (same_status s IsDone e) none
+needs_input failed (Ended (Stopped n)) s e none = subst (λ t. NeedsNoInput t) (same_status s (IsStopped n) e) none
+needs_input failed (Ended (Trapped trap place)) s e none = trapped_needs (failed && is_end_of_input trap) trap s e none
+needs_input failed (Ended Wrong) s e none = let f : Some s ≡ None = e in cc
+needs_input failed GoesOn s e none = subst (λ t. NeedsNoInput t) (same_status s StepLimit e) none
+needs_input failed Lost s e none = let f : Some s ≡ None = e in cc
 
 -- ---- a refusal ----
 

@@ -7,7 +7,11 @@ use Rattle.unit_walk.specs.Shows.{shown_of}
 use Rattle.eft_top.specs.Input.{Got, got_of}
 use Rattle.eft_top.specs.Outcome.{Runs}
 use Rattle.eft_top.specs.Report.{IsReport, ReportsIn}
+use Rattle.eft_top.proofs.Reports.{needs_input}
 use Rattle.eft_top.proofs.answer.run.Goals as goal
+
+pub returns-clause-needs : goal.returns-clause-needs
+returns-clause-needs c = needs_input c.args.got.failed (shown_of c.in_ok-walked.walked).end c.in_ok-of_run.field-0.status c.in_ok-of_run.ensures.status
 
 pub returns-clause-report : goal.returns-clause-report
 returns-clause-report c =
