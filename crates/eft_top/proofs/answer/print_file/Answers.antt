@@ -11,7 +11,7 @@ use Rattle.eft_top.proofs.Decks.{alone_printable}
 use Rattle.eft_top.proofs.answer.print_file.Goals as goal
 
 pub print_unit-requires : goal.print_unit-requires
-print_unit-requires g c = alone_printable (routine_of c.in-Ok.compiled.unit) c.in-Ok.ensures.text.gives.2.printable
+print_unit-requires g c = record { printable = alone_printable (routine_of c.in-Ok.compiled.unit) c.in-Ok.ensures.text.gives.2.printable }
 
 pub returns-in-Ok-clause-came : goal.returns-in-Ok-clause-came
 returns-in-Ok-clause-came g c =
