@@ -4,10 +4,10 @@ use anyhow::{Result, bail};
 use f66_check::check_unit;
 use free_scan::scan;
 use front::{Compiled, compile_text};
-use ground::{Dialect, Fault, List, Token};
+use ground::{Dialect, Fault};
 use macro_define::{Gathered, TextRefusal, gather};
 use ports::FileLibrary;
-use std::alloc::Global;
+use rat_parse::parse;
 use std::fs;
 
 /// The tokens of the file alone.
@@ -33,17 +33,16 @@ pub fn gathered(rt: &HostRuntime, dialect: Dialect, path: &str) -> Result<usize>
 
 /// The units of the tree.
 pub fn parsed(rt: &HostRuntime, dialect: Dialect, path: &str) -> Result<usize> {
+    if let Dialect::Efl = dialect {
+        bail!("EFL has no tree yet");
+    }
     let mut library = FileLibrary::new(rt);
     match gather(rt.alloc(), dialect, path, &mut library) {
-        Ok(Gathered { tokens, files: _ }) => units_in(rt.alloc(), dialect, &tokens),
+        Ok(Gathered { tokens, files: _ }) => {
+            let program = parse(rt.alloc(), &tokens)?;
+            Ok(program.units.len())
+        }
         Err(refusal) => refused(refusal),
-    }
-}
-
-fn units_in(alloc: Global, dialect: Dialect, tokens: &List<Token>) -> Result<usize> {
-    match dialect {
-        Dialect::Ratfor => Ok(rat_parse::parse(alloc, tokens)?.units.len()),
-        Dialect::Efl => bail!("EFL has no tree yet"),
     }
 }
 
