@@ -1,6 +1,7 @@
 // Units with their first faults, worked out by hand from the rules of FORTRAN.
 
-use crate::reading::{at, name, statement, statements, unit};
+use crate::reading::{at, statement, unit};
+use crate::subprograms::SUBPROGRAMS;
 use crate::units::{EXPRESSIONS, PAIRS, PARTS, STATEMENTS, STORES};
 use f66_check::{check_unit, first_fault};
 use f66_tree::{Header, Unit};
@@ -81,31 +82,8 @@ fn first_faults(rt: HostRuntime) -> Result<(), Fail> {
     expect_all(&rt, rt.alloc(), STATEMENTS)?;
     expect_all(&rt, rt.alloc(), STORES)?;
     expect_all(&rt, rt.alloc(), PAIRS)?;
+    expect_all(&rt, rt.alloc(), SUBPROGRAMS)?;
     expect_all(&rt, rt.alloc(), PARTS)
-}
-
-/// A unit with a header, of which none is built yet.
-fn expect_unbuilt(rt: &impl Abort, alloc: Global, header: Header, text: &str) -> Result<(), Fail> {
-    let statements = statements(alloc, text)?;
-    let unit = Unit {
-        header,
-        statements,
-        place: at(0),
-    };
-    let found = whole_outcome(alloc, unit)?;
-    assert_eq!(rt; found.as_str(), "Unbuilt at 0");
-    Ok(())
-}
-
-#[test]
-fn unbuilt_headers(rt: HostRuntime) -> Result<(), Fail> {
-    let alloc = rt.alloc();
-    let key = name(alloc, "KEY")?;
-    expect_unbuilt(&rt, alloc, Header::Sub(key, Vec::new(alloc)), "RETURN")?;
-    let key = name(alloc, "KEY")?;
-    let function = Header::Func(None, key, Vec::new(alloc));
-    expect_unbuilt(&rt, alloc, function, "SET K, -1; STOP")?;
-    expect_unbuilt(&rt, alloc, Header::Block, "")
 }
 
 /// Units of 20,000 statements, of which the last alone is at fault.

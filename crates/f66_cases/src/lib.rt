@@ -17,6 +17,8 @@ mod records;
 #[cfg(test)]
 mod runs;
 #[cfg(test)]
+mod subprograms;
+#[cfg(test)]
 mod tape;
 #[cfg(test)]
 mod units;

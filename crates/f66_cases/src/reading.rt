@@ -1,6 +1,7 @@
 // Units of FORTRAN, read from text.
 //
-// A unit's statements have `; ` between them, and each stands on the line of its number. A statement is its word and what
+// A unit that is no main has its header in front, with ` : ` behind it: `SUBROUTINE S K`, `FUNCTION J K`, `LOGICAL FUNCTION L K`
+// or `BLOCK`. A unit's statements have `; ` between them, and each stands on the line of its number. A statement is its word and what
 // belongs to it, behind its label and its test; an expression has its operators behind their operands.
 //
 // | Text | Tree |
@@ -32,14 +33,49 @@ pub fn at(line: u32) -> Place {
     Place { file: 0, line }
 }
 
-/// A main unit.
+/// A unit, which is a main where no header is in front.
 pub fn unit(alloc: Global, text: &str) -> Result<Unit, AllocError> {
-    let statements = statements(alloc, text)?;
+    let (header, said) = match text.split_once(" : ") {
+        Some((words, said)) => (header_of(alloc, words)?, said),
+        None => (Header::Main, text),
+    };
+    let statements = statements(alloc, said)?;
     Ok(Unit {
-        header: Header::Main,
+        header,
         statements,
         place: at(0),
     })
+}
+
+fn header_of(alloc: Global, text: &str) -> Result<Header, AllocError> {
+    let (word, rest) = cut(text);
+    match word {
+        "SUBROUTINE" => {
+            let (own, dummies) = cut(rest);
+            let own = name(alloc, own)?;
+            Ok(Header::Sub(own, names(alloc, dummies)?))
+        }
+        "FUNCTION" => function(alloc, None, rest),
+        "INTEGER" => function(alloc, Some(TypeWord::Integer), cut(rest).1),
+        "LOGICAL" => function(alloc, Some(TypeWord::Logical), cut(rest).1),
+        "REAL" => function(alloc, Some(TypeWord::Other), cut(rest).1),
+        _ => Ok(Header::Block),
+    }
+}
+
+fn function(alloc: Global, word: Option<TypeWord>, rest: &str) -> Result<Header, AllocError> {
+    let (own, dummies) = cut(rest);
+    let own = name(alloc, own)?;
+    Ok(Header::Func(word, own, names(alloc, dummies)?))
+}
+
+fn names(alloc: Global, text: &str) -> Result<List<Name>, AllocError> {
+    let mut list = Vec::new(alloc);
+    for word in text.split_whitespace() {
+        let next = name(alloc, word)?;
+        list.push(next)?;
+    }
+    Ok(list)
 }
 
 /// The statements of a unit.

@@ -303,7 +303,7 @@ INTEGER M 40000; STOP | Limit 7 at 1
 STOP; 9 FORMAT 1000I5 | BadFormat at 2
 SET I, 1; READ 5 9 I; 9 FORMAT 2I5; STOP | sound
 READ 5 9 I; STOP | BadLabel at 1
-SET I, -1; SET I, 1; RETURN; RETURN | Unbuilt at 3
+SET I, -1; SET I, 1; RETURN; RETURN | Syntax at 1
 SET I, true; SET IJKLMNO, 1; STOP | TypeClash at 1
 SET I, 1; SET I, 1; INTEGER I; STOP | Syntax at 3
 SET I, 1; 0 INTEGER I; STOP | Syntax at 2
@@ -429,19 +429,11 @@ FORMAT 5X,2(2(0X)); STOP | BadFormat at 1
 FORMAT 1H\x07; STOP | Syntax at 1
 FORMAT 2(0X,1H\x07); STOP | Syntax at 1
 0 FORMAT 0X; STOP | BadLabel at 1
-# Forms that are not built go before all faults of their unit.
-CALL S K; STOP | Unbuilt at 1
-RETURN | Unbuilt at 1
+# Statements that have no rules yet go before all faults of their unit.
 COMMON K; STOP | Unbuilt at 1
 EQUIVALENCE K, J; STOP | Unbuilt at 1
 DATA K, 1; STOP | Unbuilt at 1
-SET K, 1 N@1; STOP | Unbuilt at 1
-SET K, 1 N@1 2 MOD@2; STOP | Unbuilt at 1
-10 SIGN 1 N@1, 10 10 10 | Unbuilt at 1
-IF true ? RETURN; STOP | Unbuilt at 1
-IF true ? SET K, 1 N@1; STOP | Unbuilt at 1
-SET K, -1; 0 SET K, true; RETURN | Unbuilt at 3
-SET K, 1; RETURN; COMMON K, ?, J | Unbuilt at 2
+SET K, -1; 0 SET K, true; RETURN; COMMON K | Unbuilt at 4
 # One statement for each rule of names, and items of READ and WRITE.
 SET I, J 1 +; STOP | sound
 SET I, INDEXES; STOP | NameTooLong at 1
@@ -592,7 +584,7 @@ IF true ? GO 20; STOP | BadLabel at 1 | BadLabel at 1
 WRITE 6 9 K; STOP | BadLabel at 1 | BadLabel at 1
 9 FORMAT 1I133; STOP | BadFormat at 1 | BadFormat at 1
 INTEGER M 32768; STOP | Limit 7 at 1 | Limit 7 at 1
-SET K, -1; RETURN | Unbuilt at 2 | Unbuilt at 2
+SET K, -1; COMMON K | Unbuilt at 2 | Unbuilt at 2
 # The same of the smallest units.
 SET I, 1 | Syntax at 1 | sound
 DO 10 I 1 9 1 | Syntax at 1 | sound
@@ -601,5 +593,5 @@ SET I, 1; INTEGER I | Syntax at 1 | Syntax at 2
 INTEGER I; INTEGER I | Syntax at 0 | DuplicateName at 2
 SET I, 1; 0 STOP | BadLabel at 2 | BadLabel at 2
 GO 10; SET I, 1 | BadLabel at 1 | BadLabel at 1
-SET I, -1; RETURN | Unbuilt at 2 | Unbuilt at 2
+SET I, -1; RETURN | Syntax at 1 | Syntax at 1
 ";

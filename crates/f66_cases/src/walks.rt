@@ -2,7 +2,7 @@
 
 use crate::reading::unit;
 use crate::runs::RUNS;
-use f66_check::{CheckedUnit, check_unit};
+use f66_check::{CheckedUnit, check_unit, unit_to_run};
 use ports::Whole;
 use std::alloc::{AllocError, Global};
 use std::process::Abort;
@@ -41,7 +41,8 @@ fn input_of(alloc: Global, text: &str) -> Result<Whole, AllocError> {
 
 fn sound(alloc: Global, text: &str) -> Result<CheckedUnit, Fail> {
     let unit = unit(alloc, text)?;
-    Ok(check_unit(alloc, unit).ok().ok_or("no sound unit")?)
+    let sound = check_unit(alloc, unit).ok().ok_or("no sound unit")?;
+    Ok(unit_to_run(alloc, sound)?.ok_or("no unit that runs")?)
 }
 
 fn expect(rt: &impl Abort, alloc: Global, row: &str) -> Result<(), Fail> {

@@ -1,6 +1,6 @@
 -- The parts of a unit one after another, and a unit as the tables of its names and of its labels see it.
 use Rattle.std.proofs.Common.{◌≡◌, ◌<◌, ◌≤◌, ◌+◌, ◌-◌, ℕ, zero, suc, Bool, true, false, Option, Some, None, List, [], ◌∷◌, map, length, MatchOption, option_map, refl, ap, sym, ◌∙◌, subst, arith, add-one, inl, inr}
-use Rattle.std.specs.Prelude.{Result, Ok, Err, IfOk, not, if◌then◌else◌}
+use Rattle.std.specs.Prelude.{Result, Ok, Err, IfOk, not, ◌&&◌, is_none, if◌then◌else◌}
 use Rattle.std.specs.declared.alloc.AllocError.{AllocError}
 use Rattle.std.specs.List.{slice_get}
 use Rattle.std.proofs.lemmas.Option.{slice_get-map, slice_get_past}
@@ -27,53 +27,59 @@ use Rattle.f66_flow.proofs.PlaceLemmas.{first_place-map}
 use Rattle.f66_flow.specs.declared.scope.Scope.{Scope}
 use Rattle.f66_flow.specs.FlowRules.{breaks_flow, breaks_flow_at}
 use Rattle.f66_soundness.specs.SoundUnits.{acts_in_unit}
-use Rattle.f66_check.specs.CheckRules.{context_of, breaks_line, breaks_part, breaks_at, unbuilt_line, first_unbuilt}
+use Rattle.f66_check.specs.CheckRules.{context_of, unbuilt_line, first_unbuilt}
+use Rattle.f66_check.specs.UnitChecks.{breaks_statement, breaks_piece, breaks_unit, unjudged_line, first_unjudged}
 use Rattle.f66_check.specs.Answers.{place_at, IsFaultless, IsFirstRule}
+use Rattle.unit_rules.specs.Judged.{is_judged}
 
 -- what the part behind the statements before i breaks is what the statement breaks
 part_at : (w : Scope) (c : Context) (acts : List Act) (all : List Stmt) (i : ℕ) (s : Stmt) → slice_get all i ≡ Some s →
-    breaks_part w c acts (lines_of all) (i + 1) ≡ breaks_line w c acts (lines_of all) i (line_of s)
+    breaks_piece w c acts (lines_of all) (i + 1) ≡ breaks_statement w c acts (lines_of all) i (line_of s)
 part_at w c acts all i s e =
-    ap (breaks_part w c acts (lines_of all)) (add-one i)
-    ∙ ap (λ o. λ k. is_some_and (λ t. breaks_line w c acts (lines_of all) i t k) o) (slice_get-map line_of all i ∙ ap (option_map line_of) e)
+    ap (breaks_piece w c acts (lines_of all)) (add-one i)
+    ∙ ap (λ o. λ k. is_some_and (λ t. breaks_statement w c acts (lines_of all) i t k) o) (slice_get-map line_of all i ∙ ap (option_map line_of) e)
 
 pub statement_first : (w : Scope) (c : Context) (acts : List Act) (all : List Stmt) (i : ℕ) (s : Stmt) (rule : Rule) → slice_get all i ≡ Some s →
-    Some rule ≡ first_rule (breaks_line w c acts (lines_of all) i (line_of s)) →
-    ((j : ℕ) (k : Rule) → j < i + 1 → breaks_part w c acts (lines_of all) j k ≡ false) →
-    IsFirst rule_number (breaks_part w c acts (lines_of all)) (i + 1) rule
+    Some rule ≡ first_rule (breaks_statement w c acts (lines_of all) i (line_of s)) →
+    ((j : ℕ) (k : Rule) → j < i + 1 → breaks_piece w c acts (lines_of all) j k ≡ false) →
+    IsFirst rule_number (breaks_piece w c acts (lines_of all)) (i + 1) rule
 statement_first w c acts all i s rule e found before =
-    part_first (breaks_part w c acts (lines_of all)) (i + 1) rule (found ∙ ap first_rule (sym (part_at w c acts all i s e))) before
+    part_first (breaks_piece w c acts (lines_of all)) (i + 1) rule (found ∙ ap first_rule (sym (part_at w c acts all i s e))) before
 
 pub statement_clean : (w : Scope) (c : Context) (acts : List Act) (all : List Stmt) (i : ℕ) (s : Stmt) → slice_get all i ≡ Some s →
-    None ≡ first_rule (breaks_line w c acts (lines_of all) i (line_of s)) →
-    ((j : ℕ) (k : Rule) → j < i + 1 → breaks_part w c acts (lines_of all) j k ≡ false) →
-    (j : ℕ) (k : Rule) → j < i + 1 + 1 → breaks_part w c acts (lines_of all) j k ≡ false
+    None ≡ first_rule (breaks_statement w c acts (lines_of all) i (line_of s)) →
+    ((j : ℕ) (k : Rule) → j < i + 1 → breaks_piece w c acts (lines_of all) j k ≡ false) →
+    (j : ℕ) (k : Rule) → j < i + 1 + 1 → breaks_piece w c acts (lines_of all) j k ≡ false
 statement_clean w c acts all i s e found before =
-    part_clean (breaks_part w c acts (lines_of all)) (i + 1) (found ∙ ap first_rule (sym (part_at w c acts all i s e))) before
+    part_clean (breaks_piece w c acts (lines_of all)) (i + 1) (found ∙ ap first_rule (sym (part_at w c acts all i s e))) before
+
+-- a header that breaks one
+pub header_first : (breaks : ℕ → Rule → Bool) (rule : Rule) → Some rule ≡ first_rule (breaks 0) → IsFirst rule_number breaks 0 rule
+header_first breaks rule found = part_first breaks 0 rule found (λ j k h. absurd (omega arith))
 
 -- a header that breaks no rule
 pub header_clean : (breaks : ℕ → Rule → Bool) → None ≡ first_rule (breaks 0) → (j : ℕ) (k : Rule) → j < 0 + 1 → breaks j k ≡ false
 header_clean breaks found = part_clean breaks 0 found (λ j k h. absurd (omega arith))
 
 -- there is nothing past the last statement
-past : (w : Scope) (c : Context) (acts : List Act) (all : List Stmt) (i : ℕ) (k : Rule) → length all ≤ i → breaks_part w c acts (lines_of all) (suc i) k ≡ false
+past : (w : Scope) (c : Context) (acts : List Act) (all : List Stmt) (i : ℕ) (k : Rule) → length all ≤ i → breaks_piece w c acts (lines_of all) (suc i) k ≡ false
 past w c acts all i k h =
-    ap (is_some_and (λ s. breaks_line w c acts (lines_of all) i s k)) (slice_get-map line_of all i ∙ ap (option_map line_of) (slice_get_past all i h))
+    ap (is_some_and (λ s. breaks_statement w c acts (lines_of all) i s k)) (slice_get-map line_of all i ∙ ap (option_map line_of) (slice_get_past all i h))
 
 -- a statement that breaks no rule breaks none of order, labels and DO ranges
-flow_clean : (w : Scope) (c : Context) (acts : List Act) (lines : List Line) (j : ℕ) (k : Rule) → breaks_part w c acts lines (suc j) k ≡ false → breaks_flow_at w c.header lines j k ≡ false
+flow_clean : (w : Scope) (c : Context) (acts : List Act) (lines : List Line) (j : ℕ) (k : Rule) → breaks_piece w c acts lines (suc j) k ≡ false → breaks_flow_at w c.header lines j k ≡ false
 flow_clean w c acts lines j k h = by_line (slice_get lines j) h
   where
-    by_line : (o : Option Line) → is_some_and (λ s. breaks_line w c acts lines j s k) o ≡ false → is_some_and (λ s. breaks_flow w c.header lines j s k) o ≡ false
+    by_line : (o : Option Line) → is_some_and (λ s. breaks_statement w c acts lines j s k) o ≡ false → is_some_and (λ s. breaks_flow w c.header lines j s k) o ≡ false
     by_line None e = refl
     by_line (Some s) e = (or_parts (breaks_flow w c.header lines j s k) _ e).0
 
-pub flow_before : (w : Scope) (c : Context) (acts : List Act) (lines : List Line) (i : ℕ) → ((j : ℕ) (k : Rule) → j < i + 1 → breaks_part w c acts lines j k ≡ false) →
+pub flow_before : (w : Scope) (c : Context) (acts : List Act) (lines : List Line) (i : ℕ) → ((j : ℕ) (k : Rule) → j < i + 1 → breaks_piece w c acts lines j k ≡ false) →
     (j : ℕ) (k : Rule) → j < i → breaks_flow_at w c.header lines j k ≡ false
 flow_before w c acts lines i before j k h = flow_clean w c acts lines j k (before (suc j) k (omega arith))
 
 pub all_clean : (w : Scope) (c : Context) (acts : List Act) (all : List Stmt) (n : ℕ) → length all ≤ n →
-    ((j : ℕ) (k : Rule) → j < n + 1 → breaks_part w c acts (lines_of all) j k ≡ false) → IsClean (breaks_part w c acts (lines_of all))
+    ((j : ℕ) (k : Rule) → j < n + 1 → breaks_piece w c acts (lines_of all) j k ≡ false) → IsClean (breaks_piece w c acts (lines_of all))
 all_clean w c acts all n h before zero k = before zero k (omega arith)
 all_clean w c acts all n h before (suc i) k =
     elim (cases_lt i n) [ inl less ↦ before (suc i) k (omega (arith, less)) | inr most ↦ past w c acts all i k (omega (arith, h, most)) ]
@@ -98,45 +104,51 @@ pub unbuilt_told : (c : Context) (unit : Unit) (o : Option ℕ) → c ≡ contex
 unbuilt_told c unit o e h =
     ap (λ d. unbuilt_line d (lines_of unit.statements.items)) (sym e) ∙ first_place-map (λ s. not (is_built c s.act)) line_of unit.statements.items ∙ sym h
 
--- a header that is no main's
-pub other_header : (w : Scope) (u : Routine) → is_main u.header ≡ false → IsFirstRule (first_unbuilt u) w u 0 Unbuilt
-other_header w u e =
-    subst (λ b. IsFirstRule (if b then option_map (λ i. i + 1) (unbuilt_line (context_of u) u.lines) else Some 0) w u 0 Unbuilt) (sym e) (refl, refl)
+-- the first statement that has no rules yet
+pub unjudged_told : (unit : Unit) (o : Option ℕ) → o ≡ first_place (λ s. not (is_judged (act_of s.kind))) unit.statements.items → unjudged_line (lines_of unit.statements.items) ≡ o
+unjudged_told unit o h = first_place-map (λ s. not (is_judged s.act)) line_of unit.statements.items ∙ sym h
 
--- a statement of a main that is not built
-pub unbuilt_at : (w : Scope) (u : Routine) (i : ℕ) → is_main u.header ≡ true → unbuilt_line (context_of u) u.lines ≡ Some i → IsFirstRule (first_unbuilt u) w u (i + 1) Unbuilt
-unbuilt_at w u i e found =
-    subst (λ b. IsFirstRule (if b then option_map (λ n. n + 1) (unbuilt_line (context_of u) u.lines) else Some 0) w u (i + 1) Unbuilt) (sym e)
-    (subst (λ o. IsFirstRule (option_map (λ n. n + 1) o) w u (i + 1) Unbuilt) (sym found) (refl, refl))
+pub unjudged_at : (w : Scope) (u : Routine) (i : ℕ) → unjudged_line u.lines ≡ Some i → IsFirstRule (first_unjudged u) w u (i + 1) Unbuilt
+unjudged_at w u i found = subst (λ o. IsFirstRule (option_map (λ n. n + 1) o) w u (i + 1) Unbuilt) (sym found) (refl, refl)
 
--- a main whose statements are built
-all_built : (u : Routine) → is_main u.header ≡ true → unbuilt_line (context_of u) u.lines ≡ None → first_unbuilt u ≡ None
-all_built u e found = ap (λ b. if b then option_map (λ n. n + 1) (unbuilt_line (context_of u) u.lines) else Some 0) e ∙ ap (option_map (λ n. n + 1)) found
+first_told : (w : Scope) (u : Routine) (o : Option (ℕ × Rule)) → first_unjudged u ≡ None →
+    MatchOption o (IsClean (breaks_unit w u)) (λ r. IsFirst rule_number (breaks_unit w u) r.0 r.1) →
+    MatchOption o (IsFaultless w u) (λ r. IsFirstRule (first_unjudged u) w u r.0 r.1)
+first_told w u None judged told = record { judged = judged; clean = told }
+first_told w u (Some r) judged told = subst (λ m. IsFirstRule m w u r.0 r.1) (sym judged) told
 
-first_told : (w : Scope) (u : Routine) (o : Option (ℕ × Rule)) → first_unbuilt u ≡ None →
-    MatchOption o (IsClean (breaks_at w u)) (λ r. IsFirst rule_number (breaks_at w u) r.0 r.1) →
-    MatchOption o (IsFaultless w u) (λ r. IsFirstRule (first_unbuilt u) w u r.0 r.1)
-first_told w u None built told = record { built = built; clean = told }
-first_told w u (Some r) built told = subst (λ m. IsFirstRule m w u r.0 r.1) (sym built) told
-
--- what the rules tell of a main whose statements are built
-told_of : (w : Scope) (u : Routine) (c : Context) (acts : List Act) (lines : List Line) (o : Option (ℕ × Rule)) → is_main u.header ≡ true →
-    c ≡ context_of u → acts ≡ acts_in_unit u.lines → lines ≡ u.lines → unbuilt_line (context_of u) u.lines ≡ None →
-    MatchOption o (IsClean (breaks_part w c acts lines)) (λ r. IsFirst rule_number (breaks_part w c acts lines) r.0 r.1) →
-    MatchOption o (IsFaultless w u) (λ r. IsFirstRule (first_unbuilt u) w u r.0 r.1)
-told_of w u c acts lines o main same_context same_acts same_lines found told =
-    first_told w u o (all_built u main found)
-    (subst (λ d. MatchOption o (IsClean (breaks_part w d (acts_in_unit u.lines) u.lines)) (λ r. IsFirst rule_number (breaks_part w d (acts_in_unit u.lines) u.lines) r.0 r.1)) same_context
-    (subst (λ xs. MatchOption o (IsClean (breaks_part w c xs u.lines)) (λ r. IsFirst rule_number (breaks_part w c xs u.lines) r.0 r.1)) same_acts
-    (subst (λ ys. MatchOption o (IsClean (breaks_part w c acts ys)) (λ r. IsFirst rule_number (breaks_part w c acts ys) r.0 r.1)) same_lines told)))
+-- what the rules tell of a unit whose statements have rules
+told_of : (w : Scope) (u : Routine) (c : Context) (acts : List Act) (lines : List Line) (o : Option (ℕ × Rule)) →
+    c ≡ context_of u → acts ≡ acts_in_unit u.lines → lines ≡ u.lines → unjudged_line u.lines ≡ None →
+    MatchOption o (IsClean (breaks_piece w c acts lines)) (λ r. IsFirst rule_number (breaks_piece w c acts lines) r.0 r.1) →
+    MatchOption o (IsFaultless w u) (λ r. IsFirstRule (first_unjudged u) w u r.0 r.1)
+told_of w u c acts lines o same_context same_acts same_lines found told =
+    first_told w u o (ap (option_map (λ n. n + 1)) found)
+    (subst (λ d. MatchOption o (IsClean (breaks_piece w d (acts_in_unit u.lines) u.lines)) (λ r. IsFirst rule_number (breaks_piece w d (acts_in_unit u.lines) u.lines) r.0 r.1)) same_context
+    (subst (λ xs. MatchOption o (IsClean (breaks_piece w c xs u.lines)) (λ r. IsFirst rule_number (breaks_piece w c xs u.lines) r.0 r.1)) same_acts
+    (subst (λ ys. MatchOption o (IsClean (breaks_piece w c acts ys)) (λ r. IsFirst rule_number (breaks_piece w c acts ys) r.0 r.1)) same_lines told)))
 
 -- the same of what the rules answer, or of want of memory
-pub told_by : (w : Scope) (u : Routine) (c : Context) (acts : List Act) (lines : List Line) (r : Result (Option (ℕ × Rule)) AllocError) → is_main u.header ≡ true →
-    c ≡ context_of u → acts ≡ acts_in_unit u.lines → lines ≡ u.lines → unbuilt_line (context_of u) u.lines ≡ None →
-    IfOk r (λ o. MatchOption o (IsClean (breaks_part w c acts lines)) (λ p. IsFirst rule_number (breaks_part w c acts lines) p.0 p.1)) →
-    IfOk r (λ o. MatchOption o (IsFaultless w u) (λ p. IsFirstRule (first_unbuilt u) w u p.0 p.1))
-told_by w u c acts lines (Ok o) main same_context same_acts same_lines found told = told_of w u c acts lines o main same_context same_acts same_lines found told
-told_by w u c acts lines (Err e) main same_context same_acts same_lines found told = tt
+pub told_by : (w : Scope) (u : Routine) (c : Context) (acts : List Act) (lines : List Line) (r : Result (Option (ℕ × Rule)) AllocError) →
+    c ≡ context_of u → acts ≡ acts_in_unit u.lines → lines ≡ u.lines → unjudged_line u.lines ≡ None →
+    IfOk r (λ o. MatchOption o (IsClean (breaks_piece w c acts lines)) (λ p. IsFirst rule_number (breaks_piece w c acts lines) p.0 p.1)) →
+    IfOk r (λ o. MatchOption o (IsFaultless w u) (λ p. IsFirstRule (first_unjudged u) w u p.0 p.1))
+told_by w u c acts lines (Ok o) same_context same_acts same_lines found told = told_of w u c acts lines o same_context same_acts same_lines found told
+told_by w u c acts lines (Err e) same_context same_acts same_lines found told = tt
+
+-- ---- units that run ----
+
+-- whether a unit is a main all of whose statements are built
+mapped_none : (o : Option ℕ) → is_none (option_map (λ i. i + 1) o) ≡ is_none o
+mapped_none None = refl
+mapped_none (Some i) = refl
+
+pub built_told : (u : Routine) (b : Bool) (o : Option ℕ) → b ≡ is_main u.header → unbuilt_line (context_of u) u.lines ≡ o → (b && is_none o) ≡ is_none (first_unbuilt u)
+built_told u b o main found = by b ∙ ap (λ m. is_none (if m then option_map (λ i. i + 1) (unbuilt_line (context_of u) u.lines) else Some 0)) main
+  where
+    by : (v : Bool) → (v && is_none o) ≡ is_none (if v then option_map (λ i. i + 1) (unbuilt_line (context_of u) u.lines) else Some 0)
+    by true = sym (mapped_none (unbuilt_line (context_of u) u.lines) ∙ ap is_none found)
+    by false = refl
 
 -- ---- the answers ----
 

@@ -26,13 +26,13 @@ use Rattle.f66_check.specs.SoundRuns.{SoundRunsRightly}
 
 -- ---- what is built ----
 
-main_only : (h : Header) → is_main h ≡ true → h ≡ MainUnit
+pub main_only : (h : Header) → is_main h ≡ true → h ≡ MainUnit
 main_only MainUnit e = refl
 main_only (SubUnit x ds) e = absurd (true≢false (sym e))
 main_only (FuncUnit t x ds) e = absurd (true≢false (sym e))
 main_only DataUnit e = absurd (true≢false (sym e))
 
-built_parts : (b : Bool) (o : Option ℕ) → (if b then option_map (λ i. i + 1) o else Some 0) ≡ None → (b ≡ true) × (o ≡ None)
+pub built_parts : (b : Bool) (o : Option ℕ) → (if b then option_map (λ i. i + 1) o else Some 0) ≡ None → (b ≡ true) × (o ≡ None)
 built_parts true None e = (refl, refl)
 built_parts true (Some i) e = absurd (true≢false (ap is_some e))
 built_parts false o e = absurd (true≢false (ap is_some e))
@@ -46,7 +46,7 @@ not_false : (b : Bool) → not b ≡ false → b ≡ true
 not_false true e = refl
 not_false false e = absurd (true≢false e)
 
-each_built : (c : Context) (lines : List Line) → unbuilt_line c lines ≡ None → (i : ℕ) (a : Act) → slice_get (acts_in_unit lines) i ≡ Some a → is_built c a ≡ true
+pub each_built : (c : Context) (lines : List Line) → unbuilt_line c lines ≡ None → (i : ℕ) (a : Act) → slice_get (acts_in_unit lines) i ≡ Some a → is_built c a ≡ true
 each_built c [] none i a e = absurd (true≢false (sym (ap is_some e)))
 each_built c (s ∷ rest) none zero a e =
     not_false (is_built c a) (subst (λ o. is_some_and (λ b. not (is_built c b)) o ≡ false) e (none_parts (not (is_built c s.act)) (unbuilt_line c rest) none).0)

@@ -14,33 +14,38 @@ use Rattle.f66_tree.specs.Syntax.{Routine}
 use Rattle.f66_flow.specs.declared.scope.Scope.{Scope}
 use Rattle.f66_flow.specs.declared.scope.Scope.TheVariants.{Whole}
 use Rattle.f66_check.specs.CheckRules.{breaks_at, first_unbuilt}
+use Rattle.f66_check.specs.UnitChecks.{breaks_unit, first_unjudged}
 
 -- the place of a unit's header, or of a statement
 abbrev pub place_at : Routine → ℕ → Option Place
 place_at u zero = Some u.place
 place_at u (suc i) = option_map (λ s. s.place) (slice_get u.lines i)
 
--- each part of the unit is built, and none breaks a rule
+-- each part of the unit has its rules, and none breaks one
 pub record IsFaultless (w : Scope) (u : Routine) : Type 0 where
-  pub built : first_unbuilt u ≡ None
-  pub clean : IsClean (breaks_at w u)
+  pub judged : first_unjudged u ≡ None
+  pub clean : IsClean (breaks_unit w u)
 
--- a unit that is compiled
+-- a sound unit of any kind
+abbrev pub IsSoundUnit : Routine → Type 0
+IsSoundUnit u = IsFaultless Whole u
+
+-- a sound main unit all of whose statements are built, which is what is compiled and run so far
 pub record IsSound (u : Routine) : Type 0 where
   pub built : first_unbuilt u ≡ None
   pub clean : IsClean (breaks_at Whole u)
 
--- the first fault of a unit: the first part that is not built, wherever it stands; else that of the rules
+-- the first fault of a unit: the first part without rules, wherever it stands; else that of the rules
 abbrev pub IsFirstRule : Option ℕ → Scope → Routine → ℕ → Rule → Type 0
 IsFirstRule (Some m) w u n r = (n ≡ m) × (r ≡ Unbuilt)
-IsFirstRule None w u n r = IsFirst rule_number (breaks_at w u) n r
+IsFirstRule None w u n r = IsFirst rule_number (breaks_unit w u) n r
 
 -- f is the first fault, and stands at the part with the number n
 pub record IsFirstFault (w : Scope) (u : Routine) (n : ℕ) (f : Fault) : Type 0 where
-  pub first : (r : Rule) × IsFirstRule (first_unbuilt u) w u n r × (f ≡ fault_of f.place r)
+  pub first : (r : Rule) × IsFirstRule (first_unjudged u) w u n r × (f ≡ fault_of f.place r)
   pub place : place_at u n ≡ Some f.place
 
 -- a refusal by a fault is by the first one, of a unit that is not sound
 abbrev pub IsRightRefusal : Routine → Refusal → Type 0
-IsRightRefusal u (AFault f) = ((n : ℕ) × IsFirstFault Whole u n f) × ¬ IsSound u
+IsRightRefusal u (AFault f) = ((n : ℕ) × IsFirstFault Whole u n f) × ¬ IsSoundUnit u
 IsRightRefusal u Memory = ⊤

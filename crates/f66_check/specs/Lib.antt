@@ -1,4 +1,5 @@
 -- The definitions that the contracts of f66_check cite.
 pub mod CheckRules
+pub mod UnitChecks
 pub mod Answers
 pub mod SoundRuns

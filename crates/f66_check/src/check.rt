@@ -1,61 +1,17 @@
-// The checks of a unit.
-ghost use Rattle.std.specs.Prelude.{◌≡◌, ◌≤◌, ◌-◌, ◌^◌, ◌<◌, length, Some, IfOk, IfErr, OnOk, IfSome, IfNone, MatchOption};
+// The units that run so far: sound main units all of whose statements are built.
+ghost use Rattle.std.specs.Prelude.{◌≡◌, ◌&&◌, is_none, is_some, IfOk, IfSome};
 ghost use Rattle.f66_tree.specs.Views.{routine_of};
-ghost use Rattle.f66_flow.specs.declared.scope.Scope.TheVariants.{Part};
 ghost use Rattle.f66_check.specs.CheckRules.{first_unbuilt};
-ghost use Rattle.f66_check.specs.Answers.{IsFaultless, IsSound, IsFirstRule, IsFirstFault, IsRightRefusal, place_at};
-ghost use Rattle.rule_table.specs.FaultRules.{fault_of};
+ghost use Rattle.f66_check.specs.Answers.{IsSound};
 
-use crate::parts::first_broken;
+use crate::SoundUnit;
 use crate::unbuilt::{is_main, sayings_of, unbuilt_statement};
-use f66_flow::{Scope, flow_of};
 use f66_names::names_of;
 use f66_tree::Unit;
-use ground::{Fault, Memory, Place, Refusal};
-use rule_table::Rule;
 use std::alloc::{AllocError, Global};
 use std::marker::Model;
 
-/// The number of the first part of a unit that is at fault, and the rule that it breaks.
-fn first_of(alloc: Global, scope: Scope, unit: &Unit) -> Result<Option<(usize, Rule)>, AllocError>
-    ensures within { IfOk result (λ o. IfSome o (λ r. r.0 ≤ length unit.now.statements.items)) }
-    ensures first { IfOk result (λ o. MatchOption o (IsFaultless scope (routine_of unit.now))
-        (λ r. IsFirstRule (first_unbuilt (routine_of unit.now)) scope (routine_of unit.now) r.0 r.1)) }
-{
-    if !is_main(&unit.header) {
-        return Ok(Some((0, Rule::Unbuilt)));
-    }
-    let sayings = sayings_of(alloc, &unit.statements)?;
-    let names = names_of(alloc, &unit.header, &sayings)?;
-    let unbuilt = unbuilt_statement(alloc, &names, &unit.statements)?;
-    if let Some(i) = unbuilt {
-        return Ok(Some((i + 1, Rule::Unbuilt)));
-    }
-    let flow = flow_of(alloc, &unit.statements)?;
-    first_broken(alloc, scope, &flow, &names)
-}
-
-/// The place of the part with a number.
-fn place_of(unit: &Unit, number: usize) -> Place
-    requires { number ≤ length unit.now.statements.items }
-    ensures { place_at (routine_of unit.now) number ≡ Some result }
-{
-    if number == 0 {
-        return unit.place;
-    }
-    unit.statements[number - 1].place
-}
-
-/// The fault that a rule tells at the part with a number.
-fn fault_at(unit: &Unit, number: usize, rule: Rule) -> Fault
-    requires { number ≤ length unit.now.statements.items }
-    ensures fault { result ≡ fault_of result.place rule }
-    ensures place { place_at (routine_of unit.now) number ≡ Some result.place }
-{
-    rule.fault(place_of(unit, number))
-}
-
-/// A unit in which nothing is at fault. Contracts see it as the unit that it was made of.
+/// A sound main unit all of whose statements are built. Contracts see it as the unit that it was made of.
 #[derive(Drop)]
 pub struct CheckedUnit {
     unit: Unit,
@@ -102,33 +58,33 @@ impl CheckedUnit {
     }
 }
 
-/// The unit, exactly where it is sound (X3.9-1966, sections 3 to 9); else exactly its first fault.
-pub fn check_unit(alloc: Global, unit: Unit) -> Result<CheckedUnit, Refusal>
-    ensures accepted { IfOk result (λ c. c ≡ unit) }
-    ensures sound { OnOk result (IsSound (routine_of unit)) }
-    ensures refused { IfErr result (IsRightRefusal (routine_of unit)) }
+/// Whether a main is there, and no statement that is not built.
+fn is_runnable(main: bool, unbuilt: Option<usize>) -> bool
+    ensures { result ≡ (main && is_none unbuilt) }
 {
-    let Ok(first) = first_of(alloc, Scope::Whole, &unit) else {
-        return Err(Refusal::Memory);
-    };
-    match first {
-        Some((number, rule)) => Err(Refusal::Fault(fault_at(&unit, number, rule))),
-        None => Ok(CheckedUnit::of_sound(unit)),
-    }
+    main && unbuilt.is_none()
 }
 
-/// The number of the first part that is at fault, and the fault, by the rules that do not speak of a unit's end
-/// (X3.9-1966, sections 3 to 9): 0 for the header, and the statements from 1 on.
-pub fn first_fault(alloc: Global, unit: &Unit) -> Result<Option<(u32, Fault)>, Memory>
-    requires { length unit.now.statements.items < 2 ^ 32 }
-    ensures none { IfOk result (λ o. IfNone o (IsFaultless Part (routine_of unit.now))) }
-    ensures first { IfOk result (λ o. IfSome o (λ r. IsFirstFault Part (routine_of unit.now) r.0 r.1)) }
+/// Whether a unit is a main all of whose statements are built.
+fn is_built_main(alloc: Global, unit: &Unit) -> Result<bool, AllocError>
+    ensures { IfOk result (λ b. b ≡ is_none (first_unbuilt (routine_of unit.now))) }
 {
-    let Ok(first) = first_of(alloc, Scope::Part, unit) else {
-        return Err(Memory);
-    };
-    match first {
-        Some((number, rule)) => Ok(Some((number as u32, fault_at(unit, number, rule)))),
-        None => Ok(None),
+    let sayings = sayings_of(alloc, &unit.statements)?;
+    let names = names_of(alloc, &unit.header, &sayings)?;
+    let unbuilt = unbuilt_statement(alloc, &names, &unit.statements)?;
+    let main = is_main(&unit.header);
+    Ok(is_runnable(main, unbuilt))
+}
+
+/// The unit for a run, exactly where it is a main all of whose statements are built.
+pub fn unit_to_run(alloc: Global, sound: SoundUnit) -> Result<Option<CheckedUnit>, AllocError>
+    ensures some { IfOk result (λ o. IfSome o (λ c. c ≡ sound)) }
+    ensures built { IfOk result (λ o. is_some o ≡ is_none (first_unbuilt (routine_of sound))) }
+{
+    let built = is_built_main(alloc, sound.unit())?;
+    let unit = sound.into_unit();
+    if built {
+        return Ok(Some(CheckedUnit::of_sound(unit)));
     }
+    Ok(None)
 }

@@ -7,13 +7,13 @@ ghost use Rattle.f66_tree.specs.Views.{line_of};
 ghost use Rattle.f66_names.specs.DeclarationViews.{context_in, acts_in};
 ghost use Rattle.f66_flow.specs.FlowRules.{breaks_flow_at};
 ghost use Rattle.f66_flow.specs.Under.{lines_under};
-ghost use Rattle.f66_check.specs.CheckRules.{breaks_line, breaks_part};
+ghost use Rattle.f66_check.specs.UnitChecks.{breaks_statement, breaks_piece};
 
-use f66_flow::{Flow, Scope, header_rule};
-use f66_names::Names;
+use f66_flow::{Flow, Scope};
 use f66_tree::Stmt;
 use rule_table::{Rule, lesser};
 use std::alloc::{AllocError, Global};
+use unit_rules::UnitNames;
 
 /// The rule with the smallest number that the statement with the number i breaks, where no earlier one breaks a rule of
 /// order, labels or DO ranges.
@@ -21,17 +21,32 @@ fn broken_rule(
     alloc: Global,
     scope: Scope,
     flow: &Flow,
-    names: &Names,
+    names: &UnitNames,
     i: usize,
     statement: &Stmt,
 ) -> Result<Option<Rule>, AllocError>
     requires within { i < length flow.now.labels.statements.now }
     requires earlier { (j : ℕ) (k : Rule) → j < i → breaks_flow_at scope (context_in names.now.declarations).header (lines_under flow.now) j k ≡ false }
     ensures { IfOk result
-        (λ o. o ≡ first_rule (breaks_line scope (context_in names.now.declarations) (acts_in names.now.declarations) (lines_under flow.now) i (line_of statement.now))) }
+        (λ o. o ≡ first_rule (breaks_statement scope (context_in names.now.declarations) (acts_in names.now.declarations) (lines_under flow.now) i (line_of statement.now))) }
 {
     let by_flow = f66_flow::broken_rule(scope, names.declarations.header, flow, i, statement);
-    let by_name = f66_names::broken_rule(alloc, names, i, &statement.kind)?;
+    let by_name = unit_rules::broken_rule(alloc, names, i, &statement.kind)?;
+    Ok(lesser(by_flow, by_name))
+}
+
+/// The rule with the smallest number that the header breaks.
+fn header_rule(
+    alloc: Global,
+    scope: Scope,
+    flow: &Flow,
+    names: &UnitNames,
+) -> Result<Option<Rule>, AllocError>
+    ensures { IfOk result
+        (λ o. o ≡ first_rule (breaks_piece scope (context_in names.now.declarations) (acts_in names.now.declarations) (lines_under flow.now) 0)) }
+{
+    let by_flow = f66_flow::header_rule(scope, names.declarations.header, flow);
+    let by_name = unit_rules::header_rule(alloc, &names.declarations)?;
     Ok(lesser(by_flow, by_name))
 }
 
@@ -40,14 +55,15 @@ pub fn first_broken(
     alloc: Global,
     scope: Scope,
     flow: &Flow,
-    names: &Names,
+    names: &UnitNames,
 ) -> Result<Option<(usize, Rule)>, AllocError>
     ensures within { IfOk result (λ o. IfSome o (λ r. r.0 ≤ length flow.now.labels.statements.now)) }
     ensures first { IfOk result
-        (λ o. MatchOption o (IsClean (breaks_part scope (context_in names.now.declarations) (acts_in names.now.declarations) (lines_under flow.now)))
-        (λ r. IsFirst rule_number (breaks_part scope (context_in names.now.declarations) (acts_in names.now.declarations) (lines_under flow.now)) r.0 r.1)) }
+        (λ o. MatchOption o (IsClean (breaks_piece scope (context_in names.now.declarations) (acts_in names.now.declarations) (lines_under flow.now)))
+        (λ r. IsFirst rule_number (breaks_piece scope (context_in names.now.declarations) (acts_in names.now.declarations) (lines_under flow.now)) r.0 r.1)) }
 {
-    if let Some(rule) = header_rule(scope, names.declarations.header, flow) {
+    let of_header = header_rule(alloc, scope, flow, names)?;
+    if let Some(rule) = of_header {
         return Ok(Some((0, rule)));
     }
     for (i, statement) in flow.labels.statements.iter().enumerate() {

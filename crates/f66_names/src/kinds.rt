@@ -106,13 +106,14 @@ fn are_integers(declarations: &Declarations, list: &[Expr]) -> bool
 }
 
 /// Whether a name may have values of a type.
-fn may_be(declarations: &Declarations, name: &Name, kind: Kind) -> bool
+pub fn may_be(declarations: &Declarations, name: &Name, kind: Kind) -> bool
     ensures { result ≡ may_be (context_in declarations.now) name.now kind }
 {
     same_kind(kind_of(declarations, name), kind) || is_foreign(declarations, name)
 }
 
-fn same_kind(a: Kind, b: Kind) -> bool
+/// Whether two types are one.
+pub fn same_kind(a: Kind, b: Kind) -> bool
     ensures { result ≡ same_kind a b }
 {
     match (a, b) {
@@ -136,7 +137,8 @@ fn is_arithmetic(operator: Operator) -> bool
     )
 }
 
-fn operand(operator: Operator) -> Kind
+/// The type that an operator asks of its operands (section 6).
+pub fn operand(operator: Operator) -> Kind
     ensures { result ≡ operand operator }
 {
     if is_connective(operator) {
@@ -146,7 +148,8 @@ fn operand(operator: Operator) -> Kind
     }
 }
 
-fn outcome(operator: Operator) -> Kind
+/// The type of what an operator makes.
+pub fn outcome(operator: Operator) -> Kind
     ensures { result ≡ outcome operator }
 {
     if is_arithmetic(operator) {
@@ -215,7 +218,8 @@ fn is_subscript(declarations: &Declarations, e: &Expr) -> bool
     is_number(e) || (is_multiple(declarations, e) || is_shifted(declarations, e))
 }
 
-fn are_subscripts(declarations: &Declarations, list: &[Expr]) -> bool
+/// Whether each has one of the seven forms of a subscript (section 5.1.3.3).
+pub fn are_subscripts(declarations: &Declarations, list: &[Expr]) -> bool
     ensures { result ≡ are_subscripts (context_in declarations.now) (formulas_of list.now) }
 {
     for e in list {
@@ -242,7 +246,7 @@ fn assigns(declarations: &Declarations, target: &Expr, value: &Expr, kind: Kind)
 }
 
 /// Whether a target takes a value of this type, or is none.
-fn takes_kind(declarations: &Declarations, target: &Expr, kind: Kind) -> bool
+pub fn takes_kind(declarations: &Declarations, target: &Expr, kind: Kind) -> bool
     ensures { result ≡ takes_kind (context_in declarations.now) (formula_of target.now) kind }
 {
     match target {

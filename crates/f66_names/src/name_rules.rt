@@ -47,12 +47,14 @@ pub fn has_wrong_count(declarations: &Declarations, kind: &StmtKind, uses: &[Use
     has_wrong_sizes(kind) || has_wrong_use(declarations, uses)
 }
 
-fn is_long(name: &Name) -> bool
+/// Whether a name has more than six characters.
+pub fn is_long(name: &Name) -> bool
     ensures { result ≡ is_long name.now }
 {
     name.as_bytes().len() > 6
 }
 
+/// Whether a name that is used has more than six characters.
 #[tactic(auto, using(rule_table::proofs::WordLemmas::list_any_map))]
 pub fn has_long_use(uses: &[Use]) -> bool
     ensures { result ≡ list_any (λ u. is_long u.name) (map use_of uses.now) }
@@ -81,6 +83,7 @@ fn gives_other(kind: &StmtKind) -> bool
     }
 }
 
+/// Whether a name that is used would be real.
 #[tactic(auto, using(rule_table::proofs::WordLemmas::list_any_map))]
 pub fn has_other_use(declarations: &Declarations, uses: &[Use]) -> bool
     ensures { result ≡ list_any (λ u. is_real_by_letter (context_in declarations.now) u.name) (map use_of uses.now) }
@@ -155,6 +158,7 @@ fn miscounts(declarations: &Declarations, used: &Use) -> bool
     miscounts_by(form_of(declarations, used.name), used.manner)
 }
 
+/// Whether subscripts or arguments are too many or too few.
 #[tactic(auto, using(rule_table::proofs::WordLemmas::list_any_map))]
 pub fn has_wrong_use(declarations: &Declarations, uses: &[Use]) -> bool
     ensures { result ≡ list_any (miscounts (context_in declarations.now)) (map use_of uses.now) }

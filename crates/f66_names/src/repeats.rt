@@ -58,7 +58,10 @@ fn resizes(
 }
 
 /// Notes a name, and says whether it was noted before.
-fn note_repeat<'a>(seen: &mut HashMap<&'a [u8], bool>, name: &'a [u8]) -> Result<bool, AllocError>
+pub fn note_repeat<'a>(
+    seen: &mut HashMap<&'a [u8], bool>,
+    name: &'a [u8],
+) -> Result<bool, AllocError>
     ensures known { IfOk result (λ b. b ≡ is_some (get_by (λ k. bytes_eq name.now k.now) seen.old)) }
     ensures noted { OnOk result
         ((q : List ℕ) → is_some (get_by (λ k. bytes_eq q k.now) seen.new)

@@ -215,7 +215,7 @@ fn are_items(list: &[Entry]) -> bool
 }
 
 /// Whether a card may have this character.
-fn is_printed(c: u8) -> bool
+pub fn is_printed(c: u8) -> bool
     ensures { result ≡ is_printed c }
 {
     b' ' <= c && c <= b'~'

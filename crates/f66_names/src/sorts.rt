@@ -23,6 +23,7 @@ pub fn form_of(declarations: &Declarations, name: &Name) -> NameForm
     }
 }
 
+/// Whether a name is an array.
 pub fn is_array(declarations: &Declarations, name: &Name) -> bool
     ensures { result ≡ is_array_name (context_in declarations.now) name.now }
 {
@@ -46,6 +47,7 @@ fn type_of(declarations: &Declarations, name: &Name) -> TypeWord
     type_or(declarations, name, by_header(declarations.header, name))
 }
 
+/// Whether a type is outside the profile.
 pub fn is_other(word: TypeWord) -> bool
     ensures { result ≡ is_other word }
 {
@@ -66,6 +68,7 @@ pub fn is_real_by_letter(declarations: &Declarations, name: &Name) -> bool
     is_other(type_of(declarations, name)) && !is_foreign(declarations, name)
 }
 
+/// The type of a name's values.
 pub fn kind_of(declarations: &Declarations, name: &Name) -> Kind
     ensures { result ≡ kind_of (context_in declarations.now) name.now }
 {
@@ -75,6 +78,7 @@ pub fn kind_of(declarations: &Declarations, name: &Name) -> Kind
     }
 }
 
+/// Whether a type is INTEGER.
 pub fn is_integer(kind: Kind) -> bool
     ensures { result ≡ is_integer kind }
 {

@@ -153,8 +153,9 @@ fn collect<'a>(e: &'a Expr, uses: &mut Vec<Use<'a>>) -> Result<(), AllocError>
     }
 }
 
+/// Adds the names that a list of expressions uses.
 #[cycle(collect)]
-fn collect_all<'a>(list: &'a [Expr], uses: &mut Vec<Use<'a>>) -> Result<(), AllocError>
+pub fn collect_all<'a>(list: &'a [Expr], uses: &mut Vec<Use<'a>>) -> Result<(), AllocError>
     ensures { OnOk result (map use_of uses.new.items ≡ map use_of uses.old.items ++ uses_of_all (formulas_of list.now)) }
 {
     for e in list {

@@ -12,7 +12,7 @@ use Rattle.f66_tree.specs.Statements.{LoopParameters, loop_turn, item_turns}
 use Rattle.f66_tree.specs.Execution.{Stand, stand, Onward, Progress, fetch, past_end, runnable, no_loops, nowhere, target, exec}
 use Rattle.f66_tree.proofs.Prefixes.{prefix_self, prefix_in}
 use Rattle.f66_tree.proofs.Posts.{IfGives}
-use Rattle.f66_tree.proofs.Related.{same_names, Sides, Frames, Good, Holds, turn_holds}
+use Rattle.f66_tree.proofs.Related.{plainly, same_names, however_used, Sides, Frames, Good, Holds, turn_holds}
 use Rattle.f66_tree.proofs.RelatedRuns.{like_itself, performs}
 use Rattle.f66_tree.proofs.AnyNames.{Any, AnySpot, any_scope, any_act, any_lines, any_fair}
 
@@ -69,6 +69,8 @@ module _ (l : Linkage) (call : ℕ → List Spot → World → Out ⊤) (begin :
     most2 = most;
     tick2 = tick;
     K = λ u. Any;
+    Listed = λ u. Any;
+    Called = λ u. Any;
     Fair = AnySpot;
     At = λ p q. ⊤;
   }
@@ -76,10 +78,11 @@ module _ (l : Linkage) (call : ℕ → List Spot → World → Out ⊤) (begin :
   abbrev pub G : (A : Type 0) → (⊤ → World → Out A) → (World → Out A) → Type 0
   G A m1 m2 = Grows A m2
 
-  pub grows_hold : Holds ⊤ alone G
-  grows_hold = record {
+  pub grows_hold : Holds ⊤ alone G G
+  grows_hold = plainly ⊤ alone G (record {
     scope = any_scope l;
     same = same_names (λ u. Any) AnySpot l;
+    uses = however_used (λ u. Any) l;
     gives = λ a w. prefix_self w.state.tape.written;
     ends = λ e w. prefix_self w.state.tape.written;
     traps = λ t p q at w. prefix_self w.state.tape.written;
@@ -88,9 +91,7 @@ module _ (l : Linkage) (call : ℕ → List Spot → World → Out ⊤) (begin :
     stores = λ f g p fair c w. store_grows l f.there p c w;
     tapes = λ f g h step w. taped_grows f.there (h w.state.tape) w (step.keeps w.state.tape);
     takes = λ f g h step w. took_grows f.there (h w.state.tape) w (step.keeps w.state.tape);
-    ticks = λ h w. h (ticked s w);
-    calls = λ u x v ps used e fair. calls v ps;
-  }
+  }) (λ A m1 m2 h w. h (ticked s w)) (λ u x v ps used e fair. calls v ps)
 
   abbrev both : Frame → Frames
   both f = record { unit = f.unit; actuals = f.actuals; here = f.place; there = f.place }
@@ -99,7 +100,7 @@ module _ (l : Linkage) (call : ℕ → List Spot → World → Out ⊤) (begin :
   fine f = record { places = tt; actuals = any_fair f.actuals }
 
   pub turn_grows : (f : Frames) (x : Text) (k : LoopParameters) → Grows _ (loop_turn s (record { unit = f.unit; actuals = f.actuals; place = f.there }) x k)
-  turn_grows f x k = turn_holds ⊤ alone G grows_hold f (fine f) x tt k
+  turn_grows f x k = turn_holds ⊤ alone G G grows_hold f (fine f) x tt k
 
   pub many_grow : (n : ℕ) (f : Frames) (x : Text) (k : LoopParameters) (body : World → Out ⊤) → Grows ⊤ body → Grows ⊤ (item_turns n s (record { unit = f.unit; actuals = f.actuals; place = f.there }) x k body)
   many_grow zero f x k body h w = prefix_self w.state.tape.written
@@ -119,7 +120,7 @@ module _ (l : Linkage) (call : ℕ → List Spot → World → Out ⊤) (begin :
       ends true = prefix_self w.state.tape.written
       ends false = prefix_self w.state.tape.written
   fetch_grows f code (line ∷ rest) go pr g w =
-      bind_grows w (begin w) _ (begins w) (λ _ w1. performs ⊤ alone G grows_hold (λ f1 ok x used k m1 m2 h. many_grow most f1 x k m2 h)
+      bind_grows w (begin w) _ (begins w) (λ _ w1. performs ⊤ alone G G grows_hold (λ f1 ok x used k m1 m2 h. many_grow most f1 x k m2 h)
       (both (moved_to line.place f)) (fine (both (moved_to line.place f))) code code (like_itself (λ p q. ⊤) (λ p. tt) code) (any_lines code) (λ i. go) go (λ r1 r2 lr ur pr1. g (stand r2 pr1))
       line.label rest rest (like_itself (λ p q. ⊤) (λ p. tt) rest) (any_lines rest) pr line.act (any_act line.act) w1)
 

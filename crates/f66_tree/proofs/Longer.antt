@@ -14,7 +14,7 @@ use Rattle.f66_tree.specs.Execution.{Stand, stand, Onward, Progress, fetch, past
 use Rattle.f66_tree.specs.Laws.{Extends}
 use Rattle.f66_tree.proofs.Prefixes.{prefix_self, prefix_in}
 use Rattle.f66_tree.proofs.Posts.{IfGives}
-use Rattle.f66_tree.proofs.Related.{same_names, Sides, Frames, Good, Holds, turn_holds}
+use Rattle.f66_tree.proofs.Related.{plainly, same_names, however_used, Sides, Frames, Good, Holds, turn_holds}
 use Rattle.f66_tree.proofs.RelatedRuns.{LikeLines, like_itself, like_same, performs}
 use Rattle.f66_tree.proofs.AnyNames.{Any, AnySpot, any_scope, any_act, any_lines, any_fair}
 use Rattle.f66_tree.proofs.Grows.{out_of, Grows, bind_grows, bind_grows_if, alone, G, grows_hold, many_grow, turn_grows, fetch_grows, begin_grows, exec_grows}
@@ -108,6 +108,8 @@ module _ (l : Linkage) (call1 call2 : ℕ → List Spot → World → Out ⊤) (
     most2 = most2;
     tick2 = tick;
     K = λ u. Any;
+    Listed = λ u. Any;
+    Called = λ u. Any;
     Fair = AnySpot;
     At = λ p q. p ≡ q;
   }
@@ -115,30 +117,29 @@ module _ (l : Linkage) (call1 call2 : ℕ → List Spot → World → Out ⊤) (
   abbrev alone2 : Sides ⊤
   alone2 = alone l call2 take_one most2 tick grows2 begin_grows
 
-  grow2 : Holds ⊤ alone2 (G l call2 take_one most2 tick grows2 begin_grows)
+  grow2 : Holds ⊤ alone2 (G l call2 take_one most2 tick grows2 begin_grows) (G l call2 take_one most2 tick grows2 begin_grows)
   grow2 = grows_hold l call2 take_one most2 tick grows2 begin_grows
 
   free : (f : Frames) → Good alone2 f
   free f = record { places = tt; actuals = any_fair f.actuals }
 
-  longer_holds : Holds ⊤ short_and_long L
-  longer_holds = record {
+  longer_holds : Holds ⊤ short_and_long L L
+  longer_holds = plainly ⊤ short_and_long L (record {
     scope = any_scope l;
     same = same_names (λ u. Any) AnySpot l;
-    gives = λ a. record { grows = grow2.gives a; longer = λ s k c le. (omega arith, refl) };
+    uses = however_used (λ u. Any) l;
+    gives = λ a. record { grows = grow2.parts.gives a; longer = λ s k c le. (omega arith, refl) };
     ends = λ f. record { grows = λ w. prefix_self w.state.tape.written; longer = λ s k c le. (omega arith, refl) };
     traps = λ t p q same. record { grows = λ w. prefix_self w.state.tape.written; longer = λ s k c le. trapped t p q same s k c };
     binds = λ {A} {B} {P} {m1} {m2} {g1} {g2} h post k1. record {
       grows = λ w. bind_grows_if P w (m2 w) (λ a w1. g2 a w1) (h.grows w) (post w) (λ a ok. (k1 a ok).grows);
       longer = λ s k c le. bind_longer_if P e k (m1 tt (at s k c)) (m2 (at s (k + e) c)) (λ a w1. g1 a tt w1) (λ a w1. g2 a w1) (h.longer s k c le) (post (at s (k + e) c)) (λ a ok. (k1 a ok).grows) (λ a ok s3 j c3 lj. (k1 a ok).longer s3 j c3 (omega arith));
     };
-    loads = λ f g k p fair. record { grows = grow2.loads f (free f) k p tt; longer = λ s j c le. moved_there f g (λ q. LongerBy e j (settle f.here (asked k (held l p s.store)) (at s j c)) (settle q (asked k (held l p s.store)) (at s (j + e) c))) (settle_longer e j f.here (asked k (held l p s.store)) s c) };
-    stores = λ f g p fair v. record { grows = grow2.stores f (free f) p tt v; longer = λ s j c le. moved_there f g (λ q. LongerBy e j (store_at s1 (here f) p v (at s j c)) (bind (settle q (stored l p v s.store) (at s (j + e) c)) (λ st w1. Gives tt (holding st w1)))) (store_longer l e j f.here p v s c) };
-    tapes = λ f g h step. record { grows = grow2.tapes f (free f) h step; longer = λ s j c le. moved_there f g (λ q. LongerBy e j (taped f.here h (at s j c)) (taped q h (at s (j + e) c))) (taped_longer e j f.here (h s.tape) s c) };
-    takes = λ f g h step. record { grows = grow2.takes f (free f) h step; longer = λ s j c le. moved_there f g (λ q. LongerBy e j (taken_content f.here h (at s j c)) (taken_content q h (at s (j + e) c))) (took_longer e j f.here (h s.tape) s c) };
-    ticks = λ h. record { grows = h.grows; longer = h.longer };
-    calls = λ u x v ps used eq fair. record { grows = grows2 v ps; longer = calls v ps };
-  }
+    loads = λ f g k p fair. record { grows = grow2.parts.loads f (free f) k p tt; longer = λ s j c le. moved_there f g (λ q. LongerBy e j (settle f.here (asked k (held l p s.store)) (at s j c)) (settle q (asked k (held l p s.store)) (at s (j + e) c))) (settle_longer e j f.here (asked k (held l p s.store)) s c) };
+    stores = λ f g p fair v. record { grows = grow2.parts.stores f (free f) p tt v; longer = λ s j c le. moved_there f g (λ q. LongerBy e j (store_at s1 (here f) p v (at s j c)) (bind (settle q (stored l p v s.store) (at s (j + e) c)) (λ st w1. Gives tt (holding st w1)))) (store_longer l e j f.here p v s c) };
+    tapes = λ f g h step. record { grows = grow2.parts.tapes f (free f) h step; longer = λ s j c le. moved_there f g (λ q. LongerBy e j (taped f.here h (at s j c)) (taped q h (at s (j + e) c))) (taped_longer e j f.here (h s.tape) s c) };
+    takes = λ f g h step. record { grows = grow2.parts.takes f (free f) h step; longer = λ s j c le. moved_there f g (λ q. LongerBy e j (taken_content f.here h (at s j c)) (taken_content q h (at s (j + e) c))) (took_longer e j f.here (h s.tape) s c) };
+  }) (λ A m1 m2 h. record { grows = h.grows; longer = h.longer }) (λ u x v ps used eq fair. record { grows = grows2 v ps; longer = calls v ps })
     where
       here : Frames → Frame
       here f = record { unit = f.unit; actuals = f.actuals; place = f.here }
@@ -164,7 +165,7 @@ module _ (l : Linkage) (call1 call2 : ℕ → List Spot → World → Out ⊤) (
       let q : suc k + e ≡ suc (k + e) = omega arith in
       let g3 : Grows ⊤ (item_turns n2 s2 (there f) x lp b2) = many_grow l call2 take_one most2 tick grows2 begin_grows n2 f x lp b2 g in
       let gt : Grows _ (loop_turn s2 (there f) x lp) = turn_grows l call2 take_one most2 tick grows2 begin_grows f x lp in
-      let lt1 = (turn_holds ⊤ short_and_long L longer_holds f good x tt lp).longer in
+      let lt1 = (turn_holds ⊤ short_and_long L L longer_holds f good x tt lp).longer in
       subst (λ v. LongerBy e (suc k) (item_turns (suc n1) s1 (here f) x lp b1 (at s (suc k) c)) (item_turns (suc n2) s2 (there f) x lp b2 (at s v c))) (sym q)
       (weaken e k (suc k) _ _ (omega arith)
       (bind_longer e k (b1 (at s k (c + 1))) (b2 (at s (k + e) (c + 1))) (λ _ w2. bind (loop_turn s1 (here f) x lp w2) (λ on w3. choose on (item_turns n1 s1 (here f) x lp b1 w3) (Gives tt w3))) (λ _ w2. bind (loop_turn s2 (there f) x lp w2) (λ on w3. choose on (item_turns n2 s2 (there f) x lp b2 w3) (Gives tt w3)))
@@ -195,7 +196,7 @@ module _ (l : Linkage) (call1 call2 : ℕ → List Spot → World → Out ⊤) (
   fetch_longer big f code (line ∷ rest) go1 go2 pr g h s (suc k) c le =
       let q : suc k + e ≡ suc (k + e) = omega arith in
       let both : Frames = record { unit = f.unit; actuals = f.actuals; here = line.place; there = line.place } in
-      let r = performs ⊤ short_and_long L longer_holds
+      let r = performs ⊤ short_and_long L L longer_holds
       (λ f1 good x used lp m1 m2 hh. record { grows = many_grow l call2 take_one most2 tick grows2 begin_grows most2 f1 x lp m2 hh.grows; longer = λ s3 k3 c3 l3. many_longer f1 good x lp (m1 tt) m2 hh.grows hh.longer most1 most2 s3 k3 c3 l3 (omega arith) })
       both (record { places = refl; actuals = any_fair f.actuals }) code code (like_itself (λ p q. p ≡ q) (λ p. refl) code) (any_lines code) (λ i. go1) go2
       (λ r1 r2 lr ur pr1. record { grows = g (stand r2 pr1); longer = h r1 r2 lr pr1 }) line.label rest rest (like_itself (λ p q. p ≡ q) (λ p. refl) rest) (any_lines rest) pr line.act (any_act line.act) in

@@ -12,7 +12,7 @@ use Rattle.f66_tree.specs.Statements.{LoopParameters, loop_turn, item_turns}
 use Rattle.f66_tree.specs.Execution.{stand, Progress, perform, fetch, past_end, runnable, no_loops, nowhere, first_state, target, exec, f66}
 use Rattle.f66_tree.specs.Laws.{placeless, shown_placeless, PlacesTellTrapsAlone}
 use Rattle.f66_tree.proofs.Posts.{IfGives}
-use Rattle.f66_tree.proofs.Related.{same_names, Sides, side1, side2, Frames, one, two, Good, Holds, turn_holds}
+use Rattle.f66_tree.proofs.Related.{plainly, same_names, however_used, Sides, side1, side2, Frames, one, two, Good, Holds, turn_holds}
 use Rattle.f66_tree.proofs.RelatedRuns.{LikeLines, like_runnable, performs}
 use Rattle.f66_tree.proofs.AnyNames.{Any, AnySpot, any_scope, any_act, any_lines, any_fair}
 
@@ -80,6 +80,8 @@ module _ (l : Linkage) (call1 call2 : ℕ → List Spot → World → Out ⊤) (
     most2 = most;
     tick2 = tick;
     K = λ u. Any;
+    Listed = λ u. Any;
+    Called = λ u. Any;
     Fair = AnySpot;
     At = λ p q. ⊤;
   }
@@ -87,10 +89,11 @@ module _ (l : Linkage) (call1 call2 : ℕ → List Spot → World → Out ⊤) (
   abbrev pub Al : (A : Type 0) → (⊤ → World → Out A) → (World → Out A) → Type 0
   Al A m1 m2 = (w : World) → Alike (m1 tt w) (m2 w)
 
-  pub alike_holds : Holds ⊤ anywhere Al
-  alike_holds = record {
+  pub alike_holds : Holds ⊤ anywhere Al Al
+  alike_holds = plainly ⊤ anywhere Al (record {
     scope = any_scope l;
     same = same_names (λ u. Any) AnySpot l;
+    uses = however_used (λ u. Any) l;
     gives = λ a w. refl;
     ends = λ {A} e w. alike_end A e w;
     traps = λ t p q at w. (q, refl);
@@ -99,9 +102,7 @@ module _ (l : Linkage) (call1 call2 : ℕ → List Spot → World → Out ⊤) (
     stores = λ f g p fair c w. store_alike l f.here f.there p c w;
     tapes = λ f g h step w. taped_alike f.here f.there (h w.state.tape) w;
     takes = λ f g h step w. took_alike f.here f.there (h w.state.tape) w;
-    ticks = λ h w. h (ticked (side2 anywhere) w);
-    calls = λ u x v ps used e fair. calls v ps;
-  }
+  }) (λ A m1 m2 h w. h (ticked (side2 anywhere) w)) (λ u x v ps used e fair. calls v ps)
 
   pub good : (f : Frames) → Good anywhere f
   good f = record { places = tt; actuals = any_fair f.actuals }
@@ -110,7 +111,7 @@ module _ (l : Linkage) (call1 call2 : ℕ → List Spot → World → Out ⊤) (
   many_alike zero f x k m1 m2 h b w = refl
   many_alike (suc n) f x k m1 m2 h b w =
       bind_alike (λ _. ⊤) (begin w) (begin w) _ _ (b w) (any (begin w)) (λ _ _ w1. bind_alike (λ _. ⊤) (m1 w1) (m2 w1) _ _ (h w1) (any (m2 w1)) (λ _ _ w2.
-      bind_alike (λ _. ⊤) (loop_turn (side1 anywhere tt) (one f) x k w2) (loop_turn (side2 anywhere) (two f) x k w2) _ _ (turn_holds ⊤ anywhere Al alike_holds f (good f) x tt k w2) (any (loop_turn (side2 anywhere) (two f) x k w2))
+      bind_alike (λ _. ⊤) (loop_turn (side1 anywhere tt) (one f) x k w2) (loop_turn (side2 anywhere) (two f) x k w2) _ _ (turn_holds ⊤ anywhere Al Al alike_holds f (good f) x tt k w2) (any (loop_turn (side2 anywhere) (two f) x k w2))
       (λ on _ w3. chosen on w3 (many_alike n f x k m1 m2 h b w3))))
     where
       any : {A : Type 0} (o : Out A) → IfGives (λ (a : A). ⊤) o
@@ -164,7 +165,7 @@ module _ (l : Linkage) (codes : ℕ → List Line) where
           let call2 = (target l bare n (exec l bare n)).call in
           let both : Frames = record { unit = f.unit; actuals = f.actuals; here = a1.place; there = a2.place } in
           let d = anywhere l call1 call2 take_one n (λ c. c) calls in
-          let does_one = performs ⊤ d (Al l call1 call2 take_one n (λ c. c) calls) (alike_holds l call1 call2 take_one n (λ c. c) calls)
+          let does_one = performs ⊤ d (Al l call1 call2 take_one n (λ c. c) calls) (Al l call1 call2 take_one n (λ c. c) calls) (alike_holds l call1 call2 take_one n (λ c. c) calls)
           (λ f1 g1 x used k m1 m2 h. many_alike l call1 call2 take_one n (λ c. c) calls n f1 x k (m1 tt) m2 h begin_alike)
           both (good l call1 call2 take_one n (λ c. c) calls both) (codes f.unit) (bare f.unit) (like_placeless (codes f.unit)) (any_lines (codes f.unit)) (λ i. exec l codes n (one f)) (exec l bare n (two f))
           (λ s1 s2 ls us pr1. go s1 s2 ls pr1) a1.label q1 q2 lq.3 (any_lines q1) pr a1.act (any_act a1.act) in

@@ -15,7 +15,7 @@ use Rattle.f66_tree.specs.Statements.{LoopParameters, loop_turn, taped, taken_co
 use Rattle.f66_tree.specs.Execution.{stand, Progress, fetch, past_end, runnable, no_loops, nowhere, first_state, target, exec}
 use Rattle.f66_tree.specs.Laws.{UnaskedChangeNothing}
 use Rattle.f66_tree.proofs.Posts.{IfGives, post_any}
-use Rattle.f66_tree.proofs.Related.{same_names, Sides, side1, side2, Frames, one, two, Good, Holds, turn_holds}
+use Rattle.f66_tree.proofs.Related.{plainly, same_names, however_used, Sides, side1, side2, Frames, one, two, Good, Holds, turn_holds}
 use Rattle.f66_tree.proofs.RelatedRuns.{like_itself, like_same, performs}
 use Rattle.f66_tree.proofs.AnyNames.{Any, AnySpot, any_scope, any_act, any_lines, any_fair}
 
@@ -99,6 +99,8 @@ module _ (more : List Record) where
       most2 = most;
       tick2 = tick;
       K = λ u. Any;
+      Listed = λ u. Any;
+      Called = λ u. Any;
       Fair = AnySpot;
       At = λ p q. p ≡ q;
     }
@@ -106,10 +108,11 @@ module _ (more : List Record) where
     abbrev pub Sp : (A : Type 0) → (⊤ → World → Out A) → (World → Out A) → Type 0
     Sp A m1 m2 = AllSpare A (m1 tt) m2
 
-    pub spares_hold : Holds ⊤ inputs Sp
-    spares_hold = record {
+    pub spares_hold : Holds ⊤ inputs Sp Sp
+    spares_hold = plainly ⊤ inputs Sp (record {
       scope = any_scope l;
       same = same_names (λ u. Any) AnySpot l;
+      uses = however_used (λ u. Any) l;
       gives = λ a w. refl;
       ends = λ {A} e w. end_spares A e w;
       traps = λ {A} t p q same w. subst (λ v. SparesOut {A = A} (Halts (Ended (Trapped t p)) w) (Halts (Ended (Trapped t v)) (fuller w))) same (trap_spares A t p w);
@@ -118,9 +121,7 @@ module _ (more : List Record) where
       stores = λ f g p fair c w. subst (λ v. SparesOut {A = ⊤} (bind (settle f.here (stored l p c w.state.store) w) (λ st w1. Gives tt (holding st w1))) (bind (settle v (stored l p c w.state.store) (fuller w)) (λ st w1. Gives tt (holding st w1)))) g.places (store_spares l f.here p c w);
       tapes = λ f g h step w. subst (λ v. SparesOut (taped f.here h w) (taped v h (fuller w))) g.places (taped_spares f.here (h w.state.tape) (h (longer more w.state.tape)) w (step.unasked more w.state.tape));
       takes = λ f g h step w. subst (λ v. SparesOut (taken_content f.here h w) (taken_content v h (fuller w))) g.places (took_spares f.here (h w.state.tape) (h (longer more w.state.tape)) w (step.unasked more w.state.tape));
-      ticks = λ h w. h (ticked (side2 inputs) w);
-      calls = λ u x v ps used e fair. calls v ps;
-    }
+    }) (λ A m1 m2 h w. h (ticked (side2 inputs) w)) (λ u x v ps used e fair. calls v ps)
 
     pub good : (f : Frames) → f.here ≡ f.there → Good inputs f
     good f same = record { places = same; actuals = any_fair f.actuals }
@@ -129,7 +130,7 @@ module _ (more : List Record) where
     many_spare zero f g x k m1 m2 h b w = refl
     many_spare (suc n) f g x k m1 m2 h b w =
         bind_spares (λ _. ⊤) (begin w) (begin (fuller w)) _ _ (b w) (post_any (begin (fuller w))) (λ _ _ w1. bind_spares (λ _. ⊤) (m1 w1) (m2 (fuller w1)) _ _ (h w1) (post_any (m2 (fuller w1))) (λ _ _ w2.
-        bind_spares (λ _. ⊤) (loop_turn (side1 inputs tt) (one f) x k w2) (loop_turn (side2 inputs) (two f) x k (fuller w2)) _ _ (turn_holds ⊤ inputs Sp spares_hold f g x tt k w2) (post_any (loop_turn (side2 inputs) (two f) x k (fuller w2)))
+        bind_spares (λ _. ⊤) (loop_turn (side1 inputs tt) (one f) x k w2) (loop_turn (side2 inputs) (two f) x k (fuller w2)) _ _ (turn_holds ⊤ inputs Sp Sp spares_hold f g x tt k w2) (post_any (loop_turn (side2 inputs) (two f) x k (fuller w2)))
         (λ on _ w3. chosen on w3 (many_spare n f g x k m1 m2 h b w3))))
       where
         chosen : (v : Bool) (w3 : World) → SparesOut (item_turns n (side1 inputs tt) (one f) x k m1 w3) (item_turns n (side2 inputs) (two f) x k m2 (fuller w3)) → SparesOut {A = ⊤} (choose v (item_turns n (side1 inputs tt) (one f) x k m1 w3) (Gives tt w3)) (choose v (item_turns n (side2 inputs) (two f) x k m2 (fuller w3)) (Gives tt (fuller w3)))
@@ -160,7 +161,7 @@ module _ (more : List Record) where
             let call = (target l codes n (exec l codes n)).call in
             let both : Frames = record { unit = f.unit; actuals = f.actuals; here = a.place; there = a.place } in
             bind_spares (λ _. ⊤) (take_one w) (take_one (fuller w)) _ _ (begin_spares w) (post_any (take_one (fuller w))) (λ _ _ w1.
-            performs ⊤ (inputs l call call take_one n (λ c. c) calls) (Sp l call call take_one n (λ c. c) calls) (spares_hold l call call take_one n (λ c. c) calls)
+            performs ⊤ (inputs l call call take_one n (λ c. c) calls) (Sp l call call take_one n (λ c. c) calls) (Sp l call call take_one n (λ c. c) calls) (spares_hold l call call take_one n (λ c. c) calls)
             (λ f1 g1 x used k m1 m2 h. many_spare l call call take_one n (λ c. c) calls n f1 g1 x k (m1 tt) m2 h begin_spares)
             both (good l call call take_one n (λ c. c) calls both refl) (codes f.unit) (codes f.unit) (like_itself (λ p q. p ≡ q) (λ p. refl) (codes f.unit)) (any_lines (codes f.unit)) (λ i. exec l codes n f) (exec l codes n f)
             (λ s1 s2 ls us pr1 w2. subst (λ s. SparesOut (exec l codes n f (stand s1 pr1) w2) (exec l codes n f (stand s pr1) (fuller w2))) (like_same s1 s2 ls) (go s1 pr1 w2)) a.label q q (like_itself (λ p q. p ≡ q) (λ p. refl) q) (any_lines q) pr a.act (any_act a.act) w1)

@@ -167,6 +167,15 @@ abbrev pub stop_unless : Bool → Place → List Line
 stop_unless true p = []
 stop_unless false p = unlabelled_line p (Stop None) ∷ []
 
+abbrev pub return_unless : Bool → Place → List Line
+return_unless true p = []
+return_unless false p = unlabelled_line p Return ∷ []
+
+-- what ends a unit, unless its last statement is a transfer: a STOP in a main, and a RETURN in another unit
+abbrev pub end_unless : Bool → Bool → Place → List Line
+end_unless true ends p = stop_unless ends p
+end_unless false ends p = return_unless ends p
+
 -- INTEGER spare
 abbrev pub declared_if : Bool → Place → Text → List Line → List Line
 declared_if true p spare code = unlabelled_line p (Typed Integer (record { name = spare; sizes = [] } ∷ [])) ∷ code

@@ -104,6 +104,8 @@ module _ (l : Linkage) (call1 call2 : ℕ → List Spot → World → Out ⊤) (
     most2 = b2;
     tick2 = tick;
     K = λ u. Any;
+    Listed = λ u. Any;
+    Called = λ u. Any;
     Fair = AnySpot;
     At = λ p q. p ≡ q;
   }
@@ -111,7 +113,7 @@ module _ (l : Linkage) (call1 call2 : ℕ → List Spot → World → Out ⊤) (
   abbrev W : (A : Type 0) → (⊤ → World → Out A) → (World → Out A) → Type 0
   W A m1 m2 = Wide A (m1 tt) m2
 
-  grow2 : Holds ⊤ (alone l call2 begins b2 tick (λ v ps. (calls v ps).grows) (λ w. prefix_self w.state.tape.written)) (G l call2 begins b2 tick (λ v ps. (calls v ps).grows) (λ w. prefix_self w.state.tape.written))
+  grow2 : Holds ⊤ (alone l call2 begins b2 tick (λ v ps. (calls v ps).grows) (λ w. prefix_self w.state.tape.written)) (G l call2 begins b2 tick (λ v ps. (calls v ps).grows) (λ w. prefix_self w.state.tape.written)) (G l call2 begins b2 tick (λ v ps. (calls v ps).grows) (λ w. prefix_self w.state.tape.written))
   grow2 = grows_hold l call2 begins b2 tick (λ v ps. (calls v ps).grows) (λ w. prefix_self w.state.tape.written)
 
   -- the same at two equal places
@@ -121,10 +123,11 @@ module _ (l : Linkage) (call1 call2 : ℕ → List Spot → World → Out ⊤) (
   free : (f : Frames) → Good (alone l call2 begins b2 tick (λ v ps. (calls v ps).grows) (λ w. prefix_self w.state.tape.written)) f
   free f = record { places = tt; actuals = any_fair f.actuals }
 
-  widens_hold : Holds ⊤ bounds W
-  widens_hold = record {
+  widens_hold : Holds ⊤ bounds W W
+  widens_hold = related.plainly ⊤ bounds W (record {
     scope = any_scope l;
     same = related.same_names (λ u. Any) AnySpot l;
+    uses = related.however_used (λ u. Any) l;
     gives = λ a. wide_gives a;
     ends = λ e. wide_halts (Ended e);
     traps = λ t p q same. at_both p q (λ v w. Halts (Ended (Trapped t v)) w) same (λ w. prefix_self w.state.tape.written);
@@ -132,13 +135,11 @@ module _ (l : Linkage) (call1 call2 : ℕ → List Spot → World → Out ⊤) (
       grows = λ w. bind_grows_if P w (m2 w) (λ a w1. g2 a w1) (h.grows w) (post w) (λ a ok. (k a ok).grows);
       widens = λ w. bind_widens P (m1 tt w) (m2 w) (λ a w1. g1 a tt w1) (λ a w1. g2 a w1) (h.widens w) (post w) k;
     };
-    loads = λ f g k p fair. at_both f.here f.there (λ v w. load s2 (record { unit = f.unit; actuals = f.actuals; place = v }) k p w) g.places (grow2.loads f (free f) k p tt);
-    stores = λ f g p fair c. at_both f.here f.there (λ v w. store_at s2 (record { unit = f.unit; actuals = f.actuals; place = v }) p c w) g.places (grow2.stores f (free f) p tt c);
-    tapes = λ f g h step. at_both f.here f.there (λ v w. taped v h w) g.places (grow2.tapes f (free f) h step);
-    takes = λ f g h step. at_both f.here f.there (λ v w. taken_content v h w) g.places (grow2.takes f (free f) h step);
-    ticks = λ h. record { grows = λ w. h.grows (ticked s2 w); widens = λ w. h.widens (ticked s2 w) };
-    calls = λ u x v ps used e fair. calls v ps;
-  }
+    loads = λ f g k p fair. at_both f.here f.there (λ v w. load s2 (record { unit = f.unit; actuals = f.actuals; place = v }) k p w) g.places (grow2.parts.loads f (free f) k p tt);
+    stores = λ f g p fair c. at_both f.here f.there (λ v w. store_at s2 (record { unit = f.unit; actuals = f.actuals; place = v }) p c w) g.places (grow2.parts.stores f (free f) p tt c);
+    tapes = λ f g h step. at_both f.here f.there (λ v w. taped v h w) g.places (grow2.parts.tapes f (free f) h step);
+    takes = λ f g h step. at_both f.here f.there (λ v w. taken_content v h w) g.places (grow2.parts.takes f (free f) h step);
+  }) (λ A m1 m2 h. record { grows = λ w. h.grows (ticked s2 w); widens = λ w. h.widens (ticked s2 w) }) (λ u x v ps used e fair. calls v ps)
 
   bounded : Bounds Wide (b2 - b1)
   bounded = record {

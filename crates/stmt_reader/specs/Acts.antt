@@ -12,6 +12,7 @@ use Rattle.stmt_reader.specs.declared.token.Token.{Token}
 use Rattle.stmt_reader.specs.declared.cutting.Stop.{Stop}
 use Rattle.stmt_reader.specs.declared.cutting.Stop.TheVariants as s
 use Rattle.stmt_reader.specs.Cutting.{Halves, is_equals, is_comma, is_close}
+use Rattle.stmt_reader.specs.Splitting.{is_slash}
 
 abbrev pub act_if : Option StmtKind → Option Act
 act_if None = None
@@ -25,6 +26,7 @@ abbrev pub stops : Stop → Token → Bool
 stops s.Equals = is_equals
 stops s.Close = is_close
 stops s.Comma = is_comma
+stops s.Slash = is_slash
 
 -- what stands before a place and behind it
 abbrev pub halves_at : List Token → Option ℕ → Option Halves

@@ -1,8 +1,9 @@
 -- A main unit by itself: both linkages, where the target's unit may declare the spare name besides.
 use Rattle.std.proofs.Common.{◌≡◌, ◌≢◌, ℕ, zero, suc, ◌+◌, ◌*◌, ◌^◌, ◌<◌, Bool, true, false, List, [], ◌∷◌, Option, Some, None, refl, sym, ap, ◌∙◌, subst, arith}
-use Rattle.std.specs.Prelude.{if◌then◌else◌, ◌||◌, ⊤}
+use Rattle.std.specs.Prelude.{nat_eq, if◌then◌else◌, ◌||◌, ⊤}
 use Rattle.std.specs.Str.{bytes_eq}
 use Rattle.std.proofs.Math.Nat.{pow-zero, pow-suc}
+use Rattle.std.proofs.lemmas.Bool.{eq-eqb, ne_eqb}
 use Rattle.std.proofs.lemmas.Slice.Eq.{bytes_eq-Decides}
 use Rattle.f66_tree.specs.declared.declaration.TypeWord.TheVariants.{Integer}
 use Rattle.f66_tree.specs.Syntax.{Text, Par, Declared, Area, Act, Assign, Goto, Computed, Sign, When, Loop, Invoke, Continue, Stop, Return, Read, Write, Format, Typed, Dimension, Common, Equivalence, Preset, Line}
@@ -13,8 +14,9 @@ use Rattle.f66_tree.proofs.Posts.{IsScope}
 use Rattle.f66_tree.proofs.Related.{SameNames, same_names}
 use Rattle.f66_tree.proofs.AnyNames.{Any, AnySpot, any_scope}
 use Rattle.rat_lower.specs.Checked.{NamesOfSizes, NamesOfAreas, NamesOfNote, NamesOfNotes}
-use Rattle.rat_lower.proofs.Simulation.Spared.{Lowering}
+use Rattle.rat_tree.specs.Syntax.{Commands}
 use Rattle.rat_lower.proofs.Simulation.Parts.{HoldsValue}
+use Rattle.rat_lower.proofs.Simulation.Programs.{Program, entered}
 
 -- ---- different lists have different numbers ----
 
@@ -95,21 +97,21 @@ module _ (K : Text → Type 0) where
 -- ---- a unit with no switch ----
 
 -- the same linkage on both sides; no name has the spare unit
-abbrev pub unspared : (code : List Line) (notes : List Note) → Lowering
-unspared code notes = record {
+abbrev pub unspared : (ss : Commands) (code : List Line) (notes : List Note) → Program
+unspared ss code notes = record {
   target = one_unit notes;
   source = one_unit notes;
-  code = code;
-  unit = 0;
-  spot = 0;
+  codes = λ u. code;
+  bodies = λ u. ss;
+  spare = λ q. false;
+  level = λ q. 0;
+  rank = λ u. 0;
   K = λ u. Any;
   Fair = AnySpot;
   scope = any_scope (one_unit notes);
   same = same_names (λ u. Any) AnySpot (one_unit notes);
   numbers = λ u x o. refl;
-  apart = λ u x o fair. some_number o x;
-  alone = λ u x used. refl;
-  main = refl;
+  apart = λ u x o fair. refl;
 }
 
 -- ---- a unit with a spare name ----
@@ -169,26 +171,27 @@ module _ (spare : Text) (notes : List Note) where
       none_found : {n : ℕ} → None ≡ Some n → ⊥
       none_found e = subst IsThere (sym e) tt
 
-  abbrev pub with_spare : (code : List Line) → NamesOfNotes Other notes → Lowering
-  with_spare code h = record {
+  abbrev pub with_spare : (ss : Commands) (code : List Line) → NamesOfNotes Other notes → Program
+  with_spare ss code h = record {
     target = one_unit (spare_note spare ∷ notes);
     source = one_unit notes;
-    code = code;
-    unit = 0;
-    spot = list_number (0 ∷ spare);
+    codes = λ u. code;
+    bodies = λ u. ss;
+    spare = λ q. nat_eq q (list_number (0 ∷ spare));
+    level = λ q. 0;
+    rank = λ u. 0;
     K = λ u. Other;
     Fair = Clear;
     scope = spared_scope h;
     same = spared_names;
     numbers = λ u x o. refl;
-    apart = λ u x o fair e. fair (ap tail_of (same_list (o ∷ x) (0 ∷ spare) e));
-    alone = λ u x used. refl;
-    main = refl;
+    apart = λ u x o fair. ne_eqb (list_number (o ∷ x)) (list_number (0 ∷ spare)) (λ e. fair (ap tail_of (same_list (o ∷ x) (0 ∷ spare) e)));
   }
 
-  pub holds_value : (code : List Line) (h : NamesOfNotes Other notes) → HoldsValue (with_spare code h) spare
-  holds_value code h = record {
+  pub holds_value : (ss : Commands) (code : List Line) (h : NamesOfNotes Other notes) (u : ℕ) → HoldsValue (entered (with_spare ss code h) u [] tt) spare
+  holds_value ss code h u = record {
     own = refl;
     kind = ap (λ v. kind_by (if v || false then Integer else type_in spare notes (by_letter spare))) itself;
-    number = refl;
+    marked = eq-eqb (list_number (0 ∷ spare)) (list_number (0 ∷ spare)) refl;
+    ranked = refl;
   }

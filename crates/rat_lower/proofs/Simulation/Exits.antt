@@ -1,5 +1,5 @@
 -- No plain statement ends a run as Lost, and it goes to its own labels alone.
-use Rattle.std.proofs.Common.{◌≡◌, ℕ, zero, suc, pos, negsuc, Bool, true, false, List, [], ◌∷◌, Option, Some, None, sym, ◌∙◌, subst}
+use Rattle.std.proofs.Common.{◌≡◌, ℕ, zero, suc, pos, negsuc, Bool, true, false, List, [], ◌∷◌, Option, Some, None}
 use Rattle.std.specs.Prelude.{⊤}
 use Rattle.ground.specs.declared.place.Place.{Place}
 use Rattle.ground.specs.Content.{Content, Nothing, Whole, Truth}
@@ -8,12 +8,13 @@ use Rattle.f66_tree.specs.declared.editing.Way.TheVariants.{Reading, Writing}
 use Rattle.f66_tree.specs.Syntax.{Text, Formula, Par, Entries, Act, Assign, Goto, Computed, Sign, When, Loop, Invoke, Continue, Stop, Return, Read, Write, Format, Typed, Dimension, Common, Equivalence, Preset}
 use Rattle.f66_tree.specs.World.{World, counted, Ended, GoesOn, Lost, Out, Gives, Halts, bind, Try, Yields, Traps, Fails, IfYields, Move, Moves, Breaks, Misses, settle, moving, choose, taping, holding}
 use Rattle.f66_tree.specs.Units.{is_main, Spot, Linkage, Setting, Frame, format_of, around}
-use Rattle.f66_tree.specs.Evaluation.{stored, store_at, par_in, spots_of, ticked, value_of, locate, asks, variable_in, asked, held}
+use Rattle.f66_tree.specs.Evaluation.{AFunction, sort_of, stored, store_at, par_in, spots_of, ticked, value_of, locate, asks, variable_in, asked, held}
 use Rattle.f66_tree.specs.Statements.{Exit, Normal, To, Back, LoopParameters, loop_start, loop_turn, taped, items, item_turns, on_unit, opened_by, record_by, nth, label_at, by_sign_of, returned, invoked, does}
 use Rattle.f66_tree.specs.Records.{closed}
 use Rattle.f66_tree.proofs.Posts.{IfGives, post_any, post_bind, post_settle}
-use Rattle.f66_tree.proofs.Related.{Sides, Frames, two, Good, Holds, same_names, does_holds, asks_hold, value_holds, start_holds, turn_holds}
-use Rattle.f66_tree.proofs.AnyNames.{Any, AnySpot, any_scope, any_names, any_act, any_par, any_fair}
+use Rattle.f66_tree.proofs.Related.{plainly, Sides, Frames, two, Good, Holds, same_names, does_holds, asks_hold, value_holds, start_holds, turn_holds}
+use Rattle.f66_tree.specs.Uses.{Using, NamesBy, NamesOfActBy}
+use Rattle.f66_tree.proofs.AnyNames.{Any, AnySpot, any_scope, any_par, any_fair}
 use Rattle.rat_tree.specs.Syntax.{Commands}
 use Rattle.rat_lower.specs.Checked.{stands_in, AllStandIn, ActLands}
 
@@ -49,8 +50,15 @@ fine_moving p (Moves t) w = tt
 fine_moving p (Breaks e t) w = tt
 fine_moving p Misses w = tt
 
--- a linkage in which nothing can be called
-module _ (l : Linkage) (alone : (x : Text) → l.find x ≡ None) (call : ℕ → List Spot → World → Out ⊤) (most : ℕ) (tick : ℕ → ℕ) where
+-- A linkage, and the units whose calls are not lost.
+module _ (l : Linkage) (call : ℕ → List Spot → World → Out ⊤) (IsFound : ℕ → Type 0) (finds : (v : ℕ) (ps : List Spot) → IsFound v → (w : World) → Fine Whatever (call v ps w)) (most : ℕ) (tick : ℕ → ℕ) where
+  abbrev pub Leads : Text → Type 0
+  Leads x = (v : ℕ) → l.find x ≡ Some v → IsFound v
+
+  -- a name may stand anywhere, but one that is called leads to such units
+  abbrev pub AsCalled : ℕ → Using
+  AsCalled u = record { alone = Any; listed = λ x. sort_of (l.context u) x ≡ AFunction → Leads x; called = Leads }
+
   abbrev pub S : Setting
   S = record { linked = l; call = call; begin = λ w. Gives tt (counted w); most = most; tick = tick }
 
@@ -67,6 +75,8 @@ module _ (l : Linkage) (alone : (x : Text) → l.find x ≡ None) (call : ℕ �
     most2 = most;
     tick2 = tick;
     K = λ u. Any;
+    Listed = λ u x. sort_of (l.context u) x ≡ AFunction → Leads x;
+    Called = λ u. Leads;
     Fair = AnySpot;
     At = λ p q. ⊤;
   }
@@ -78,10 +88,11 @@ module _ (l : Linkage) (alone : (x : Text) → l.find x ≡ None) (call : ℕ �
   stores_fine : (p : Place) (q : Spot) (c : Content) (w : World) → Fine {A = ⊤} Whatever (bind (settle p (stored l q c w.state.store) w) (λ st w1. Gives tt (holding st w1)))
   stores_fine p q c w = fine_bind Whatever Whatever (settle p (stored l q c w.state.store) w) _ (fine_settle p (stored l q c w.state.store) w) (λ a _ w1. tt)
 
-  holds_fine : Holds ⊤ twice N
-  holds_fine = record {
+  holds_fine : Holds ⊤ twice N N
+  holds_fine = plainly ⊤ twice N (record {
     scope = any_scope l;
     same = same_names (λ u. Any) AnySpot l;
+    uses = record { listed = λ u x used. tt; called = λ u x used. tt; function = λ u x used is. used is };
     gives = λ a w. tt;
     ends = λ e w. tt;
     traps = λ t p q same w. tt;
@@ -90,16 +101,7 @@ module _ (l : Linkage) (alone : (x : Text) → l.find x ≡ None) (call : ℕ �
     stores = λ f ok p fair c w. stores_fine f.there p c w;
     tapes = λ f ok h step w. fine_moving f.there (h w.state.tape) w;
     takes = λ f ok h step w. fine_bind Whatever Whatever (settle f.there (h w.state.tape) w) (λ r w1. Gives r.0 (taping r.1 w1)) (fine_settle f.there (h w.state.tape) w) (λ a _ w1. tt);
-    ticks = λ h w. h (ticked S w);
-    calls = λ u x v ps used e fair. absurd (none_found e (alone x));
-  }
-    where
-      none_found : {o : Option ℕ} {n : ℕ} → o ≡ Some n → o ≡ None → ⊥
-      none_found {o} {n} e e1 = subst IsThere (sym e ∙ e1) tt
-        where
-          IsThere : Option ℕ → Type 0
-          IsThere None = ⊥
-          IsThere (Some m) = ⊤
+  }) (λ A m1 m2 h w. h (ticked S w)) (λ u x v ps used e fair. finds v ps (used v e))
 
   abbrev both : Frame → Frames
   both f = record { unit = f.unit; actuals = f.actuals; here = f.place; there = f.place }
@@ -111,26 +113,26 @@ module _ (l : Linkage) (alone : (x : Text) → l.find x ≡ None) (call : ℕ �
   many_fine zero f x k m2 h w = tt
   many_fine (suc n) f x k m2 h w =
       fine_bind Whatever Whatever (m2 (counted w)) _ (h (counted w)) (λ _ _ w2.
-      fine_bind Whatever Whatever (loop_turn S (two f) x k w2) _ (turn_holds ⊤ twice N holds_fine f (free f) x tt k w2) (λ on _ w3. chosen on w3 (many_fine n f x k m2 h w3)))
+      fine_bind Whatever Whatever (loop_turn S (two f) x k w2) _ (turn_holds ⊤ twice N N holds_fine f (free f) x tt k w2) (λ on _ w3. chosen on w3 (many_fine n f x k m2 h w3)))
     where
       chosen : (v : Bool) (w3 : World) → Fine Whatever (item_turns n S (two f) x k m2 w3) → Fine {A = ⊤} Whatever (choose v (item_turns n S (two f) x k m2 w3) (Gives tt w3))
       chosen true w3 g = g
       chosen false w3 g = tt
 
-  pub value_fine : (f : Frame) (e : Formula) (w : World) → Fine Whatever (value_of S f e w)
-  value_fine f e w = value_holds ⊤ twice N holds_fine (both f) (free (both f)) e (any_names e) w
+  pub value_fine : (f : Frame) (e : Formula) → NamesBy (AsCalled f.unit) e → (w : World) → Fine Whatever (value_of S f e w)
+  value_fine f e used w = value_holds ⊤ twice N N holds_fine (both f) (free (both f)) e used w
 
-  pub asks_fine : (f : Frame) (e : Formula) (w : World) → Fine Whatever (asks S f e w)
-  asks_fine f e w = asks_hold ⊤ twice N holds_fine (both f) (free (both f)) e (any_names e) w
+  pub asks_fine : (f : Frame) (e : Formula) → NamesBy (AsCalled f.unit) e → (w : World) → Fine Whatever (asks S f e w)
+  asks_fine f e used w = asks_hold ⊤ twice N N holds_fine (both f) (free (both f)) e used w
 
   pub start_fine : (f : Frame) (x : Text) (a b c : Par) (w : World) → Fine Whatever (loop_start S f x a b c w)
-  start_fine f x a b c w = start_holds ⊤ twice N holds_fine (both f) (free (both f)) x a b c tt (any_par a) (any_par b) (any_par c) w
+  start_fine f x a b c w = start_holds ⊤ twice N N holds_fine (both f) (free (both f)) x a b c tt (any_par a) (any_par b) (any_par c) w
 
   pub turn_fine : (f : Frame) (x : Text) (k : LoopParameters) (w : World) → Fine Whatever (loop_turn S f x k w)
-  turn_fine f x k w = turn_holds ⊤ twice N holds_fine (both f) (free (both f)) x tt k w
+  turn_fine f x k w = turn_holds ⊤ twice N N holds_fine (both f) (free (both f)) x tt k w
 
-  does_not_lose : (f : Frame) (a : Act) (w : World) → Fine Whatever (does S f a w)
-  does_not_lose f a w = does_holds ⊤ twice N holds_fine (λ f1 ok x used k m1 m2 h. many_fine most f1 x k m2 h) (both f) (free (both f)) a (any_act a) w
+  does_not_lose : (f : Frame) (a : Act) → NamesOfActBy (AsCalled f.unit) a → (w : World) → Fine Whatever (does S f a w)
+  does_not_lose f a used w = does_holds ⊤ twice N N holds_fine (λ f1 ok x used k m1 m2 h. many_fine most f1 x k m2 h) (both f) (free (both f)) a used w
 
   -- ---- where a plain statement leads ----
 
@@ -203,5 +205,5 @@ module _ (l : Linkage) (alone : (x : Text) → l.find x ≡ None) (call : ℕ �
     lands f (Equivalence es) w h = tt
     lands f (Preset ps) w h = tt
 
-    pub does_fine : (f : Frame) (a : Act) (w : World) → ActLands lists a → Fine ExitLands (does S f a w)
-    does_fine f a w h = fine_both ExitLands (does S f a w) (does_not_lose f a w) (lands f a w h)
+    pub does_fine : (f : Frame) (a : Act) → NamesOfActBy (AsCalled f.unit) a → (w : World) → ActLands lists a → Fine ExitLands (does S f a w)
+    does_fine f a used w h = fine_both ExitLands (does S f a w) (does_not_lose f a used w) (lands f a w h)

@@ -1,23 +1,23 @@
 -- A list of statements follows, from its start and from each label that stands directly in it, with the jumps within it.
 use Rattle.std.proofs.Common.{◌≡◌, true, false, Bool, ℕ, zero, suc, ◌+◌, ◌*◌, ◌≤◌, List, [], ◌∷◌, length, Some, None, refl, sym, ap, ◌∙◌, subst, arith, true≢false, ⊎_elim, ◌||◌}
-use Rattle.std.specs.Prelude.{if◌then◌else◌, ⊤}
+use Rattle.std.specs.Prelude.{if◌then◌else◌}
 use Rattle.std.proofs.lemmas.Bool.{or_cases}
 use Rattle.ground.specs.declared.place.Place.{Place}
 use Rattle.f66_tree.specs.Syntax.{Text, Line}
-use Rattle.f66_tree.specs.World.{State, World, counted, Ended, GoesOn, Lost, Out, Gives, Halts}
-use Rattle.f66_tree.specs.Units.{is_note, Spot, Setting, Frame}
+use Rattle.f66_tree.specs.World.{State, World, counted, Ended, GoesOn, Lost, Gives, Halts}
+use Rattle.f66_tree.specs.Units.{is_note}
 use Rattle.f66_tree.specs.Execution.{has_label, runnable, from_label, closers}
 use Rattle.rat_tree.specs.Syntax.{Command, Empty, Block, If, IfElse, While, For, Repeat, RepeatUntil, Do, Switch, Break, Next, Return, Plain, Labelled, Commands, NoCommand, AndCommand}
 use Rattle.rat_tree.specs.Meaning.{Went, Jumps, Backs, Leave, Again, Flow, went, then_do, has_own_label, stands, landed, fits_case, meaning, run_from}
-use Rattle.rat_lower.specs.Code.{Rings, here, labels, code_of, all_code}
-use Rattle.rat_lower.proofs.Simulation.Spared.{Lowering, F}
-use Rattle.rat_lower.proofs.Simulation.Follows.{Extra, keeps_self, Part, Comes, comes_on, Run, Follows, first, weaker, then_follows, past_here}
-use Rattle.rat_lower.proofs.Simulation.Counts.{ends, heads, all_heads}
+use Rattle.rat_lower.specs.Code.{Rings, here, labels}
+use Rattle.rat_lower.proofs.Simulation.Spared.{Lowering, code}
+use Rattle.rat_lower.proofs.Simulation.Follows.{Extra, keeps_self, Calls, Part, Comes, comes_on, first, weaker, then_follows, past_here}
+use Rattle.rat_lower.proofs.Simulation.Counts.{ends, all_heads}
 use Rattle.rat_lower.proofs.Simulation.Labels.{AreUnique, Within, within_in, within_code, found, found_line, longer_in, Starts}
 use Rattle.rat_lower.proofs.Simulation.Words.{words}
 use Rattle.rat_lower.proofs.Simulation.Loops.{waits}
 
-module _ (g : Lowering) (b : ℕ) (call : ℕ → List Spot → World → Out ⊤) (made : ℕ → ℕ) (spare : Text) (unique : AreUnique g.code) where
+module _ (g : Lowering) (b : ℕ) (call : Calls g b) (made : ℕ → ℕ) (spare : Text) (unique : AreUnique (code g)) where
   open words g b call made spare use {So, R, Fo, f0, co, cd, acd, Right, AllRight, FromRight}
 
   -- a label's place
@@ -90,7 +90,7 @@ module _ (g : Lowering) (b : ℕ) (call : ℕ → List Spot → World → Out �
 
   -- what stands behind a label
   pub behind : {top m : ℕ} {rest : List Line} (q : ℕ) (p : Place) → Within (here q p ∷ rest) co → closers q co ≡ [] → (ls : Rings) (pr : Extra) (w : World) (x : ℕ) → 1 + x ≤ 32 * w.count → Fo m top ls pr (R (from_label q co) pr) w.state x rest (went w)
-  behind {top} {m} {rest} q p has none_ends ls pr w x le = record { by = (1, le, pr, keeps_self top pr, subst (λ r. Comes (R r pr) w.state (R rest pr) w.state 1) (sym (found q p unique has)) (past_here g p q rest pr w.state none_ends)) }
+  behind {top} {m} {rest} q p has none_ends ls pr w x le = record { by = (1, le, pr, keeps_self g top pr, subst (λ r. Comes (R r pr) w.state (R rest pr) w.state 1) (sym (found q p unique has)) (past_here g p q rest pr w.state none_ends)) }
 
   -- at most two more statements at the end
   pub passing : {top x d : ℕ} {ls : Rings} {pr : Extra} {t : Part} {s : State} {mid next : List Line} (o : Flow) → d ≤ 2 → Fo b top ls pr t s (2 + x) mid o → ((pr1 : Extra) (s1 : State) → Comes (R mid pr1) s1 (R next pr1) s1 d) → Fo b top ls pr t s x next o
@@ -98,7 +98,7 @@ module _ (g : Lowering) (b : ℕ) (call : ℕ → List Spot → World → Out �
   passing (Gives (Leave i) w) few h k = record { by = let a = h.by in (a.0, omega (arith, a.1), a.2, a.3, a.4) }
   passing (Gives (Again i) w) few h k = record { by = let a = h.by in (a.0, omega (arith, a.1), a.2, a.3, a.4) }
   passing (Gives (Jumps i) w) few h k = record { by = let a = h.by in (a.0, omega (arith, a.1), a.2, a.3, a.4, a.5) }
-  passing (Gives Backs w) few h k = record { by = let a = h.by in (a.0, omega (arith, a.1), a.2, a.3) }
+  passing (Gives Backs w) few h k = record { by = let a = h.by in (a.0, omega (arith, a.1), a.2, a.3, a.4) }
   passing (Halts (Ended e) w) few h k = record { by = let a = h.by in (a.0, omega (arith, a.1), a.2, a.3) }
   passing (Halts GoesOn w) few h k = record { by = let a = h.by in (a.0, omega (arith, a.1), a.2, a.3, a.4) }
   passing (Halts Lost w) few h k = record { by = tt }

@@ -1,21 +1,21 @@
 -- Each statement but a list and a switch follows.
 use Rattle.std.proofs.Common.{◌≡◌, true, false, Bool, ℕ, ◌+◌, ◌*◌, ◌≤◌, ◌<◌, List, [], ◌∷◌, length, Option, Some, None, refl, sym, ap, subst, arith, eqb-true}
-use Rattle.std.specs.Prelude.{if◌then◌else◌, nat_eq, ⊤}
+use Rattle.std.specs.Prelude.{if◌then◌else◌, nat_eq}
 use Rattle.ground.specs.declared.place.Place.{Place}
 use Rattle.f66_tree.specs.Syntax.{Text, Act, Loop, Return, Formula, Par, Line, unlabelled_line}
-use Rattle.f66_tree.specs.World.{State, World, counted, Out, bind}
-use Rattle.f66_tree.specs.Units.{Spot, Setting, Frame, moved_to}
-use Rattle.f66_tree.specs.Uses.{Names, NameOfPar, NamesOfAct}
+use Rattle.f66_tree.specs.World.{State, World, counted, bind}
+use Rattle.f66_tree.specs.Units.{moved_to}
+use Rattle.f66_tree.specs.Uses.{NamesBy, NameOfPar, NamesOfActBy}
 use Rattle.f66_tree.specs.Statements.{LoopParameters, loop_start}
 use Rattle.f66_tree.specs.Execution.{Progress, begun, closers}
 use Rattle.rat_tree.specs.Syntax.{Command, If, IfElse, While, For, Repeat, RepeatUntil, Do, Break, Next, Plain, Labelled, Commands}
-use Rattle.rat_tree.specs.Meaning.{Flow, Continuation, went, tested, turns, always, stepped, until, do_turns, pred_of, fits_case, meaning}
-use Rattle.rat_tree.specs.Uses.{NamesIfAny, ActIfAny}
-use Rattle.rat_lower.specs.Code.{Rings, label_behind, label_again, jump, unless, here, with_test, with_act, labels, code_of, all_code}
+use Rattle.rat_tree.specs.Meaning.{Continuation, went, tested, turns, always, stepped, until, do_turns, pred_of, fits_case, meaning}
+use Rattle.rat_tree.specs.Uses.{NamesIfAnyBy, ActIfAnyBy}
+use Rattle.rat_lower.specs.Code.{Rings, label_behind, label_again, jump, unless, here, with_test, with_act, labels}
 use Rattle.rat_lower.specs.Checked.{bit, IsPlain, IsPlainIfAny, IsNothing}
-use Rattle.rat_lower.proofs.Simulation.Spared.{Lowering, spared, F}
+use Rattle.rat_lower.proofs.Simulation.Spared.{Lowering, kept_self, own_rank, spared, code, Own}
 use Rattle.rat_lower.proofs.Simulation.Tracks.{track_start}
-use Rattle.rat_lower.proofs.Simulation.Follows.{Extra, keeps_self, Part, Comes, comes_here, comes_on, one, Raw, Run, Under, Follows, first, bind_follows, past_jump, past_here}
+use Rattle.rat_lower.proofs.Simulation.Follows.{Extra, keeps_self, Calls, Comes, comes_here, comes_on, one, Raw, Under, first, bind_follows, past_jump, past_here}
 use Rattle.rat_lower.proofs.Simulation.Counts.{same_number, ends, heads}
 use Rattle.rat_lower.proofs.Simulation.Labels.{AreUnique, no_closers, one_closer, Within, within_self, within_cons, within_in, within_tail, within_test, within_act, within_code, found, longer_in, starts_code}
 use Rattle.rat_lower.proofs.Simulation.Parts.{unless_follows, plain_follows, labelled_follows, performed_follows}
@@ -24,19 +24,19 @@ use Rattle.rat_lower.proofs.Simulation.Loops.{Closes, always_closes, stepped_clo
 use Rattle.rat_lower.proofs.Simulation.Lists.{behind, passing}
 use Rattle.rat_tree.specs.Syntax as ratfor_tree
 
-module _ (g : Lowering) (b : ℕ) (call : ℕ → List Spot → World → Out ⊤) (made : ℕ → ℕ) (spare : Text) (unique : AreUnique g.code) where
+module _ (g : Lowering) (b : ℕ) (call : Calls g b) (made : ℕ → ℕ) (spare : Text) (unique : AreUnique (code g)) where
   open words g b call made spare use {So, R, Fo, f0, co, cd, Right}
 
-  pub when_right : (p : Place) (e : Formula) (s : Command) → Names (g.K g.unit) e → Right s → Right (If p e s)
+  pub when_right : (p : Place) (e : Formula) (s : Command) → NamesBy (Own g) e → Right s → Right (If p e s)
   when_right p e s used r n ls next has clear top fits_case pr w x le =
       let inner = within_tail _ has in
       let end = within_in (within_code made spare s (n + 1) ls (here (made n) p ∷ next)) inner in
       let no_do : closers (made n) co ≡ [] = no_closers (made n) co (omega (arith, clear (made n), ap bit (same_number (made n)))) in
       unless_follows g b call 4 p e (made n) (counted w) (meaning So f0 b s) went used (omega arith) (omega arith)
-      (λ w1 y ok. passing g b call made spare unique (meaning So f0 b s w1) (omega arith) (r (n + 1) ls (here (made n) p ∷ next) inner (λ q. omega (arith, clear q)) top (omega arith) pr w1 (2 + y) (omega arith)) (λ pr1 s1. past_here g p (made n) next pr1 s1 no_do))
-      (λ w1 y ok. behind g b call made spare unique (made n) p end no_do ls pr w1 (1 + y) (omega arith))
+      (λ pr1 w1 y kp ok. passing g b call made spare unique (meaning So f0 b s w1) (omega arith) (r (n + 1) ls (here (made n) p ∷ next) inner (λ q. omega (arith, clear q)) top (omega arith) pr1 w1 (2 + y) (omega arith)) (λ pr2 s1. past_here g p (made n) next pr2 s1 no_do))
+      (λ pr1 w1 y kp ok. behind g b call made spare unique (made n) p end no_do ls pr1 w1 (1 + y) (omega arith))
 
-  pub either_right : (p : Place) (e : Formula) (s t : Command) → Names (g.K g.unit) e → Right s → Right t → Right (IfElse p e s t)
+  pub either_right : (p : Place) (e : Formula) (s t : Command) → NamesBy (Own g) e → Right s → Right t → Right (IfElse p e s t)
   either_right p e s t used rs rt n ls next has clear top fits_case pr w x le =
       let last = here (made (n + 1)) p ∷ next in
       let second = cd t (n + 2 + labels s) ls last in
@@ -51,14 +51,14 @@ module _ (g : Lowering) (b : ℕ) (call : ℕ → List Spot → World → Out �
       let over : (pr1 : Extra) (s1 : State) → Comes (R mid pr1) s1 (R next pr1) s1 2 = λ pr1 s1.
       comes_on (subst (λ q. Comes (R mid pr1) s1 (R q pr1) s1 1) (found (made (n + 1)) p unique at_last) (past_jump g p (made (n + 1)) (here (made n) p ∷ second) pr1 s1)) (past_here g p (made (n + 1)) next pr1 s1 no_do1) in
       unless_follows g b call 6 p e (made n) (counted w) (meaning So f0 b s) (meaning So f0 b t) used (omega arith) (omega arith)
-      (λ w1 y ok. passing g b call made spare unique (meaning So f0 b s w1) (omega arith) (rs (n + 2) ls mid inner (λ q. omega (arith, clear q)) top (omega arith) pr w1 (2 + y) (omega arith)) over)
-      (λ w1 y ok.
-      let nay = passing g b call made spare unique (meaning So f0 b t w1) (omega arith) (rt (n + 2 + labels s) ls last at_second (λ q. omega (arith, clear q)) top (omega (arith, fits_case, longer_in (within_code made spare s (n + 2) ls mid))) pr w1 (2 + (2 + y)) (omega arith)) (λ pr1 s1. past_here g p (made (n + 1)) next pr1 s1 no_do1) in
-      subst (λ q. Fo b top ls pr (R q pr) w1.state (1 + y) next (meaning So f0 b t w1)) (sym (found (made n) p unique at_else))
-      (first g {j1 = 1} {b1 = b} {x1 = 2 + y} (meaning So f0 b t w1) (keeps_self top pr) (past_here g p (made n) second pr w1.state no_do) (omega arith) (omega arith) (omega arith) nay))
+      (λ pr1 w1 y kp ok. passing g b call made spare unique (meaning So f0 b s w1) (omega arith) (rs (n + 2) ls mid inner (λ q. omega (arith, clear q)) top (omega arith) pr1 w1 (2 + y) (omega arith)) over)
+      (λ pr1 w1 y kp ok.
+      let nay = passing g b call made spare unique (meaning So f0 b t w1) (omega arith) (rt (n + 2 + labels s) ls last at_second (λ q. omega (arith, clear q)) top (omega (arith, fits_case, longer_in (within_code made spare s (n + 2) ls mid))) pr1 w1 (2 + (2 + y)) (omega arith)) (λ pr2 s1. past_here g p (made (n + 1)) next pr2 s1 no_do1) in
+      subst (λ q. Fo b top ls pr1 (R q pr1) w1.state (1 + y) next (meaning So f0 b t w1)) (sym (found (made n) p unique at_else))
+      (first g {j1 = 1} {b1 = b} {x1 = 2 + y} (meaning So f0 b t w1) (keeps_self g top pr1) (past_here g p (made n) second pr1 w1.state no_do) (omega arith) (omega arith) (omega arith) nay))
 
   -- a loop, whose parts stand in their places
-  loop_right : (n : ℕ) (ls : Rings) (p : Place) (o : Option Formula) (s : Command) (mid next : List Line) (bottom : Continuation → Continuation → Continuation) → NamesIfAny (g.K g.unit) o → Right s →
+  loop_right : (n : ℕ) (ls : Rings) (p : Place) (o : Option Formula) (s : Command) (mid next : List Line) (bottom : Continuation → Continuation → Continuation) → NamesIfAnyBy (Own g) o → Right s →
       Within (here (made n) p ∷ with_test p o (made (n + 2)) (cd s (n + 3) ((made (n + 2), made (n + 1)) ∷ ls) (here (made (n + 1)) p ∷ mid))) co →
       Within (here (made (n + 2)) p ∷ next) mid → ((q : ℕ) → ends q co + (bit (nat_eq (made n) q) + bit (nat_eq (made (n + 1)) q) + bit (nat_eq (made (n + 2)) q) + heads made q s (n + 3)) ≤ 1) → (top : ℕ) → length (here (made n) p ∷ with_test p o (made (n + 2)) (cd s (n + 3) ((made (n + 2), made (n + 1)) ∷ ls) (here (made (n + 1)) p ∷ mid))) ≤ top →
       Closes g b call top ls (here (made (n + 1)) p ∷ mid) (here (made n) p ∷ with_test p o (made (n + 2)) (cd s (n + 3) ((made (n + 2), made (n + 1)) ∷ ls) (here (made (n + 1)) p ∷ mid))) next bottom →
@@ -78,7 +78,7 @@ module _ (g : Lowering) (b : ℕ) (call : ℕ → List Spot → World → Out �
       (λ pr1 w1 x1 le1. r (n + 3) ls1 (here (made (n + 1)) p ∷ mid) at_inner (λ q. omega (arith, clear q)) top (omega (arith, fits_case, longer_in in_test)) pr1 w1 x1 le1)
       closes b (omega arith) pr w x le
 
-  pub whilst_right : (p : Place) (e : Formula) (s : Command) → Names (g.K g.unit) e → Right s → Right (While p e s)
+  pub whilst_right : (p : Place) (e : Formula) (s : Command) → NamesBy (Own g) e → Right s → Right (While p e s)
   whilst_right p e s used r n ls next has clear top fits_case pr w x le =
       let out = here (made (n + 2)) p ∷ next in
       let no_do1 : closers (made (n + 1)) co ≡ [] = no_closers (made (n + 1)) co (omega (arith, clear (made (n + 1)), ap bit (same_number (made (n + 1))))) in
@@ -92,7 +92,7 @@ module _ (g : Lowering) (b : ℕ) (call : ℕ → List Spot → World → Out �
       loop_right n ls p None s (jump p (made n) ∷ out) next always tt r has (within_cons _ (within_self out)) clear top fits_case
       (always_closes g b call top ls (made n) (made (n + 1)) p _ next out (found (made n) p unique has) no_do1) pr (counted w) x (omega arith)
 
-  pub until_right : (p : Place) (s : Command) (e : Formula) (q : Place) → Names (g.K g.unit) e → Right s → Right (RepeatUntil p s e q)
+  pub until_right : (p : Place) (s : Command) (e : Formula) (q : Place) → NamesBy (Own g) e → Right s → Right (RepeatUntil p s e q)
   until_right p s e q used r n ls next has clear top fits_case pr w x le =
       let out = here (made (n + 2)) p ∷ next in
       let no_do1 : closers (made (n + 1)) co ≡ [] = no_closers (made (n + 1)) co (omega (arith, clear (made (n + 1)), ap bit (same_number (made (n + 1))))) in
@@ -100,7 +100,7 @@ module _ (g : Lowering) (b : ℕ) (call : ℕ → List Spot → World → Out �
       loop_right n ls p None s (unless q e (made n) ∷ out) next (until So f0 q e) tt r has (within_cons _ (within_self out)) clear top fits_case
       (until_closes g b call top ls (made n) (made (n + 1)) (made (n + 2)) p q e _ next used (found (made n) p unique has) no_do1 no_do2) pr (counted w) x (omega arith)
 
-  pub through_right : (p : Place) (before : Option Act) (o : Option Formula) (step : Option Act) (s : Command) → IsPlainIfAny before → IsPlainIfAny step → ActIfAny (g.K g.unit) before → NamesIfAny (g.K g.unit) o → ActIfAny (g.K g.unit) step → Right s → Right (For p before o step s)
+  pub through_right : (p : Place) (before : Option Act) (o : Option Formula) (step : Option Act) (s : Command) → IsPlainIfAny before → IsPlainIfAny step → ActIfAnyBy (Own g) before → NamesIfAnyBy (Own g) o → ActIfAnyBy (Own g) step → Right s → Right (For p before o step s)
   through_right p before o step s is_before is_step used_before used used_step r n ls next has clear top fits_case pr w x le =
       let out = here (made (n + 2)) p ∷ next in
       let mid = with_act p step (jump p (made n) ∷ out) in
@@ -113,16 +113,16 @@ module _ (g : Lowering) (b : ℕ) (call : ℕ → List Spot → World → Out �
       (stepped_closes g b call top ls (made n) (made (n + 1)) p step head next out is_step used_step (found (made n) p unique at_head) no_do1) pr1 w1 x1 le1)
 
   pub leave_right : (p : Place) (k : ℕ) → Right (Break p k)
-  leave_right p k n ls next has clear top fits_case pr w x le = record { by = (1, omega arith, pr, keeps_self top pr, past_jump g p (label_behind ls (pred_of k)) next pr w.state) }
+  leave_right p k n ls next has clear top fits_case pr w x le = record { by = (1, omega arith, pr, keeps_self g top pr, past_jump g p (label_behind ls (pred_of k)) next pr w.state) }
 
   pub again_right : (p : Place) (k : ℕ) → Right (Next p k)
-  again_right p k n ls next has clear top fits_case pr w x le = record { by = (1, omega arith, pr, keeps_self top pr, past_jump g p (label_again ls (pred_of k)) next pr w.state) }
+  again_right p k n ls next has clear top fits_case pr w x le = record { by = (1, omega arith, pr, keeps_self g top pr, past_jump g p (label_again ls (pred_of k)) next pr w.state) }
 
   pub gives_right : (p : Place) (o : Option Formula) → IsNothing o → Right (ratfor_tree.Return p o)
   gives_right p None is n ls next has clear top fits_case pr w x le = plain_follows g b call None p Return w tt tt refl le
   gives_right p (Some e) is n ls next has clear top fits_case pr w x le = absurd is
 
-  pub plain_right : (m : Option ℕ) (p : Place) (a : Act) → IsPlain a → NamesOfAct (g.K g.unit) a → Right (Plain m p a)
+  pub plain_right : (m : Option ℕ) (p : Place) (a : Act) → IsPlain a → NamesOfActBy (Own g) a → Right (Plain m p a)
   plain_right None p a is used n ls next has clear top fits_case pr w x le = labelled_follows g b call None p a w is used refl le
   plain_right (Some m) p a is used n ls next has clear top fits_case pr w x le =
       labelled_follows g b call (Some m) p a w is used (no_closers m co (omega (arith, clear m, ap bit (same_number m)))) le
@@ -130,7 +130,7 @@ module _ (g : Lowering) (b : ℕ) (call : ℕ → List Spot → World → Out �
   pub marked_right : (m : ℕ) (p : Place) (s : Command) → Right s → Right (Labelled m p s)
   marked_right m p s r n ls next has clear top fits_case pr w x le =
       let no_do : closers m co ≡ [] = no_closers m co (omega (arith, clear m, ap bit (same_number m))) in
-      first g {j1 = 1} {b1 = b} {x1 = 1 + x} (meaning So f0 b s (counted w)) (keeps_self top pr) (past_here g p m (cd s n ls next) pr w.state no_do) (omega arith) (omega arith) (omega arith)
+      first g {j1 = 1} {b1 = b} {x1 = 1 + x} (meaning So f0 b s (counted w)) (keeps_self g top pr) (past_here g p m (cd s n ls next) pr w.state no_do) (omega arith) (omega arith) (omega arith)
       (r n ls next (within_tail _ has) (λ q. omega (arith, clear q)) top (omega arith) pr (counted w) (1 + x) (omega arith))
 
   pub counts_right : (p : Place) (y : Text) (i1 i2 i3 : Par) (s : Command) → g.K g.unit y → NameOfPar (g.K g.unit) i1 → NameOfPar (g.K g.unit) i2 → NameOfPar (g.K g.unit) i3 → Right s → Right (Do p y i1 i2 i3 s)
@@ -144,14 +144,14 @@ module _ (g : Lowering) (b : ℕ) (call : ℕ → List Spot → World → Out �
       let at_out = within_tail _ at_mid in
       let no_do1 : closers (made (n + 1)) co ≡ [] = no_closers (made (n + 1)) co (omega (arith, clear (made (n + 1)), ap bit (same_number (made (n + 1))))) in
       let one_do : closers (made n) co ≡ record { variable = y; inner = inner } ∷ [] = one_closer (made n) p y i1 i2 i3 (omega (arith, clear (made n))) has in
-      first g {j1 = 1} {b1 = b} {x1 = 1 + x} (meaning So f0 b (Do p y i1 i2 i3 s) w) (keeps_self top pr)
-      (one (R (unlabelled_line p (Loop (made n) y i1 i2 i3) ∷ inner) pr) (λ i w1. bind (loop_start (Under g i) (moved_to p f0) y i1 i2 i3 (spared g.spot pr.spare w1)) (λ k w2. Raw g inner (begun (length inner) k pr.loops) i w2)) w.state (λ i j c. refl)) (omega arith) (omega arith) (omega arith)
+      first g {j1 = 1} {b1 = b} {x1 = 1 + x} (meaning So f0 b (Do p y i1 i2 i3 s) w) (keeps_self g top pr)
+      (one (R (unlabelled_line p (Loop (made n) y i1 i2 i3) ∷ inner) pr) (λ i w1. bind (loop_start (Under g i) (moved_to p f0) y i1 i2 i3 (spared g pr.spare w1)) (λ k w2. Raw g inner (begun (length inner) k pr.loops) i w2)) w.state (λ i j c. refl)) (omega arith) (omega arith) (omega arith)
       (bind_follows g 2 (λ i. loop_start (Under g i) (moved_to p f0) y i1 i2 i3) (loop_start So (moved_to p f0) y i1 i2 i3 (counted w)) (λ k i w2. Raw g inner (begun (length inner) k pr.loops) i w2) (λ k w1. do_turns So f0 b p y k (meaning So f0 b s) w1)
-      (track_start g b (λ n. n + 1) (λ n. omega arith) (λ i. (Under g i).call) call p y i1 i2 i3 used u1 u2 u3 pr.spare (counted w) (2 + (1 + x)) (omega arith))
-      (λ k w1 x1 ok.
-      let pr1 : Extra = record { loops = begun (length inner) k pr.loops; spare = pr.spare } in
+      (track_start g b (λ n. n + 1) (λ n. omega arith) (λ i. (Under g i).call) call.does call.track p y i1 i2 i3 used u1 u2 u3 pr.spare (counted w) (2 + (1 + x)) (omega arith))
+      (λ k v w1 x1 kp ok.
+      let pr1 : Extra = record { loops = begun (length inner) k pr.loops; spare = v } in
       let is : pr1.loops (length inner) ≡ k = ap (λ v. if v then k else pr.loops (length inner)) (same_number (length inner)) in
-      first g {j1 = 1} {b1 = b} {x1 = x1} (do_turns So f0 b p y k (meaning So f0 b s) w1) (record { by = λ q le1. other q (length inner) k pr.loops (omega (arith, fits_case, le1)) }) (comes_here (R inner pr1) w1.state) (omega arith) (omega arith) (omega arith)
+      first g {j1 = 1} {b1 = b} {x1 = x1} (do_turns So f0 b p y k (meaning So f0 b s) w1) (record { by = λ q le1. other q (length inner) k pr.loops (omega (arith, fits_case, le1)); kept = kept_self g (1 + own_rank g) v }) (comes_here (R inner pr1) w1.state) (omega arith) (omega arith) (omega arith)
       (counts_follow g b call top (made n) (made (n + 1)) ls p y inner next (meaning So f0 b s)
       (found (made n) p unique at_mid) (found (made (n + 1)) p unique at_out) no_do1 one_do (starts_code made spare s (n + 2) ls1 mid (_, _, refl)) used (omega (arith, fits_case))
       (λ pr2 w2 x2 le2. r (n + 2) ls1 mid at_inner (λ q. omega (arith, clear q)) (length inner) (omega arith) pr2 w2 x2 le2) k b (omega arith) pr1 w1 x1 is ok)))

@@ -1,113 +1,158 @@
--- A whole main unit: from what its statements do to what its run shows.
-use Rattle.std.proofs.Common.{◌≡◌, ℕ, zero, suc, ◌+◌, ◌≤◌, ◌<◌, Bool, true, false, List, [], ◌∷◌, length, None, refl, sym, ap, ◌∙◌, subst, arith}
+-- A whole unit: from what its statements do to what its run gives, and of a main unit, to what that shows.
+use Rattle.std.proofs.Common.{◌≡◌, ℕ, zero, suc, ◌+◌, ◌*◌, ◌≤◌, ◌<◌, Bool, true, false, List, [], ◌∷◌, length, None, refl, sym, ap, ◌∙◌, subst, arith}
 use Rattle.std.specs.Prelude.{⊤}
 use Rattle.ground.specs.declared.place.Place.{Place}
-use Rattle.ground.specs.Content.{Content, Nothing}
-use Rattle.f66_tree.specs.Syntax.{Text, Stop, Line, unlabelled_line}
-use Rattle.f66_tree.specs.World.{State, World, Done, Finish, Ended, GoesOn, Lost, Out, Gives, Halts, Shown, shown}
-use Rattle.f66_tree.specs.Units.{is_main, Spot}
-use Rattle.f66_tree.specs.Execution.{runnable, no_loops, past_end, fetch, exec}
+use Rattle.f66_tree.specs.Syntax.{Text, Stop, Return, Line, unlabelled_line}
+use Rattle.f66_tree.specs.World.{Store, State, World, Ended, GoesOn, Lost, Out, Gives, Halts, bind, Shown, shown}
+use Rattle.f66_tree.specs.Units.{is_main, moved_to}
+use Rattle.f66_tree.specs.Statements.{returned}
+use Rattle.f66_tree.specs.Execution.{runnable, no_loops, past_end, leads, fetch, exec}
 use Rattle.f66_tree.specs.Agreement.{Same}
+use Rattle.f66_tree.proofs.Agreement.{Ahead, IsOver, IsLost}
 use Rattle.rat_tree.specs.Syntax.{Commands}
 use Rattle.rat_tree.specs.Meaning.{Went, Jumps, Backs, Leave, Again, Flow, all_meaning, ended}
-use Rattle.rat_tree.specs.Uses.{NamesOfCommands}
-use Rattle.rat_lower.specs.Code.{have_switch, all_code, stop_unless}
+use Rattle.rat_tree.specs.Uses.{NamesOfCommandsBy}
+use Rattle.rat_lower.specs.Code.{have_switch, all_code, end_unless}
 use Rattle.rat_lower.specs.Checked.{AreBuilt}
-use Rattle.rat_lower.proofs.Simulation.Spared.{Lowering, at, near, spared, F}
-use Rattle.rat_lower.proofs.Simulation.Follows.{Extra, keeps_self, none_begun, Run, Under, Follows, first}
+use Rattle.rat_lower.proofs.Simulation.Spared.{Lowering, at, near, still_near, spared, Kept, own_rank, code, F, Own}
+use Rattle.rat_lower.proofs.Simulation.Follows.{Extra, keeps_self, Part, none_begun, Run, Under, Calls, Follows, first}
 use Rattle.rat_lower.proofs.Simulation.Counts.{occurs, occurs-all, ends, ends-all, all_heads, all_dos}
 use Rattle.rat_lower.proofs.Simulation.Labels.{AreUnique, Within}
 use Rattle.rat_lower.proofs.Simulation.Parts.{Src, HoldsValue}
 use Rattle.rat_lower.proofs.Simulation.Lists.{list_right}
 use Rattle.rat_lower.proofs.Simulation.Switches.{all_right, from_right}
-use Rattle.f66_tree.proofs.Agreement.{Ahead, IsOver, IsLost}
 
--- no loop is in progress, and the spare unit holds nothing
-abbrev pub Begins : Extra
-Begins = record { loops = no_loops; spare = Nothing }
+-- no loop is in progress
+abbrev pub begins : Store → Extra
+begins v = record { loops = no_loops; spare = v }
 
-module _ (g : Lowering) (b : ℕ) (s0 : State) where
-  -- a run of the target that has taken n statements at most
-  abbrev pub Run_shows : ℕ → Shown
-  Run_shows n = shown (Run g g.code Begins (suc n) (at s0 n 0))
+-- A unit's code, whose labels are those of the statements of ss, and which begins with them. A statement that ends the unit
+-- stands behind them unless they end so.
+pub record IsCode (g : Lowering) (ss : Commands) : Type 0 where
+  pub made : ℕ → ℕ
+  pub spare : Text
+  pub added : Bool
+  pub place : Place
+  pub built : AreBuilt ss
+  pub used : NamesOfCommandsBy (Own g) ss
+  pub may : have_switch ss ≡ true → HoldsValue g spare
+  pub once : (l : ℕ) → all_heads made l ss 0 + all_dos made l ss 0 ≤ 1
+  pub within : Within (all_code made spare ss 0 [] (end_unless (is_main (g.source.context g.unit).header) added place)) (code g)
+  pub runs : runnable (code g) ≡ runnable (all_code made spare ss 0 [] (end_unless (is_main (g.source.context g.unit).header) added place))
+  pub occur : (l : ℕ) → occurs l (code g) ≡ occurs l (all_code made spare ss 0 [] (end_unless (is_main (g.source.context g.unit).header) added place))
+  pub end : (l : ℕ) → ends l (code g) ≡ ends l (all_code made spare ss 0 [] (end_unless (is_main (g.source.context g.unit).header) added place))
 
-  main_too : is_main (g.target.context g.unit).header ≡ true
-  main_too = ap is_main (g.same.header g.unit) ∙ g.main
+module _ (g : Lowering) (b : ℕ) where
+  abbrev main : Bool
+  main = is_main (g.source.context g.unit).header
 
-  -- the last statement is a STOP, or there is none left
-  stops : (v : Bool) (p : Place) (pr : Extra) (s : State) (n k c : ℕ) → 1 + k < n → (k1 : ℕ) × (c1 : ℕ) × (Run g (stop_unless v p) pr n (at s (1 + k) c) ≡ Halts (Ended Done) (near g.spot pr.spare s k1 c1))
-  stops v p pr s zero k c lt = absurd (omega arith)
-  stops true p pr s (suc n) k c lt = (1 + k, c, ap (λ z. past_end z (near g.spot pr.spare s (1 + k) c)) main_too)
-  stops false p pr s (suc n) k c lt =
+  -- what a unit's run t gives, as its source does: d + x statements are one more at most than 32 times the work, and the spare
+  -- units of greater rank keep what they have
+  abbrev pub UnitBy : Store → State → ℕ → Part → Out ⊤ → Type 0
+  UnitBy v s x t (Gives a w) = (d : ℕ) × (d + x ≤ 1 + 32 * w.count) × (v1 : Store) × Kept g (1 + own_rank g) v v1 × ((n k c : ℕ) → d + k < n → t n (near g v s (d + k) c) ≡ Gives a (near g v1 w.state k (c + d)))
+  UnitBy v s x t (Halts (Ended e) w) = (d : ℕ) × (d + x ≤ 1 + 32 * w.count) × (v1 : Store) × ((n k c : ℕ) → d + k < n → t n (near g v s (d + k) c) ≡ Halts (Ended e) (near g v1 w.state k (c + d)))
+  UnitBy v s x t (Halts GoesOn w) = (d : ℕ) × (d + x ≤ 1 + 32 * w.count) × (b ≤ d) × (v1 : Store) × ((n c : ℕ) → d < n → t n (near g v s d c) ≡ Halts GoesOn (near g v1 w.state 0 (c + d)))
+  UnitBy v s x t (Halts Lost w) = ⊤
+
+  -- the unit's run
+  abbrev pub Whole : Part
+  Whole n w = exec g.target g.codes n (F g) (record { rest = code g; loops = no_loops }) w
+
+  main_too : is_main (g.target.context g.unit).header ≡ main
+  main_too = ap is_main (g.same.header g.unit)
+
+  abbrev cost : Bool → ℕ
+  cost true = 0
+  cost false = 1
+
+  -- the last statement ends the unit, or there is none left
+  last_ends : (m v : Bool) → is_main (g.target.context g.unit).header ≡ m → (p : Place) (pr : Extra) (s : State) (n k c : ℕ) → cost v + k < n → Run g (end_unless m v p) pr n (at s (cost v + k) c) ≡ past_end m (near g pr.spare s k (c + cost v))
+  last_ends m v is p pr s zero k c lt = absurd (omega arith)
+  last_ends true true is p pr s (suc n) k c lt = ap (λ z. past_end z (near g pr.spare s (0 + k) c)) is ∙ ap (λ w. past_end true w) (still_near g pr.spare s k c)
+  last_ends false true is p pr s (suc n) k c lt = ap (λ z. past_end z (near g pr.spare s (0 + k) c)) is ∙ ap (λ w. past_end false w) (still_near g pr.spare s k c)
+  last_ends true false is p pr s (suc n) k c lt =
       let e : 1 + k ≡ suc k = omega arith in
-      (k, c + 1, ap (λ z. Run g (unlabelled_line p (Stop None) ∷ []) pr (suc n) (at s z c)) e)
+      ap (λ z. Run g (unlabelled_line p (Stop None) ∷ []) pr (suc n) (at s z c)) e
+  last_ends false false is p pr s (suc n) k c lt =
+      let e : 1 + k ≡ suc k = omega arith in
+      ap (λ z. Run g (unlabelled_line p Return ∷ []) pr (suc n) (at s z c)) e
+      ∙ ap (λ z. bind (returned z (near g pr.spare s k (c + 1))) (λ y w1. leads (Under g n) (moved_to p (F g)) (code g) None [] (exec g.target g.codes n (F g)) pr.loops y w1)) is
 
-  -- a run that has come to an end shows it
-  same_end : (f : Finish) (v : Content) (w : World) (work k c : ℕ) (o : Out ⊤) → o ≡ Halts (Ended f) (near g.spot v w.state k c) → Same (record { records = w.state.tape.written; end = Ended f; work = work }) (shown o)
-  same_end f v w work k c o e = record { records = sym (ap (λ z. (shown z).records) e); end = sym (ap (λ z. (shown z).end) e) }
-
-  same_return : (v : Content) (w : World) (work k c : ℕ) (o : Out ⊤) → o ≡ Gives tt (near g.spot v w.state k c) → Same (record { records = w.state.tape.written; end = Ended Done; work = work }) (shown o)
-  same_return v w work k c o e = record { records = sym (ap (λ z. (shown z).records) e); end = sym (ap (λ z. (shown z).end) e) }
-
-  lost_ahead : (w : World) → Ahead b (shown (Halts Lost w)) Run_shows
-  lost_ahead w = record { over = λ f e. absurd (subst IsOver (sym e) tt); on = λ e. absurd (subst IsLost e tt) }
-
-  ahead_of : (v : Bool) (p : Place) (top : ℕ) (o : Flow) → Follows g 1 b top [] Begins (Run g g.code Begins) s0 0 (stop_unless v p) o → Ahead b (shown (ended true o)) Run_shows
-  ahead_of v p top (Gives Went w) h = record {
-    over = λ f e. (h.by.0 + 1, omega (arith, h.by.1), λ k. reached k f e);
-    on = λ e. absurd (subst IsOver e tt);
-  }
+  -- the statements have gone through
+  went_by : (m v : Bool) → is_main (g.target.context g.unit).header ≡ m → (p : Place) (top : ℕ) (h : Store) (s : State) (x : ℕ) (w : World) → Follows g 1 b top [] (begins h) (Run g (code g) (begins h)) s x (end_unless m v p) (Gives Went w) → UnitBy h s x Whole (past_end m w)
+  went_by m v is p top h s x w f = by_main m refl
     where
-      reached : (k : ℕ) (f : Finish) → Ended Done ≡ Ended f → Same (shown (ended true (Gives Went w))) (Run_shows (h.by.0 + 1 + k))
-      reached k f e =
-          let d = h.by.0 in
-          let pr1 = h.by.2 in
-          let e1 : d + 1 + k ≡ d + (1 + k) = omega arith in
-          let q = h.by.4.by (suc (d + 1 + k)) (1 + k) 0 (omega arith) in
-          let last = stops v p pr1 w.state q.0 k (0 + d) q.1 in
-          same_end Done pr1.spare w w.count last.0 last.1 (Run g g.code Begins (suc (d + 1 + k)) (at s0 (d + 1 + k) 0))
-          (ap (λ z. Run g g.code Begins (suc (d + 1 + k)) (at s0 z 0)) e1 ∙ q.2 ∙ last.2)
-  ahead_of v p top (Gives Backs w) h = record {
-    over = λ f e. (h.by.0, omega (arith, h.by.1), λ k. same_return h.by.2 w w.count k (0 + h.by.0) _ (h.by.3 (suc (h.by.0 + k)) k 0 (omega arith)));
-    on = λ e. absurd (subst IsOver e tt);
-  }
-  ahead_of v p top (Gives (Jumps l) w) h = lost_ahead w
-  ahead_of v p top (Gives (Leave k) w) h = lost_ahead w
-  ahead_of v p top (Gives (Again k) w) h = lost_ahead w
-  ahead_of v p top (Halts (Ended f1) w) h = record {
-    over = λ f e. (h.by.0, omega (arith, h.by.1), λ k. same_end f1 h.by.2 w w.count k (0 + h.by.0) _ (h.by.3 (suc (h.by.0 + k)) k 0 (omega arith)));
-    on = λ e. absurd (subst IsOver e tt);
-  }
-  ahead_of v p top (Halts GoesOn w) h = record {
-    over = λ f e. absurd (subst IsOver (sym e) tt);
-    on = λ e. let q = ap shown (h.by.4 (suc h.by.0) 0 (omega arith)) in (h.by.0, h.by.2, omega (arith, h.by.1), ap (λ z. z.end) q, sym (ap (λ z. z.records) q));
-  }
-  ahead_of v p top (Halts Lost w) h = lost_ahead w
+      small : (z : Bool) → f.by.0 + cost z + x ≤ 1 + 32 * w.count
+      small true = omega (arith, f.by.1)
+      small false = omega (arith, f.by.1)
 
-  last_none : (v : Bool) (q : ℕ) (p : Place) → (occurs q (stop_unless v p) ≡ 0) × (ends q (stop_unless v p) ≡ 0)
-  last_none true q p = (refl, refl)
-  last_none false q p = (refl, refl)
+      goes : (n k c : ℕ) → f.by.0 + cost v + k < n → Whole n (near g h s (f.by.0 + cost v + k) c) ≡ past_end m (near g f.by.2.spare w.state k (c + (f.by.0 + cost v)))
+      goes n k c lt =
+          let e : f.by.0 + cost v + k ≡ f.by.0 + (cost v + k) = omega arith in
+          let e2 : c + f.by.0 + cost v ≡ c + (f.by.0 + cost v) = omega arith in
+          let q = f.by.4.by n (cost v + k) c (omega arith) in
+          ap (λ z. Whole n (near g h s z c)) e ∙ q.2 ∙ last_ends m v is p f.by.2 w.state q.0 k (c + f.by.0) q.1 ∙ ap (λ z. past_end m (near g f.by.2.spare w.state k z)) e2
 
-  -- The unit's code, whose labels are those of the statements of ss, and which begins with them.
-  module _ (call : ℕ → List Spot → World → Out ⊤) (made : ℕ → ℕ) (spare : Text) (v : Bool) (p : Place) (ss : Commands) (built : AreBuilt ss) (used : NamesOfCommands (g.K g.unit) ss) (may : have_switch ss ≡ true → HoldsValue g spare)
-      (once : (l : ℕ) → all_heads made l ss 0 + all_dos made l ss 0 ≤ 1) (within : Within (all_code made spare ss 0 [] (stop_unless v p)) g.code) (runs : runnable g.code ≡ runnable (all_code made spare ss 0 [] (stop_unless v p)))
-      (all_occur : (l : ℕ) → occurs l g.code ≡ occurs l (all_code made spare ss 0 [] (stop_unless v p))) (all_end : (l : ℕ) → ends l g.code ≡ ends l (all_code made spare ss 0 [] (stop_unless v p))) where
+      by_main : (z : Bool) → m ≡ z → UnitBy h s x Whole (past_end z w)
+      by_main true e = (f.by.0 + cost v, small v, f.by.2.spare, λ n k c lt. goes n k c lt ∙ ap (λ z. past_end z (near g f.by.2.spare w.state k (c + (f.by.0 + cost v)))) e)
+      by_main false e = (f.by.0 + cost v, small v, f.by.2.spare, f.by.3.kept, λ n k c lt. goes n k c lt ∙ ap (λ z. past_end z (near g f.by.2.spare w.state k (c + (f.by.0 + cost v)))) e)
+
+  ended_follows : (v : Bool) (p : Place) (top : ℕ) (h : Store) (s : State) (x : ℕ) (o : Flow) → Follows g 1 b top [] (begins h) (Run g (code g) (begins h)) s x (end_unless main v p) o → UnitBy h s x Whole (ended main o)
+  ended_follows v p top h s x (Gives Went w) f = went_by main v main_too p top h s x w f
+  ended_follows v p top h s x (Gives Backs w) f = (f.by.0, omega (arith, f.by.1), f.by.2, f.by.3, f.by.4)
+  ended_follows v p top h s x (Gives (Jumps l) w) f = tt
+  ended_follows v p top h s x (Gives (Leave k) w) f = tt
+  ended_follows v p top h s x (Gives (Again k) w) f = tt
+  ended_follows v p top h s x (Halts (Ended e) w) f = (f.by.0, omega (arith, f.by.1), f.by.2, f.by.3)
+  ended_follows v p top h s x (Halts GoesOn w) f = (f.by.0, omega (arith, f.by.1), f.by.2, f.by.3, f.by.4)
+  ended_follows v p top h s x (Halts Lost w) f = tt
+
+  last_none : (m v : Bool) (q : ℕ) (p : Place) → (occurs q (end_unless m v p) ≡ 0) × (ends q (end_unless m v p) ≡ 0)
+  last_none true true q p = (refl, refl)
+  last_none true false q p = (refl, refl)
+  last_none false true q p = (refl, refl)
+  last_none false false q p = (refl, refl)
+
+  module _ (call : Calls g b) (ss : Commands) (is : IsCode g ss) where
     abbrev code1 : List Line
-    code1 = all_code made spare ss 0 [] (stop_unless v p)
+    code1 = all_code is.made is.spare ss 0 [] (end_unless main is.added is.place)
 
-    unique : AreUnique g.code
-    unique l = omega (arith, all_occur l, occurs-all made spare l ss 0 [] (stop_unless v p) built, (last_none v l p).0, once l)
+    unique : AreUnique (code g)
+    unique l = omega (arith, is.occur l, occurs-all is.made is.spare l ss 0 [] (end_unless main is.added is.place) is.built, (last_none main is.added l is.place).0, is.once l)
 
-    clear : (l : ℕ) → ends l g.code + all_heads made l ss 0 ≤ 1
-    clear l = omega (arith, all_end l, ends-all made spare l ss 0 [] (stop_unless v p) built, (last_none v l p).1, once l)
+    clear : (l : ℕ) → ends l (code g) + all_heads is.made l ss 0 ≤ 1
+    clear l = omega (arith, is.end l, ends-all is.made is.spare l ss 0 [] (end_unless main is.added is.place) is.built, (last_none main is.added l is.place).1, is.once l)
 
-    begins_so : (n : ℕ) (w : World) → Run g g.code Begins n w ≡ Run g code1 Begins n w
-    begins_so zero w = refl
-    begins_so (suc n) w = ap (λ q. fetch (Under g n) (F g) g.code q (exec g.target (λ u. g.code) n (F g)) no_loops (spared g.spot Nothing w)) runs
+    begins_so : (h : Store) (n : ℕ) (w : World) → Run g (code g) (begins h) n w ≡ Run g code1 (begins h) n w
+    begins_so h zero w = refl
+    begins_so h (suc n) w = ap (λ q. fetch (Under g n) (F g) (code g) q (exec g.target g.codes n (F g)) no_loops (spared g h w)) is.runs
 
-    pub unit_ahead : Ahead b (shown (ended true (all_meaning (Src g b call) (F g) b ss (at s0 0 0)))) Run_shows
-    unit_ahead =
-        let o = all_meaning (Src g b call) (F g) b ss (at s0 0 0) in
-        ahead_of v p (length code1) o
-        (first g {j1 = 1} {b1 = b} {x1 = 0} o (keeps_self (length code1) Begins) (none_begun (Run g g.code Begins) (Run g code1 Begins) s0 (λ n k c. begins_so n (at s0 k c))) (omega arith) (omega arith) (omega arith)
-        (list_right g b call made spare unique ss (all_right g b call made spare unique ss built used may) (from_right g b call made spare unique ss built used may) 0 [] (stop_unless v p) within clear (length code1) (omega arith) Begins (at s0 0 0) 0 (omega arith)))
+    pub unit_by : (h : Store) (w : World) (x : ℕ) → x ≤ 32 * w.count → UnitBy h w.state x Whole (ended main (all_meaning (Src g b call) (F g) b ss w))
+    unit_by h w x le =
+        let o = all_meaning (Src g b call) (F g) b ss w in
+        ended_follows is.added is.place (length code1) h w.state x o
+        (first g {j1 = 1} {b1 = b} {x1 = x} o (keeps_self g (length code1) (begins h)) (none_begun (Run g (code g) (begins h)) (Run g code1 (begins h)) w.state (λ n k c. begins_so h n (at w.state k c))) (omega arith) (omega arith) (omega arith)
+        (list_right g b call is.made is.spare unique ss (all_right g b call is.made is.spare unique ss is.built is.used is.may) (from_right g b call is.made is.spare unique ss is.built is.used is.may) 0 [] (end_unless main is.added is.place) is.within clear (length code1) (omega arith) (begins h) w x le))
+
+  -- a main unit's run, from a state of the source, shows what its source does
+  module _ (s0 : State) (h : Store) where
+    abbrev pub Run_shows : ℕ → Shown
+    Run_shows n = shown (Whole (suc n) (near g h s0 n 0))
+
+    pub unit_ahead : (o : Out ⊤) → UnitBy h s0 0 Whole o → Ahead b (shown o) Run_shows
+    unit_ahead (Gives a w) u = record {
+      over = λ f e. (u.0, omega (arith, u.1), λ k. gives_same k);
+      on = λ e. absurd (subst IsOver e tt);
+    }
+      where
+        gives_same : (k : ℕ) → Same (shown (Gives a w)) (Run_shows (u.0 + k))
+        gives_same k = let q = ap shown (u.4 (suc (u.0 + k)) k 0 (omega arith)) in record { records = sym (ap (λ z. z.records) q); end = sym (ap (λ z. z.end) q) }
+    unit_ahead (Halts (Ended f1) w) u = record {
+      over = λ f e. (u.0, omega (arith, u.1), λ k. let q = ap shown (u.3 (suc (u.0 + k)) k 0 (omega arith)) in record { records = sym (ap (λ z. z.records) q); end = sym (ap (λ z. z.end) q) });
+      on = λ e. absurd (subst IsOver e tt);
+    }
+    unit_ahead (Halts GoesOn w) u = record {
+      over = λ f e. absurd (subst IsOver (sym e) tt);
+      on = λ e. let q = ap shown (u.4 (suc u.0) 0 (omega arith)) in (u.0, u.2, omega (arith, u.1), ap (λ z. z.end) q, sym (ap (λ z. z.records) q));
+    }
+    unit_ahead (Halts Lost w) u = record { over = λ f e. absurd (subst IsOver (sym e) tt); on = λ e. absurd (subst IsLost e tt) }

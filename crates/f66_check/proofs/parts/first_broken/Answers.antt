@@ -5,8 +5,19 @@ use Rattle.std.proofs.lemmas.Option.{slice_get_read}
 use Rattle.f66_tree.specs.declared.statement.Stmt.{Stmt}
 use Rattle.f66_names.specs.DeclarationViews.{context_in, acts_in}
 use Rattle.f66_flow.specs.Under.{lines_under}
-use Rattle.f66_check.proofs.PartLemmas.{statement_first, statement_clean, flow_before, all_clean}
+use Rattle.f66_check.specs.UnitChecks.{breaks_piece}
+use Rattle.f66_check.proofs.PartLemmas.{header_first, header_clean, statement_first, statement_clean, flow_before, all_clean}
 use Rattle.f66_check.proofs.parts.first_broken.Goals as goal
+
+pub returns-in-Some-clause-first : goal.returns-in-Some-clause-first
+returns-in-Some-clause-first c =
+    let names = c.args.names.now.declarations in
+    header_first (breaks_piece c.args.scope (context_in names) (acts_in names) (lines_under c.args.flow.now)) c.in-Some.rule (sym c.in-Some.is ∙ c.in_ok-of_header.ensures)
+
+pub loop-i-init : goal.loop-i-init
+loop-i-init c =
+    let names = c.args.names.now.declarations in
+    header_clean (breaks_piece c.args.scope (context_in names) (acts_in names) (lines_under c.args.flow.now)) (sym c.in_default.is ∙ c.in_ok-of_header.ensures)
 
 pub broken_rule-requires-clause-earlier : goal.broken_rule-requires-clause-earlier
 broken_rule-requires-clause-earlier c =

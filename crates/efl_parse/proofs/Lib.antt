@@ -1,0 +1,3 @@
+-- The lemmas of efl_parse.
+pub mod WholeLemmas
+pub mod OneTreeLemmas

@@ -1,0 +1,2 @@
+-- The lemmas of efl_parse_statements.
+pub mod TreeLemmas

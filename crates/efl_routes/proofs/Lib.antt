@@ -1,0 +1,27 @@
+-- The lemmas of efl_routes.
+pub mod Like
+pub mod Near
+pub mod Steps
+pub mod Lowers
+pub mod Combined
+pub mod Changes
+pub mod Calls
+pub mod Actuals
+pub mod Procedures
+pub mod Expressions
+pub mod Flows
+pub mod Conditions
+pub mod Cycles
+pub mod Lists
+pub mod Statements
+pub mod Returns
+pub mod Cases
+pub mod Counting
+pub mod Writing
+pub mod Reading
+pub mod Whole
+pub mod Programs
+pub mod Mains
+pub mod Agrees
+pub mod ExpressionLines
+pub mod Example

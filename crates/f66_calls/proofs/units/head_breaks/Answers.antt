@@ -1,0 +1,6 @@
+-- Why `head_breaks` keeps its clauses.
+use Rattle.std.proofs.Common.{rules}
+use Rattle.f66_calls.proofs.units.head_breaks.Goals as goal
+
+pub returns : goal.returns
+returns c = search rules

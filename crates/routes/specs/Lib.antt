@@ -1,0 +1,7 @@
+-- The definitions that the contracts of routes cite.
+pub mod Routes
+pub mod Running
+pub mod Code
+pub mod Placed
+pub mod Units
+pub mod Laws

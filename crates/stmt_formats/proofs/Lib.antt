@@ -1,0 +1,3 @@
+-- The lemmas of stmt_formats.
+pub mod ItemLemmas
+pub mod PlaceLemmas

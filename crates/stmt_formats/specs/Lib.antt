@@ -1,0 +1,2 @@
+-- The definitions that the contracts of stmt_formats cite.
+pub mod States

@@ -1,0 +1,4 @@
+-- The lemmas of unit_rules.
+mod Examples
+pub mod NameLemmas
+pub mod MainLemmas

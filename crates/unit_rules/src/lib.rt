@@ -1,0 +1,18 @@
+//! The rules of names, types, counts, constants and stores in a unit of FORTRAN 66 of any kind: of its header, and statement by
+//! statement.
+#![tactic(auto)]
+
+mod called;
+mod forms;
+mod heads;
+mod judged;
+mod roles;
+mod rules;
+mod types;
+mod unit_names;
+
+pub use heads::header_rule;
+pub use judged::is_judged;
+pub use roles::Role;
+pub use rules::broken_rule;
+pub use unit_names::{UnitNames, unit_names_of};

@@ -1,0 +1,188 @@
+// The rule with the smallest number that a statement breaks.
+ghost use Rattle.std.specs.Prelude.{◌≡◌, map, option_map, is_some, IfOk};
+ghost use Rattle.std.specs.List.{list_any};
+ghost use Rattle.rule_table.specs.FaultRules.{first_rule};
+ghost use Rattle.rule_table.specs.Words.{find_map, is_some_and};
+ghost use Rattle.f66_tree.specs.Views.{formulas_of, act_of};
+ghost use Rattle.f66_names.specs.Declaring.{type_given};
+ghost use Rattle.f66_names.specs.DeclarationViews.{context_in, acts_in};
+ghost use Rattle.f66_names.specs.NameRules.{is_long as is_long_text};
+ghost use Rattle.f66_names.specs.Uses.{uses_in, uses_of_all};
+ghost use Rattle.f66_names.specs.UseViews.{use_of};
+ghost use Rattle.unit_rules.specs.Called.{called_in, passed_in};
+ghost use Rattle.unit_rules.specs.Roles.{misuses, miscalls, mixes_roles};
+ghost use Rattle.unit_rules.specs.UnitRules.{has_long_name as has_long, has_foreign_name as has_foreign, counts_wrong as counts_other, is_duplicate, breaks_rule};
+
+use crate::UnitNames;
+use crate::called::{called_in, passed_in, uses_passed};
+use crate::forms::has_form;
+use crate::heads::declares_own;
+use crate::roles::{Role, has_other_role, role_used};
+use crate::types::clashes;
+use f66_names::{
+    Declarations, Use, has_bad_constant, has_bad_format, has_large_array, has_long_name,
+    has_long_use, has_other_type, has_other_use, has_wrong_count, has_wrong_use, is_array, is_long,
+    redeclares, stores_wrong, uses_of_statement,
+};
+use f66_tree::{Name, StmtKind};
+use rule_table::Rule;
+use std::alloc::{AllocError, Global};
+
+/// The rule with the smallest number that the statement with the number i breaks, of those on names, types, counts,
+/// constants and stores (X3.9-1966, sections 3.5, 5 to 8 and 10.1).
+pub fn broken_rule(
+    alloc: Global,
+    names: &UnitNames,
+    i: usize,
+    kind: &StmtKind,
+) -> Result<Option<Rule>, AllocError>
+    ensures { IfOk result
+        (λ o. o ≡ first_rule (breaks_rule (context_in names.now.declarations) (acts_in names.now.declarations) i (act_of kind.now))) }
+{
+    let uses = uses_of_statement(alloc, kind)?;
+    let passed = uses_passed(alloc, passed_in(kind))?;
+    let duplicate = is_duplicate(alloc, names, i, kind, &uses, &passed)?;
+    if !has_form(kind) {
+        return Ok(Some(Rule::Syntax));
+    }
+    if is_long_somewhere(kind, &uses, &passed) {
+        return Ok(Some(Rule::NameTooLong));
+    }
+    if is_foreign_somewhere(&names.declarations, kind, &uses, &passed) {
+        return Ok(Some(Rule::OutOfProfileType));
+    }
+    if clashes(&names.declarations, kind) {
+        return Ok(Some(Rule::TypeClash));
+    }
+    if counts_wrong(&names.declarations, kind, &uses, &passed) {
+        return Ok(Some(Rule::WrongCount));
+    }
+    if duplicate {
+        return Ok(Some(Rule::DuplicateName));
+    }
+    if has_bad_constant(&names.declarations, kind) {
+        return Ok(Some(Rule::BadConstant));
+    }
+    if has_bad_format(kind) {
+        return Ok(Some(Rule::BadFormat));
+    }
+    if stores_wrong(&names.declarations, kind) {
+        return Ok(Some(Rule::NotAssignable));
+    }
+    if has_large_array(kind) {
+        return Ok(Some(Rule::LargeArray));
+    }
+    Ok(None)
+}
+
+fn is_long_called(called: Option<&Name>) -> bool
+    ensures { result ≡ is_some_and is_long_text (option_map (λ n. n.now) called.entry) }
+{
+    match called {
+        Some(name) => is_long(name),
+        None => false,
+    }
+}
+
+fn is_long_somewhere(kind: &StmtKind, uses: &[Use], passed: &[Use]) -> bool
+    requires uses { map use_of uses.now ≡ uses_in (act_of kind.now) }
+    requires passed { map use_of passed.now ≡ uses_of_all (passed_in (act_of kind.now)) }
+    ensures { result ≡ has_long (act_of kind.now) }
+{
+    let called = is_long_called(called_in(kind));
+    has_long_name(kind, uses) || (called || has_long_use(passed))
+}
+
+fn is_foreign_somewhere(
+    declarations: &Declarations,
+    kind: &StmtKind,
+    uses: &[Use],
+    passed: &[Use],
+) -> bool
+    requires uses { map use_of uses.now ≡ uses_in (act_of kind.now) }
+    requires passed { map use_of passed.now ≡ uses_of_all (passed_in (act_of kind.now)) }
+    ensures { result ≡ has_foreign (context_in declarations.now) (act_of kind.now) }
+{
+    has_other_type(declarations, kind, uses) || has_other_use(declarations, passed)
+}
+
+fn counts_wrong(declarations: &Declarations, kind: &StmtKind, uses: &[Use], passed: &[Use]) -> bool
+    requires uses { map use_of uses.now ≡ uses_in (act_of kind.now) }
+    requires passed { map use_of passed.now ≡ uses_of_all (passed_in (act_of kind.now)) }
+    ensures { result ≡ counts_other (context_in declarations.now) (act_of kind.now) }
+{
+    has_wrong_count(declarations, kind, uses) || has_wrong_use(declarations, passed)
+}
+
+fn is_duplicate(
+    alloc: Global,
+    names: &UnitNames,
+    i: usize,
+    kind: &StmtKind,
+    uses: &[Use],
+    passed: &[Use],
+) -> Result<bool, AllocError>
+    requires uses { map use_of uses.now ≡ uses_in (act_of kind.now) }
+    requires passed { map use_of passed.now ≡ uses_of_all (passed_in (act_of kind.now)) }
+    ensures { IfOk result (λ b. b ≡ is_duplicate (context_in names.now.declarations) (acts_in names.now.declarations) i (act_of kind.now)) }
+{
+    let again = redeclares(alloc, &names.declarations, i, kind)?;
+    let own = declares_own(names.declarations.header, kind);
+    let mixed = mixes_roles(names, kind, uses, passed);
+    Ok(again || (own || mixed))
+}
+
+fn mixes_roles(names: &UnitNames, kind: &StmtKind, uses: &[Use], passed: &[Use]) -> bool
+    requires uses { map use_of uses.now ≡ uses_in (act_of kind.now) }
+    requires passed { map use_of passed.now ≡ uses_of_all (passed_in (act_of kind.now)) }
+    ensures { result ≡ mixes_roles (context_in names.now.declarations) (acts_in names.now.declarations) (act_of kind.now) }
+{
+    let called = is_miscalled(names, called_in(kind));
+    (has_misuse(names, uses) || has_misuse(names, passed)) || called
+}
+
+fn is_miscalled(names: &UnitNames, called: Option<&Name>) -> bool
+    ensures { result
+        ≡ is_some_and (miscalls (context_in names.now.declarations) (acts_in names.now.declarations)) (option_map (λ n. n.now) called.entry) }
+{
+    match called {
+        Some(name) => miscalls(names, name),
+        None => false,
+    }
+}
+
+/// Whether a CALL names what is no subroutine: a name of another class, or one with a type or dimensions.
+fn miscalls(names: &UnitNames, name: &Name) -> bool
+    ensures { result ≡ miscalls (context_in names.now.declarations) (acts_in names.now.declarations) name.now }
+{
+    let first = names.roles.get(name.as_bytes()).copied();
+    has_other_role(Some(Role::Subroutine), first)
+        || (has_type(&names.declarations, name) || is_array(&names.declarations, name))
+}
+
+fn has_type(declarations: &Declarations, name: &Name) -> bool
+    ensures { result ≡ is_some (find_map (type_given name.now) (acts_in declarations.now)) }
+{
+    declarations.words.contains_key(name.as_bytes())
+}
+
+fn misuses(names: &UnitNames, used: &Use) -> bool
+    ensures { result ≡ misuses (context_in names.now.declarations) (acts_in names.now.declarations) (use_of used.now) }
+{
+    let first = names.roles.get(used.name.as_bytes()).copied();
+    has_other_role(role_used(&names.declarations, used), first)
+}
+
+/// Whether a name is used in another class than its first one (section 10.1).
+#[tactic(auto, using(rule_table::proofs::WordLemmas::list_any_map))]
+fn has_misuse(names: &UnitNames, uses: &[Use]) -> bool
+    ensures { result ≡ list_any (misuses (context_in names.now.declarations) (acts_in names.now.declarations)) (map use_of uses.now) }
+{
+    are_some_misused(names, uses)
+}
+
+fn are_some_misused(names: &UnitNames, uses: &[Use]) -> bool
+    ensures { result ≡ list_any (λ u. misuses (context_in names.now.declarations) (acts_in names.now.declarations) (use_of u)) uses.now }
+{
+    uses.iter().any(|u| misuses(names, u))
+}
