@@ -10,6 +10,11 @@ use Rattle.efl_program.specs.Scoping.{Scoping}
 use Rattle.efl_program.proofs.Kept.{Kept, Any}
 use Rattle.efl_program.proofs.NeverLost.{Safe, list_safe}
 
+abbrev IsFound : End → Type 0
+IsFound (Ended f) = ⊤
+IsFound GoesOn = ⊤
+IsFound Lost = ⊥
+
 module _ (l : Linkage) (bodies : ℕ → Stmts) (h : Scoping l bodies) (b : ℕ) where
   ended_kept : (main : Bool) (o : Flow) → Safe [] (λ q. ⊥) o → Kept Any (bind o (ended_by main))
   ended_kept true (Gives Went w) k = record { by = tt }
@@ -30,24 +35,9 @@ module _ (l : Linkage) (bodies : ℕ → Stmts) (h : Scoping l bodies) (b : ℕ)
       (list_safe (record { linked = l; call = efl_call l bodies b k }) (λ u. h.rank u < h.rank v) (λ u less ps1 w1. call_kept k u (omega (lt, less, arith)) ps1 w1) (record { unit = v; actuals = ps; place = nowhere }) b (bodies v) [] (λ q. ⊥) (h.scoped v) w)
 
   not_lost : (o : Out ⊤) → Kept Any o → (shown o).end ≢ Lost
-  not_lost (Gives a w) k e = subst IsOver e tt
-    where
-      IsOver : End → Type 0
-      IsOver (Ended f) = ⊤
-      IsOver GoesOn = ⊤
-      IsOver Lost = ⊥
-  not_lost (Halts (Ended f) w) k e = subst IsOver e tt
-    where
-      IsOver : End → Type 0
-      IsOver (Ended g) = ⊤
-      IsOver GoesOn = ⊤
-      IsOver Lost = ⊥
-  not_lost (Halts GoesOn w) k e = subst IsOver e tt
-    where
-      IsOver : End → Type 0
-      IsOver (Ended g) = ⊤
-      IsOver GoesOn = ⊤
-      IsOver Lost = ⊥
+  not_lost (Gives a w) k e = subst IsFound e tt
+  not_lost (Halts (Ended f) w) k e = subst IsFound e tt
+  not_lost (Halts GoesOn w) k e = subst IsFound e tt
   not_lost (Halts Lost w) k e = k.by
 
   pub never_lost : (input : List Record) → (efl l bodies b input).end ≢ Lost

@@ -9,6 +9,7 @@ use Rattle.f66_tree.specs.Syntax.{Line}
 use Rattle.f66_tree.specs.World.{World, Ended, GoesOn, Lost, Out, Gives, Halts, bind}
 use Rattle.f66_tree.specs.Units.{Spot}
 use Rattle.f66_tree.specs.Execution.{closers}
+use Rattle.f66_tree.proofs.Comes.{at, Comes}
 use Rattle.efl_program.specs.Typed.{Expr}
 use Rattle.efl_program.specs.Values as values
 use Rattle.routes.specs.Routes.{NoRoute}
@@ -21,8 +22,8 @@ use Rattle.efl_routes.proofs.Lowers.{After}
 use Rattle.efl_routes.proofs.Procedures.{Agreed}
 use Rattle.efl_routes.proofs.Expressions.{expression_right}
 use Rattle.routes.specs.Placed.{AllPlaced}
-use Rattle.routes.proofs.Tracks.{at, T, same_fuel}
-use Rattle.routes.proofs.Follows.{Comes, Run, Under, Follows}
+use Rattle.routes.proofs.Tracks.{T, same_fuel}
+use Rattle.routes.proofs.Follows.{Run, Under, Follows}
 use Rattle.routes.proofs.Routes.{Starts, all_right}
 
 module _ (g : Sides) (c : Agreed g) (codes : ℕ → List Line) (called : (v : ℕ) (ps : List Spot) → T ℕ same_fuel g.most ⊤ (λ i. (Under g.linked codes g.to i).call v ps) (g.call v ps)) (lab : ℕ → ℕ) (no_do : (m : ℕ) → closers m (codes g.to.unit) ≡ []) where

@@ -1,5 +1,5 @@
 -- A `read` follows: its contents come into temporaries, and are stored in its variables when the record is done.
-use Rattle.std.proofs.Common.{◌≡◌, ℕ, ◌+◌, ◌≤◌, ◌<◌, List, [], ◌∷◌, Option, None, Some, refl, sym, ap, ◌∙◌, subst, arith}
+use Rattle.std.proofs.Common.{◌≡◌, ℕ, ◌+◌, ◌≤◌, ◌<◌, List, [], ◌∷◌, Option, refl, sym, ap, ◌∙◌, subst, arith}
 use Rattle.std.specs.Prelude.{⊤, nat_eq, pos}
 use Rattle.std.specs.Str.{bytes_eq}
 use Rattle.ground.specs.declared.place.Place.{Place}
@@ -8,22 +8,21 @@ use Rattle.ground.specs.declared.value.Kind.TheVariants.{Integer, Logical}
 use Rattle.ground.specs.Content.{Content, Nothing, Whole, Truth}
 use Rattle.f66_tree.specs.declared.editing.Way.TheVariants.{Reading}
 use Rattle.f66_tree.specs.Syntax as f66
-use Rattle.f66_tree.specs.Syntax.{Text, Formula, Entries}
-use Rattle.f66_tree.specs.World.{Store, put_in, Tape, World, counted, holding, taping, Out, Gives, bind, Try, Yields, Traps, Fails, Move, Moves, Breaks, Misses, settle, moving}
+use Rattle.f66_tree.specs.Syntax.{Text, Entries}
+use Rattle.f66_tree.specs.World.{Store, Tape, World, counted, taping, Out, Gives, bind, Try, Yields, Traps, Fails, Move, Moves, Breaks, Misses, settle, moving}
 use Rattle.f66_tree.specs.Records.{opened, due, take, closed}
 use Rattle.f66_tree.specs.Units.{kind_of, sizes_of, Spot, Held, Setting}
 use Rattle.f66_tree.specs.Evaluation.{asked, base, load, store_at, par_in, value_of}
 use Rattle.f66_tree.specs.Statements.{Exit, Normal, taped, taken_content, on_unit, one_or_row, item, items}
 use Rattle.f66_tree.proofs.Stores.{read_same}
-use Rattle.f66_soundness.specs.Rightly.{TriesRightly}
-use Rattle.f66_soundness.proofs.ContentLemmas.{IsOfKind}
-use Rattle.f66_soundness.proofs.EditLemmas.{MovesRightly, Awaits, due_rightly, take_rightly}
-use Rattle.efl_program.specs.Typed.{Expr, Scalar, NoExpr, Site, Variable, ReadItem, Take, Pass, Read}
+use Rattle.f66_tree.proofs.EditLemmas.{MovesRightly, Awaits, due_rightly, take_rightly}
+use Rattle.f66_tree.proofs.Tries.{IsOfKind, TriesRightly}
+use Rattle.efl_program.specs.Typed.{Expr, Site, ReadItem, Take, Pass, Read}
 use Rattle.efl_program.specs.Setting as world
 use Rattle.efl_program.specs.Meaning as meaning
 use Rattle.efl_program.specs.Meaning.{Went as EflWent, take_all, kind_by}
 use Rattle.efl_program.specs.Values as values
-use Rattle.routes.specs.Routes.{Transfer, Routes, NoRoute, AndRoute}
+use Rattle.routes.specs.Routes.{Transfer, Routes, AndRoute}
 use Rattle.routes.specs.Running.{Course, Went, Flow, course_of, after}
 use Rattle.efl_routes.specs.Expressions.{sets, site_formula, ScalarSite}
 use Rattle.efl_routes.specs.Statements.{Around, made_if_any, unit_par, read_entries, store_routes, TakenFit}

@@ -10,6 +10,7 @@ use Rattle.rule_table.specs.Words.{is_some_and}
 use Rattle.f66_tree.specs.Syntax.{Header, MainUnit, SubUnit, FuncUnit, DataUnit, Act, When, Read, Write, Format, Line, Routine}
 use Rattle.f66_tree.specs.Units.{Note, Context, is_main, is_note, notes_of, format_of}
 use Rattle.f66_tree.specs.Execution.{has_label}
+use Rattle.f66_tree.proofs.Tries.{if_both}
 use Rattle.f66_names.specs.Rules.{breaks_name}
 use Rattle.f66_names.specs.BuiltActs.{is_built}
 use Rattle.f66_names.specs.Declaring.{context_by}
@@ -18,7 +19,6 @@ use Rattle.f66_flow.specs.Ranges.{named}
 use Rattle.f66_flow.specs.FlowRules.{breaks_flow, has_bad_label, leads_nowhere, leads_wrong, names_no_format}
 use Rattle.f66_flow.specs.declared.scope.Scope.TheVariants.{Whole}
 use Rattle.f66_soundness.specs.SoundUnits.{acts_in_unit, finds_format, IsSoundMain}
-use Rattle.f66_soundness.proofs.RightlyLemmas.{if_both}
 use Rattle.f66_soundness.proofs.SoundLemmas.{never_wrong_by_acts}
 use Rattle.f66_check.specs.CheckRules.{context_of, unbuilt_line}
 use Rattle.f66_check.specs.Answers.{IsSound}

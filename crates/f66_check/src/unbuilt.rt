@@ -13,6 +13,7 @@ use f66_tree::{Header, Stmt};
 use std::alloc::{AllocError, Global};
 use unit_rules::is_judged;
 
+/// Whether the unit is a main program.
 pub fn is_main(header: &Header) -> bool
     ensures { result ≡ is_main_header (header_of header.now) }
 {

@@ -13,16 +13,9 @@ use Rattle.f66_tree.specs.declared.expression.Operator.TheVariants.{Add, Sub, Mu
 use Rattle.f66_tree.specs.World.{Yields, Traps, then_try}
 use Rattle.f66_tree.specs.Units.{sizes_of, places_of, Spot, Held, Lent, Linkage}
 use Rattle.f66_tree.specs.Evaluation.{whole, on_whole, on_truth, operate, same_whole, opposite, denied, truth_in, Intrinsic, Iabs, Mod, Isign, Idim, Max0, Min0, farthest, excess, intrinsic, asked, distance, moved}
+use Rattle.f66_tree.proofs.Tries.{IsOfKind, TriesRightly, then_rightly, if_both}
 use Rattle.f66_names.specs.Sorts.{arity, takes_many}
 use Rattle.f66_names.specs.Kinds.{is_connective, operand, outcome}
-use Rattle.f66_soundness.specs.Rightly.{TriesRightly}
-use Rattle.f66_soundness.proofs.RightlyLemmas.{then_rightly, if_both}
-
--- a content of a type
-abbrev pub IsOfKind : Kind → Content → Type 0
-IsOfKind Integer (Whole z) = ⊤
-IsOfKind Logical (Truth b) = ⊤
-IsOfKind _ _ = ⊥
 
 abbrev pub AllWhole : List Content → Type 0
 AllWhole [] = ⊤

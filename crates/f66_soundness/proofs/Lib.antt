@@ -4,7 +4,6 @@ pub mod KindLemmas
 pub mod ContentLemmas
 pub mod ValueLemmas
 pub mod StatementLemmas
-pub mod EditLemmas
 pub mod RecordLemmas
 pub mod RunLemmas
 pub mod SoundLemmas

@@ -1,33 +1,50 @@
 -- In a main unit a READ or WRITE that the rules let pass, by a FORMAT that is there, never ends Wrong, whatever its list is: items,
 -- whole arrays and implied DOs.
 use Rattle.std.proofs.Common.{◌≡◌, ℕ, zero, suc, ◌+◌, Bool, true, false, List, [], ◌∷◌, length, sym, subst}
-use Rattle.std.specs.Prelude.{ℤ, is_some, not, ◌||◌, pos, negsuc, ◌*◌, ⊤}
+use Rattle.std.specs.Prelude.{ℤ, is_some, not, ◌||◌, pos, negsuc, ◌*◌, ⊤, int_le, ◌&&◌}
 use Rattle.std.proofs.lemmas.Bool.{and_parts, or_parts}
 use Rattle.ground.specs.declared.value.Kind.{Kind}
 use Rattle.ground.specs.declared.value.Kind.TheVariants.{Integer}
 use Rattle.ground.specs.Content.{Content, Whole}
+use Rattle.ground.specs.declared.trap.Trap.TheVariants.{BadUnit}
+use Rattle.ground.specs.declared.place.Place.{Place}
 use Rattle.f66_tree.specs.declared.editing.Way.{Way}
 use Rattle.f66_tree.specs.declared.editing.Way.TheVariants.{Reading, Writing}
 use Rattle.f66_tree.specs.Syntax.{Text, Formula, Ref, Item, Formulas, Par, Entry, One, Many, Entries, NoEntry, AndEntry}
-use Rattle.f66_tree.specs.World.{World, Out, Gives, Try, Yields, settle}
+use Rattle.f66_tree.specs.World.{World, Out, Gives, Try, Yields, settle, Tape, Move, Moves, Breaks, Misses, moving, Traps}
 use Rattle.f66_tree.specs.Records.{due, put, take, closed}
 use Rattle.f66_tree.specs.Units.{Context, kind_of, format_of, sizes_of, Spot, Held, Setting, Frame}
 use Rattle.f66_tree.specs.Evaluation.{ticked, load, par_in, pars_in, moved, locate}
-use Rattle.f66_tree.specs.Statements.{LoopParameters, loop_start, loop_turn, taped, taken_content, transfer, edited, row, times, extent, one_or_row, item, item_turns, items, entry, on_unit, opened_by, record_by}
+use Rattle.f66_tree.specs.Statements.{LoopParameters, loop_start, loop_turn, taped, taken_content, transfer, edited, row, times, extent, one_or_row, item, item_turns, items, entry, on_unit, opened_by, record_by, unit_for}
+use Rattle.f66_tree.proofs.EditLemmas.{MovesRightly, Awaits, due_rightly, put_rightly, take_rightly, opened_rightly, closed_rightly}
+use Rattle.f66_tree.proofs.Tries.{if_both, IsOfKind, TriesRightly, then_rightly}
 use Rattle.f66_names.specs.Shapes.{is_item, are_items, are_some_items}
 use Rattle.f66_names.specs.Sorts.{name_form, is_array_name, is_integer}
 use Rattle.f66_names.specs.Uses.{many, uses_of_entry, uses_of_entries}
 use Rattle.f66_names.specs.Kinds.{are_subscripts, is_counting, is_listed, counts, is_entry, are_entries}
 use Rattle.f66_names.specs.NameRules.{miscounts}
 use Rattle.f66_names.specs.StoreRules.{stores_item, stores_entry, store_entries}
-use Rattle.f66_soundness.specs.Rightly.{NeverWrong, TriesRightly}
+use Rattle.f66_soundness.specs.Rightly.{NeverWrong, Rightly}
 use Rattle.f66_soundness.specs.SoundUnits.{in_main}
-use Rattle.f66_soundness.proofs.RightlyLemmas.{bind_rightly, bind_any, then_rightly, settle_here, settle_rightly, choose_rightly}
+use Rattle.f66_soundness.proofs.RightlyLemmas.{bind_rightly, bind_any, settle_here, settle_rightly, choose_rightly}
 use Rattle.f66_soundness.proofs.KindLemmas.{none_of_both}
-use Rattle.f66_soundness.proofs.ContentLemmas.{IsOfKind, AllWhole, AreWhole, asked_rightly, moved_rightly}
+use Rattle.f66_soundness.proofs.ContentLemmas.{AllWhole, AreWhole, asked_rightly, moved_rightly}
 use Rattle.f66_soundness.proofs.ValueLemmas.{FitSizes, Main, setting_of, FitCounts, pars_rightly}
 use Rattle.f66_soundness.proofs.StatementLemmas.{stored_takes, store_rightly, par_rightly, place_rightly, start_rightly, turn_rightly}
-use Rattle.f66_soundness.proofs.EditLemmas.{Awaits, taped_rightly, due_rightly, put_rightly, take_rightly, opened_rightly, closed_rightly, unit_rightly}
+
+-- ---- a step with the records ----
+
+taped_rightly : (P : Tape → Type 0) (p : Place) (h : Tape → Move) (w : World) → MovesRightly P (h w.state.tape) → Rightly (λ _ v. P v.state.tape) (taped p h w)
+taped_rightly P p h w i = by_move (h w.state.tape) i
+  where
+    by_move : (step : Move) → MovesRightly P step → Rightly (λ _ v. P v.state.tape) (moving p step w)
+    by_move (Moves t) k = k
+    by_move (Breaks e t) k = tt
+    by_move Misses k = k
+
+unit_rightly : (way : Way) (v : Content) → IsOfKind Integer v → TriesRightly (λ _. ⊤) (on_unit way v)
+unit_rightly way (Whole z) h = if_both (TriesRightly (λ _. ⊤)) (int_le z (unit_for way) && int_le (unit_for way) z) (Yields tt) (Traps BadUnit) tt tt
+unit_rightly way _ h = absurd h
 
 -- ---- lists ----
 

@@ -1,9 +1,9 @@
 -- What never goes wrong stays so where one part of a run follows another.
 use Rattle.std.proofs.Common.{◌≡◌, Bool, true, false, refl}
-use Rattle.std.specs.Prelude.{if◌then◌else◌}
 use Rattle.ground.specs.declared.place.Place.{Place}
-use Rattle.f66_tree.specs.World.{World, Out, Gives, Halts, bind, Try, Yields, Traps, Fails, then_try, settle, choose}
-use Rattle.f66_soundness.specs.Rightly.{Rightly, TriesRightly, NeverWrong}
+use Rattle.f66_tree.specs.World.{World, Out, Gives, Halts, bind, Try, Yields, Traps, Fails, settle, choose}
+use Rattle.f66_tree.proofs.Tries.{TriesRightly}
+use Rattle.f66_soundness.specs.Rightly.{Rightly, NeverWrong}
 
 pub bind_rightly : {A B : Type 0} (P : A → World → Type 0) (Q : B → World → Type 0) (o : Out A) (g : A → World → Out B) → Rightly P o → ((a : A) (w : World) → P a w → Rightly Q (g a w)) → Rightly Q (bind o g)
 bind_rightly P Q (Gives a w) g h k = k a w h
@@ -20,11 +20,6 @@ settle_rightly P p (Yields a) w h = h
 settle_rightly P p (Traps t) w h = tt
 settle_rightly P p Fails w h = h
 
-pub then_rightly : {A B : Type 0} (P : A → Type 0) (Q : B → Type 0) (t : Try A) (g : A → Try B) → TriesRightly P t → ((a : A) → P a → TriesRightly Q (g a)) → TriesRightly Q (then_try t g)
-then_rightly P Q (Yields a) g h k = k a h
-then_rightly P Q (Traps t) g h k = tt
-then_rightly P Q Fails g h k = h
-
 -- where the result is not asked for
 pub bind_any : {A B : Type 0} (Q : B → World → Type 0) (o : Out A) (g : A → World → Out B) → NeverWrong o → ((a : A) (w : World) → Rightly Q (g a w)) → Rightly Q (bind o g)
 bind_any Q (Gives a w) g h k = k a w
@@ -33,7 +28,3 @@ bind_any Q (Halts e w) g h k = h
 pub choose_rightly : {A : Type 0} (P : A → World → Type 0) (b : Bool) (x y : Out A) → Rightly P x → Rightly P y → Rightly P (choose b x y)
 choose_rightly P true x y h k = h
 choose_rightly P false x y h k = k
-
-pub if_both : {X : Type 0} (P : X → Type 0) (b : Bool) (x y : X) → P x → P y → P (if b then x else y)
-if_both P true x y h k = h
-if_both P false x y h k = k

@@ -2,7 +2,6 @@
 use Rattle.std.proofs.Common.{◌≡◌, ℕ, zero, suc, true, false, List, [], ◌∷◌, ◌++◌, length, Option, Some, None}
 use Rattle.std.specs.Prelude.{nat_eq, is_some, not, ◌&&◌, ⊤}
 use Rattle.std.proofs.lemmas.Bool.{and_parts, or_parts, not-false}
-use Rattle.ground.specs.declared.value.Kind.TheVariants.{Logical}
 use Rattle.f66_tree.specs.declared.editing.Way.{Way}
 use Rattle.f66_tree.specs.declared.editing.Way.TheVariants.{Reading, Writing}
 use Rattle.f66_tree.specs.Syntax.{Text, Formula, Par, Entries, Act, Assign, Goto, Computed, Sign, When, Loop, Invoke, Continue, Stop, Return, Read, Write, Format, Typed, Dimension, Common, Equivalence, Preset, Line}
@@ -12,6 +11,7 @@ use Rattle.f66_tree.specs.Evaluation.{sort_of, asks}
 use Rattle.f66_tree.specs.Statements.{Exit, Normal, To, Back, loop_start, loop_turn, record_by, does}
 use Rattle.f66_tree.specs.Execution.{runnable, has_label, from_label, Progress, begun, Stand, stand, Closer, closer_of, closers, closers_at, Onward, close, leads, perform, fetch, target, exec, nowhere, no_loops}
 use Rattle.f66_tree.specs.OneUnit.{one_unit}
+use Rattle.f66_tree.proofs.Tries.{if_both}
 use Rattle.f66_names.specs.Shapes.{stands, is_parameter, are_items, is_branch, has_shape}
 use Rattle.f66_names.specs.Uses.{uses_of, uses_of_par, uses_of_target, uses_of_entries, uses_in}
 use Rattle.f66_names.specs.Sorts.{is_foreign, is_integer}
@@ -21,7 +21,7 @@ use Rattle.f66_names.specs.StoreRules.{store_entries, stores_wrong}
 use Rattle.f66_names.specs.BuiltActs.{is_built_form}
 use Rattle.f66_soundness.specs.Rightly.{NeverWrong}
 use Rattle.f66_soundness.specs.SoundUnits.{in_main, finds_format}
-use Rattle.f66_soundness.proofs.RightlyLemmas.{bind_any, choose_rightly, if_both}
+use Rattle.f66_soundness.proofs.RightlyLemmas.{bind_any, choose_rightly}
 use Rattle.f66_soundness.proofs.KindLemmas.{none_of_both}
 use Rattle.f66_soundness.proofs.ValueLemmas.{FitSizes, Main, setting_of, FitCounts, asks_rightly}
 use Rattle.f66_soundness.proofs.StatementLemmas.{assigns_rightly, selects_rightly, signs_rightly, start_rightly, turn_rightly}

@@ -13,6 +13,7 @@ use Rattle.f66_tree.specs.Units.{Note, Context, is_note, notes_of, if_any, sizes
 use Rattle.f66_tree.specs.Evaluation.{array_or, sort_of}
 use Rattle.f66_tree.specs.Execution.{nowhere, first_state, no_loops}
 use Rattle.f66_tree.specs.OneUnit.{one_unit}
+use Rattle.f66_tree.proofs.Tries.{if_both}
 use Rattle.f66_names.specs.BuiltActs.{is_built_form}
 use Rattle.f66_names.specs.Declaring.{noted, context_by}
 use Rattle.f66_names.specs.StoreRules.{is_bad_size, has_bad_size, has_bad_constant}
@@ -20,7 +21,6 @@ use Rattle.f66_names.specs.Sorts.{is_other, is_foreign, is_dummy, is_counter}
 use Rattle.f66_names.specs.NameRules.{gives_other}
 use Rattle.f66_soundness.specs.Rightly.{IsRightEnd, NeverWrong}
 use Rattle.f66_soundness.specs.SoundUnits.{acts_in_unit, main_context, IsSoundMain, RunsRightly, SoundNeverWrong, SoundByActs}
-use Rattle.f66_soundness.proofs.RightlyLemmas.{if_both}
 use Rattle.f66_soundness.proofs.ValueLemmas.{is_unfit, FitSizes}
 use Rattle.f66_soundness.proofs.RunLemmas.{FitAct, FitLines, exec_rightly}
 

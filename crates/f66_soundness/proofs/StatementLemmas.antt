@@ -1,5 +1,5 @@
 -- In a main unit each plain statement that the rules let pass, the start and the turn of a DO among them, never ends Wrong.
-use Rattle.std.proofs.Common.{◌≡◌, ℕ, zero, suc, Bool, true, false, List, [], ◌∷◌, Option, Some, None, refl, subst, ⊎_elim}
+use Rattle.std.proofs.Common.{◌≡◌, ℕ, zero, suc, Bool, true, false, List, [], ◌∷◌, subst, ⊎_elim}
 use Rattle.std.specs.Prelude.{pos, negsuc, ◌+ℤ◌, int_le, not, ◌&&◌, ◌||◌, ⊤}
 use Rattle.std.proofs.lemmas.Bool.{and_parts, or_parts, or_cases, not-false, eqb-true}
 use Rattle.ground.specs.declared.trap.Trap.TheVariants.{BadDo}
@@ -11,6 +11,7 @@ use Rattle.f66_tree.specs.World.{Store, World, Gives, bind, Yields, Traps, settl
 use Rattle.f66_tree.specs.Units.{Context, kind_of, sizes_of, Spot, Held, Lent, Linkage, Setting, Frame}
 use Rattle.f66_tree.specs.Evaluation.{Sort, AnArray, AnIntrinsic, AFunction, sort_of, ticked, load, store_at, stored, variable_in, par_in, place_by, value_of, values_of, locate}
 use Rattle.f66_tree.specs.Statements.{Normal, To, LoopParameters, fit_loop_in, loop_start, turn_of, loop_turn, nth, label_at, by_sign_of}
+use Rattle.f66_tree.proofs.Tries.{IsOfKind, TriesRightly, if_both}
 use Rattle.f66_names.specs.declared.name_form.NameForm.{NameForm}
 use Rattle.f66_names.specs.declared.name_form.NameForm.TheVariants as forms
 use Rattle.f66_names.specs.declared.name_form.Manner.TheVariants.{Stored}
@@ -19,11 +20,11 @@ use Rattle.f66_names.specs.Uses.{many, uses_of, uses_of_all, uses_of_target}
 use Rattle.f66_names.specs.Kinds.{fits, are_subscripts, takes_kind, assigns, is_counting}
 use Rattle.f66_names.specs.NameRules.{miscounts_by}
 use Rattle.f66_names.specs.StoreRules.{is_assignable}
-use Rattle.f66_soundness.specs.Rightly.{Rightly, NeverWrong, TriesRightly}
+use Rattle.f66_soundness.specs.Rightly.{Rightly, NeverWrong}
 use Rattle.f66_soundness.specs.SoundUnits.{in_main}
-use Rattle.f66_soundness.proofs.RightlyLemmas.{bind_rightly, bind_any, settle_rightly, if_both}
+use Rattle.f66_soundness.proofs.RightlyLemmas.{bind_rightly, bind_any, settle_rightly}
 use Rattle.f66_soundness.proofs.KindLemmas.{integer_only, subscripts_whole}
-use Rattle.f66_soundness.proofs.ContentLemmas.{IsOfKind, AreWhole}
+use Rattle.f66_soundness.proofs.ContentLemmas.{AreWhole}
 use Rattle.f66_soundness.proofs.ValueLemmas.{FitSort, array_fit, Main, setting_of, FitCounts, load_rightly, variable_rightly, element_rightly, value_rightly, values_rightly}
 
 stored_rightly : (l : Linkage) (p : Spot) (v : Content) (st : Store) → TriesRightly (λ _. ⊤) (stored l p v st)

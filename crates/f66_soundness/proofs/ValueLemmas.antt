@@ -1,6 +1,6 @@
 -- In a main unit an expression that has a type, with as many subscripts and arguments as its names take, gives a content of
 -- that type, or ends otherwise, but never Wrong.
-use Rattle.std.proofs.Common.{◌≡◌, ◌+◌, ℕ, Bool, true, false, true≢false, List, [], ◌∷◌, length, Some, refl, sym, ◌∙◌, subst, arith, ⊎_elim}
+use Rattle.std.proofs.Common.{◌≡◌, ◌+◌, ℕ, Bool, true, false, true≢false, List, [], ◌∷◌, length, refl, sym, ◌∙◌, subst, arith, ⊎_elim}
 use Rattle.std.specs.Prelude.{pos, int_le, ◌&&◌, if◌then◌else◌, ⊤}
 use Rattle.std.specs.List.{list_any}
 use Rattle.std.proofs.lemmas.Bool.{and_parts, or_parts, or_cases, not-false, eqb-true}
@@ -18,11 +18,12 @@ use Rattle.f66_names.specs.Uses.{Usage, many, uses_of, uses_of_all}
 use Rattle.f66_names.specs.Kinds.{same_kind, may_be, operand, outcome, applied, fits, are_subscripts, are_integers}
 use Rattle.f66_names.specs.NameRules.{miscounts, miscounts_by}
 use Rattle.f66_soundness.specs.SoundUnits.{in_main}
-use Rattle.f66_soundness.specs.Rightly.{Rightly, NeverWrong, TriesRightly}
+use Rattle.f66_soundness.specs.Rightly.{Rightly, NeverWrong}
 use Rattle.f66_soundness.proofs.RightlyLemmas.{bind_rightly, bind_any, settle_rightly}
 use Rattle.f66_soundness.proofs.KindLemmas.{same_is, none_of_both, subscripts_whole}
-use Rattle.f66_soundness.proofs.ContentLemmas.{IsOfKind, AreWhole, asked_rightly, operate_rightly, same_rightly, opposite_rightly, denied_rightly, truth_rightly, intrinsic_rightly, distance_rightly, moved_rightly}
+use Rattle.f66_soundness.proofs.ContentLemmas.{AreWhole, asked_rightly, operate_rightly, same_rightly, opposite_rightly, denied_rightly, truth_rightly, intrinsic_rightly, distance_rightly, moved_rightly}
 use Rattle.f66_tree.specs.Syntax as f66
+use Rattle.f66_tree.proofs.Tries.{IsOfKind, TriesRightly}
 
 -- the dimensions of an array are constants above zero
 abbrev pub is_unfit : Par → Bool

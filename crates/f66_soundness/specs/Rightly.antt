@@ -1,6 +1,6 @@
 -- What never goes wrong: a part of a run that gives something, goes on, or ends in any way but Wrong.
 use Rattle.std.specs.Prelude.{⊤}
-use Rattle.f66_tree.specs.World.{World, Wrong, End, Ended, Out, Gives, Halts, Try, Yields, Traps, Fails}
+use Rattle.f66_tree.specs.World.{World, Wrong, End, Ended, Out, Gives, Halts}
 
 abbrev pub IsRightEnd : End → Type 0
 IsRightEnd (Ended Wrong) = ⊥
@@ -10,12 +10,6 @@ IsRightEnd e = ⊤
 abbrev pub Rightly : {A : Type 0} → (A → World → Type 0) → Out A → Type 0
 Rightly P (Gives a w) = P a w
 Rightly P (Halts e w) = IsRightEnd e
-
--- an operation yields what P says, or traps
-abbrev pub TriesRightly : {A : Type 0} → (A → Type 0) → Try A → Type 0
-TriesRightly P (Yields a) = P a
-TriesRightly P (Traps t) = ⊤
-TriesRightly P Fails = ⊥
 
 -- no end is Wrong
 abbrev pub NeverWrong : {A : Type 0} → Out A → Type 0

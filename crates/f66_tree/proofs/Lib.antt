@@ -11,6 +11,11 @@ pub mod RelatedRuns
 pub mod AnyNames
 pub mod Grows
 pub mod Longer
+pub mod Wide
+pub mod Tries
+pub mod EditLemmas
+pub mod Comes
+pub mod ListNumbers
 pub mod PlacesAlone
 pub mod UnaskedRuns
 pub mod ExampleParts

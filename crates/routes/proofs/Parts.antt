@@ -12,11 +12,12 @@ use Rattle.f66_tree.specs.Records.{closed}
 use Rattle.f66_tree.specs.Evaluation.{par_in, asks}
 use Rattle.f66_tree.specs.Statements.{Exit, Normal, To, Back, does, opened_by, taped, items, on_unit, record_by}
 use Rattle.f66_tree.specs.Execution.{no_loops, from_label, leads, exec}
+use Rattle.f66_tree.proofs.Comes.{at, still, Part, comes_here, comes_on, one, none_begun}
 use Rattle.routes.specs.Running.{Went, Jumps, Backs, Leave, Flow, course_of, plain_route, transferred}
 use Rattle.routes.specs.Code.{Behind, label_behind, transfer}
 use Rattle.routes.specs.Placed.{IsPlain}
-use Rattle.routes.proofs.Tracks.{at, still, T, same_fuel, track_asks, track_does}
-use Rattle.routes.proofs.Follows.{Part, comes_here, comes_on, one, none_begun, Run, Under, Follows, first, bind_follows, past_jump}
+use Rattle.routes.proofs.Tracks.{T, same_fuel, track_asks, track_does}
+use Rattle.routes.proofs.Follows.{Run, Under, Follows, first, bind_follows, past_jump}
 
 module _ (l : Linkage) (codes : ℕ → List Line) (f : Frame) (b : ℕ) (call : ℕ → List Spot → World → Out ⊤) (called : (v : ℕ) (ps : List Spot) → T ℕ same_fuel b ⊤ (λ i. (Under l codes f i).call v ps) (call v ps)) where
   -- the setting of the routes

@@ -8,13 +8,14 @@ use Rattle.f66_tree.specs.Syntax.{Act, Assign, Goto, Computed, Sign, When, Loop,
 use Rattle.f66_tree.specs.World.{State, World, counted, GoesOn, Out, Gives, Halts}
 use Rattle.f66_tree.specs.Units.{Spot, Linkage, Setting, Frame}
 use Rattle.f66_tree.specs.Execution.{runnable, from_label, closers, fetch, exec, no_loops}
+use Rattle.f66_tree.proofs.Comes.{at, Part, Comes, comes_here}
 use Rattle.routes.specs.Routes.{Route, Plain, BreakIf, Break, Ring, Cycle, Block, InTurn, Labelled, Transfer, Routes, NoRoute, AndRoute}
 use Rattle.routes.specs.Running as running
-use Rattle.routes.specs.Running.{Went, Jumps, Backs, Leave, Flow, Continuation, then_do, ringed, cycles, stays, has_own_label, stands, landed}
+use Rattle.routes.specs.Running.{Went, Jumps, Backs, Leave, Flow, then_do, ringed, cycles, stays, has_own_label, stands, landed}
 use Rattle.routes.specs.Code.{Behind, jump, here, labels, all_labels, code_of, all_code}
 use Rattle.routes.specs.Placed.{IsPlain, Placed, AllPlaced}
-use Rattle.routes.proofs.Tracks.{at, T, same_fuel}
-use Rattle.routes.proofs.Follows.{Part, Comes, comes_here, Run, Under, Follows, first, weaker, then_follows, past_jump, past_here, ringed_follows}
+use Rattle.routes.proofs.Tracks.{T, same_fuel}
+use Rattle.routes.proofs.Follows.{Run, Under, Follows, first, weaker, then_follows, past_jump, past_here, ringed_follows}
 use Rattle.routes.proofs.Parts.{Src, plain_follows, quits_follow, transfers_follow}
 
 -- statements of which one is executed

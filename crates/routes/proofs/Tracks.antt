@@ -14,15 +14,7 @@ use Rattle.f66_tree.specs.Statements.{Exit, LoopParameters, loop_turn, taped, ta
 use Rattle.f66_tree.proofs.Posts.{IfGives, post_any}
 use Rattle.f66_tree.proofs.Related.{Sides, side1, side2, Frames, one, two, Good, Holds, plainly, however_used, does_holds, asks_hold, turn_holds, same_names}
 use Rattle.f66_tree.proofs.AnyNames.{Any, AnySpot, any_names, any_act, any_fair, any_scope}
-
-abbrev pub at : State → ℕ → ℕ → World
-at s k c = record { state = s; left = k; count = c }
-
-pub still : (s : State) (k c : ℕ) → at s (0 + k) c ≡ at s k (c + 0)
-still s k c =
-    let e : 0 + k ≡ k = omega arith in
-    let g : c ≡ c + 0 = omega arith in
-    ap (λ n. at s n c) e ∙ ap (λ n. at s k n) g
+use Rattle.f66_tree.proofs.Comes.{at, still}
 
 module _ (I : Type 0) (bound : I → ℕ) where
   -- a part t of the target's run, by what bounds its fuel, follows a part of the source's, which gave o

@@ -1,20 +1,18 @@
 -- A program's units do what their routes do, called as deep as they may be, and so does the whole program.
-use Rattle.std.proofs.Common.{◌≡◌, true, false, Bool, ℕ, zero, suc, ◌+◌, ◌≤◌, ◌<◌, List, [], ◌∷◌, None, refl, sym, ap, ◌∙◌, subst, arith}
+use Rattle.std.proofs.Common.{◌≡◌, true, false, Bool, ℕ, zero, suc, ◌+◌, ◌<◌, List, [], None, refl, sym, ap, ◌∙◌, subst, arith}
 use Rattle.std.specs.Prelude.{⊤}
 use Rattle.ground.specs.declared.place.Place.{Place}
-use Rattle.f66_tree.specs.Syntax.{Stop, Return, Line, unlabelled_line}
-use Rattle.f66_tree.specs.World.{Record, State, World, counted, Finish, End, Ended, GoesOn, Lost, Out, Gives, Halts, bind, Shown, shown}
-use Rattle.f66_tree.specs.Units.{is_main, Spot, Linkage, Frame, moved_to}
+use Rattle.f66_tree.specs.Syntax.{Line}
+use Rattle.f66_tree.specs.World.{Record, State, World, counted, Finish, End, Ended, GoesOn, Lost, Out, Gives, Halts, bind, shown}
+use Rattle.f66_tree.specs.Units.{is_main, Spot, Frame, moved_to}
 use Rattle.f66_tree.specs.Statements.{returned}
-use Rattle.f66_tree.specs.Execution.{runnable, closers, fetch, leads, exec, no_loops, stand, nowhere, first_state, past_end, f66}
-use Rattle.f66_tree.specs.Agreement.{Same}
-use Rattle.routes.specs.Routes.{Routes}
+use Rattle.f66_tree.specs.Execution.{fetch, leads, exec, no_loops, stand, nowhere, first_state, past_end, f66}
+use Rattle.f66_tree.proofs.Comes.{at, Part}
 use Rattle.routes.specs.Running.{Went, Jumps, Backs, Leave, Flow, all_running, ended_by, routes_call, routed}
 use Rattle.routes.specs.Code.{all_code}
-use Rattle.routes.specs.Placed.{AllPlaced}
 use Rattle.routes.specs.Units.{ending, Units, Reaches}
-use Rattle.routes.proofs.Tracks.{at, Tracks, T, same_fuel, same_tracks}
-use Rattle.routes.proofs.Follows.{Part, Run, Under, Follows}
+use Rattle.routes.proofs.Tracks.{Tracks, T, same_fuel, same_tracks}
+use Rattle.routes.proofs.Follows.{Run, Under, Follows}
 use Rattle.routes.proofs.Routes.{Starts, body_right}
 
 ending_starts : (main : Bool) (p : Place) → Starts (ending main p)

@@ -5,7 +5,6 @@ use Rattle.std.specs.Prelude.{ℤ, pos, negsuc, ◌+ℤ◌, int_le, is_some, ◌
 use Rattle.std.proofs.lemmas.Bool.{true≢false, ltb-true, leb-true, and_parts}
 use Rattle.std.proofs.lemmas.Option.{slice_get_within, same_Some}
 use Rattle.ground.specs.declared.place.Place.{Place}
-use Rattle.ground.specs.declared.trap.Trap.TheVariants.{BadBranch}
 use Rattle.ground.specs.declared.value.Kind.{Kind}
 use Rattle.ground.specs.declared.value.Kind.TheVariants.{Integer, Logical}
 use Rattle.ground.specs.Content.{Content, Nothing, Whole, Truth}
@@ -16,19 +15,21 @@ use Rattle.f66_tree.specs.World.{State, World, Out, Gives, Halts, bind, Yields, 
 use Rattle.f66_tree.specs.Evaluation.{operate, distance}
 use Rattle.f66_tree.specs.Statements.{LoopParameters, fit_loop_in, extent, on_unit, unit_for, opened_by}
 use Rattle.f66_tree.specs.Records.{closed}
+use Rattle.f66_tree.proofs.Tries.{IsOfKind, TriesRightly}
+use Rattle.f66_tree.proofs.EditLemmas.{opened_rightly, closed_rightly}
 use Rattle.stack_code.specs.declared.shape.EntryKind.{EntryKind}
 use Rattle.stack_code.specs.declared.shape.EntryKind.TheVariants.{Int, Log, Spot}
 use Rattle.stack_code.specs.declared.fact.Fact.{Fact}
 use Rattle.stack_code.specs.Instructions as i
 use Rattle.stack_code.specs.Instructions.{Instruction}
 use Rattle.stack_code.specs.StackMachine as sm
-use Rattle.stack_code.specs.StackMachine.{Entry, Val, At, Frame, Caller, Core, Program, act, step, exec, next, jump, entered, dummy, store, load, shift, nth, target_at}
-use Rattle.stack_code.specs.ValidCode.{Open, and_then, pop, pops, onto, entry_kind, content_kind, effect, taken, reshaped, allows, opens, after, ways, root, IsIn, Leads, Finds, IsReached, HasDepths, IsValid, is_none, is_small, is_in_range, is_logical, is_relation, takes}
+use Rattle.stack_code.specs.StackMachine.{Entry, Val, At, Caller, Core, Program, act, step, exec, next, jump, dummy, store, load, nth, target_at}
+use Rattle.stack_code.specs.ValidCode.{Open, and_then, pop, pops, onto, entry_kind, effect, taken, reshaped, allows, after, ways, root, IsIn, IsReached, IsValid, is_none, is_in_range, takes}
 use Rattle.stack_code.specs.Bounds.{HasBounds}
 use Rattle.stack_code.specs.Safety.{IsRight, IsRightEnd, IsWithin, AllWithin, IsSafe, ValidIsSafe}
-use Rattle.stack_code.proofs.SafeLemmas.{some_then, behind, Suits, Matches, AllWhole, SpotsWithin, int_right, log_right, spot_right, value_right, values_right, spots_right, TriesRight, settle_right, bind_right, IsInt, IsLog, arithmetic_right, relation_right, logic_right}
-use Rattle.stack_code.proofs.SafeOps.{known_right, distance_right, element_right, extent_right, IsOf, load_right, store_right}
-use Rattle.stack_code.proofs.SafeRecords.{opened_rightly, closed_rightly, moving_right, edited_right, row_right}
+use Rattle.stack_code.proofs.SafeLemmas.{some_then, behind, Suits, Matches, AllWhole, SpotsWithin, int_right, log_right, spot_right, value_right, values_right, spots_right, settle_right, bind_right, IsInt, IsLog, arithmetic_right, relation_right, logic_right}
+use Rattle.stack_code.proofs.SafeOps.{known_right, distance_right, element_right, extent_right, load_right, store_right}
+use Rattle.stack_code.proofs.SafeRecords.{moving_right, edited_right, row_right}
 
 only : {A : Type 0} (o : Option A) (r : A) → and_then o (λ t. Some t) ≡ Some r → o ≡ Some r
 only None r e = e
@@ -55,28 +56,28 @@ second_way n m ns = record { index = 1; is = refl }
 third_way : (n m k : ℕ) (ns : List ℕ) → IsIn n (m ∷ k ∷ n ∷ ns)
 third_way n m k ns = record { index = 2; is = refl }
 
-nth_right : (ts all : List ℕ) (n : ℕ) → ((t : ℕ) → IsIn t ts → IsIn t all) → TriesRight (λ t. IsIn t all) (nth ts n)
+nth_right : (ts all : List ℕ) (n : ℕ) → ((t : ℕ) → IsIn t ts → IsIn t all) → TriesRightly (λ t. IsIn t all) (nth ts n)
 nth_right [] all n h = tt
 nth_right (t ∷ ts) all zero h = h t (first_way t ts)
 nth_right (t ∷ ts) all (suc n) h = nth_right ts all n (λ x is. h x (record { index = suc is.index; is = is.is }))
 
-target_right : (ts : List ℕ) (z : ℤ) → TriesRight (λ t. IsIn t ts) (target_at ts (Whole z))
+target_right : (ts : List ℕ) (z : ℤ) → TriesRightly (λ t. IsIn t ts) (target_at ts (Whole z))
 target_right ts (pos zero) = tt
 target_right ts (pos (suc n)) = nth_right ts ts n (λ t is. is)
 target_right ts (negsuc n) = tt
 
-unit_by : (b : Bool) → TriesRight (λ (x : Unit {0}). Unit {0}) (cond b (Yields tt) (Traps Rattle.ground.specs.declared.trap.Trap.TheVariants.BadUnit))
+unit_by : (b : Bool) → TriesRightly (λ (x : Unit {0}). Unit {0}) (cond b (Yields tt) (Traps Rattle.ground.specs.declared.trap.Trap.TheVariants.BadUnit))
 unit_by true = tt
 unit_by false = tt
 
-unit_right : (way : Way) (z : ℤ) → TriesRight (λ (x : Unit {0}). Unit {0}) (on_unit way (Whole z))
+unit_right : (way : Way) (z : ℤ) → TriesRightly (λ (x : Unit {0}). Unit {0}) (on_unit way (Whole z))
 unit_right way z = unit_by (int_le z (unit_for way) && int_le (unit_for way) z)
 
-fit_by : (b : Bool) (k : LoopParameters) → TriesRight (λ (x : LoopParameters). Unit {0}) (cond b (Yields k) (Traps Rattle.ground.specs.declared.trap.Trap.TheVariants.BadDo))
+fit_by : (b : Bool) (k : LoopParameters) → TriesRightly (λ (x : LoopParameters). Unit {0}) (cond b (Yields k) (Traps Rattle.ground.specs.declared.trap.Trap.TheVariants.BadDo))
 fit_by true k = tt
 fit_by false k = tt
 
-fit_right : (a b d : ℤ) → TriesRight (λ (x : LoopParameters). Unit {0}) (fit_loop_in (Whole a) (Whole b) (Whole d))
+fit_right : (a b d : ℤ) → TriesRightly (λ (x : LoopParameters). Unit {0}) (fit_loop_in (Whole a) (Whole b) (Whole d))
 fit_right a b d = fit_by (int_le (pos 1) a && int_le a b && int_le (pos 1) d) (record { limit = b; step = d })
 
 plan_some : {A : Type 0} (xs : List A) (n : ℕ) → n < length xs → is_some (slice_get xs n) ≡ true
@@ -116,12 +117,12 @@ module _ (c : Program) (units top wide deep : ℕ) (v : IsValid c.code (length c
     goes q st place way m =
         record { entry = h.entry; steps = suc h.steps; fact = reshaped h.fact (effect instruction).gives open1 rest; below = h.below; reached = (s.pc, h.fact, h.reached, record { instruction = instruction; stands = stands; gives = gives; goes = way }); stack = m; spots = h.spots; count = h.count; under = h.under }
 
-  dummy_right : (n : ℕ) (ps : List sm.Spot) → SpotsWithin units ps → n < length ps → TriesRight (IsWithin units) (dummy n ps)
+  dummy_right : (n : ℕ) (ps : List sm.Spot) → SpotsWithin units ps → n < length ps → TriesRightly (IsWithin units) (dummy n ps)
   dummy_right n [] all lt = absurd (omega arith)
   dummy_right zero (p ∷ ps) all lt = all.0
   dummy_right (suc n) (p ∷ ps) all lt = dummy_right n ps all.1 (omega arith)
 
-  kind_suits : (k : Kind) (a : Content) → IsOf k a → Suits units (Val a) (entry_kind k)
+  kind_suits : (k : Kind) (a : Content) → IsOfKind k a → Suits units (Val a) (entry_kind k)
   kind_suits Integer (Whole z) h = tt
   kind_suits Integer (Truth x) h = absurd h
   kind_suits Integer Nothing h = absurd h
@@ -142,11 +143,11 @@ module _ (c : Program) (units top wide deep : ℕ) (v : IsValid c.code (length c
   as_rest : (st : List Entry) (a r : List EntryKind) (below : List Entry) → Prim.Path (Option (List EntryKind)) (Some a) (Some r) → Matches units st a below → Matches units st r below
   as_rest st a r below e m = subst (λ ks. Matches units st ks below) (same_Some _ _ e) m
 
-  two_ints : (s : Core) (w : World) (op : Operator) (shape r : List EntryKind) (below : List Entry) (R : Content → Type 0) → Matches units s.stack shape below → pops Int 2 shape ≡ Some r → ((x y : ℤ) → TriesRight R (operate op (Whole x) (Whole y))) → ((z : Content) (st : List Entry) → R z → Matches units st r below → Sound (next s (Val z ∷ st))) → IsRight Sound (sm.on_value w s.stack (λ y rest. sm.on_value w rest (λ x under. sm.pushed s under w (operate op x y))))
+  two_ints : (s : Core) (w : World) (op : Operator) (shape r : List EntryKind) (below : List Entry) (R : Content → Type 0) → Matches units s.stack shape below → pops Int 2 shape ≡ Some r → ((x y : ℤ) → TriesRightly R (operate op (Whole x) (Whole y))) → ((z : Content) (st : List Entry) → R z → Matches units st r below → Sound (next s (Val z ∷ st))) → IsRight Sound (sm.on_value w s.stack (λ y rest. sm.on_value w rest (λ x under. sm.pushed s under w (operate op x y))))
   two_ints s w op shape r below R m e try go =
       int_right units below Sound w 1 shape r s.stack _ m e (λ y st1 js m1 e1. int_right units below Sound w 0 js r st1 _ m1 e1 (λ x st2 ks m2 e2. settle_right R Sound s.frame.place (operate op (Whole x) (Whole y)) w _ (try x y) (λ z hz. go z st2 hz (as_rest st2 ks r below e2 m2))))
 
-  two_logs : (s : Core) (w : World) (op : Operator) (shape r : List EntryKind) (below : List Entry) → Matches units s.stack shape below → pops Log 2 shape ≡ Some r → ((x y : Bool) → TriesRight IsLog (operate op (Truth x) (Truth y))) → ((z : Content) (st : List Entry) → IsLog z → Matches units st r below → Sound (next s (Val z ∷ st))) → IsRight Sound (sm.on_value w s.stack (λ y rest. sm.on_value w rest (λ x under. sm.pushed s under w (operate op x y))))
+  two_logs : (s : Core) (w : World) (op : Operator) (shape r : List EntryKind) (below : List Entry) → Matches units s.stack shape below → pops Log 2 shape ≡ Some r → ((x y : Bool) → TriesRightly IsLog (operate op (Truth x) (Truth y))) → ((z : Content) (st : List Entry) → IsLog z → Matches units st r below → Sound (next s (Val z ∷ st))) → IsRight Sound (sm.on_value w s.stack (λ y rest. sm.on_value w rest (λ x under. sm.pushed s under w (operate op x y))))
   two_logs s w op shape r below m e try go =
       log_right units below Sound w 1 shape r s.stack _ m e (λ y st1 js m1 e1. log_right units below Sound w 0 js r st1 _ m1 e1 (λ x st2 ks m2 e2. settle_right IsLog Sound s.frame.place (operate op (Truth x) (Truth y)) w _ (try x y) (λ z hz. go z st2 hz (as_rest st2 ks r below e2 m2))))
 
@@ -217,7 +218,7 @@ module _ (c : Program) (units top wide deep : ℕ) (v : IsValid c.code (length c
       let m = pops_add Int n n (n + n) h.fact.shape a.0 refl a.1 in
       values_right units h.below Sound w n h.fact.shape m.0 s.stack [] _ h.stack m.1 tt (λ ds st1 hd ld m1. values_right units h.below Sound w n m.0 a.0 st1 [] _ m1 m.2 tt (λ is' st2 hi li m2. spot_right units h.below Sound w 0 a.0 r st2 _ m2 a.2 (λ p st3 js hp m3 e3. settle_right (IsWithin units) Sound s.frame.place _ w _ (element_right units (distance 1 is' ds) p hp (distance_right units 1 n is' ds hi hd (omega arith) (omega arith))) (λ q hq. goes s h (i.Element n) st o r al tk gv (s.pc + 1) (At q ∷ st3) s.frame.place (first_way _ _) (hq, as_rest st3 js r h.below e3 m3)))))
   act_right s h (i.Load k) w st o r al tk gv =
-      spot_right units h.below Sound w 0 h.fact.shape r s.stack _ h.stack tk (λ p st1 js hp m1 e1. settle_right (IsOf k) Sound s.frame.place (load k p w.state.store) w _ (load_right k p w.state.store) (λ a ha. goes s h (i.Load k) st o r al tk gv (s.pc + 1) (Val a ∷ st1) s.frame.place (first_way _ _) (kind_suits k a ha, as_rest st1 js r h.below e1 m1)))
+      spot_right units h.below Sound w 0 h.fact.shape r s.stack _ h.stack tk (λ p st1 js hp m1 e1. settle_right (IsOfKind k) Sound s.frame.place (load k p w.state.store) w _ (load_right k p w.state.store) (λ a ha. goes s h (i.Load k) st o r al tk gv (s.pc + 1) (Val a ∷ st1) s.frame.place (first_way _ _) (kind_suits k a ha, as_rest st1 js r h.below e1 m1)))
   act_right s h i.Store w st o r al tk gv =
       let a = some_then (Rattle.stack_code.specs.ValidCode.pop_value h.fact.shape) (λ t. pops Spot 1 t) r tk in
       value_right units h.below Sound w h.fact.shape a.0 s.stack _ h.stack a.1 (λ x st1 m1. spot_right units h.below Sound w 0 a.0 r st1 _ m1 a.2 (λ p st2 js hp m2 e2. settle_right (λ _. Unit {0}) Sound s.frame.place (store p x w.state.store) w _ (store_right p x w.state.store) (λ y hy. goes s h i.Store st o r al tk gv (s.pc + 1) st2 s.frame.place (first_way _ _) (as_rest st2 js r h.below e2 m2))))
@@ -264,7 +265,7 @@ module _ (c : Program) (units top wide deep : ℕ) (v : IsValid c.code (length c
   act_right s h (i.LoopTurn a d to) w st o r al tk gv =
       spot_right units h.below Sound w 0 h.fact.shape r s.stack _ h.stack tk (λ p st2 js hp m2 e2.
       let m3 = as_rest st2 js r h.below e2 m2 in
-      settle_right (IsOf Integer) Sound s.frame.place (load Integer p w.state.store) w _ (load_right Integer p w.state.store) (λ x hx. turn_right s to p st2 w _ x hx (goes s h (i.LoopTurn a d to) st o r al tk gv to st2 s.frame.place (second_way _ _ _) m3) (goes s h (i.LoopTurn a d to) st o r al tk gv (s.pc + 1) st2 s.frame.place (first_way _ _) m3)))
+      settle_right (IsOfKind Integer) Sound s.frame.place (load Integer p w.state.store) w _ (load_right Integer p w.state.store) (λ x hx. turn_right s to p st2 w _ x hx (goes s h (i.LoopTurn a d to) st o r al tk gv to st2 s.frame.place (second_way _ _ _) m3) (goes s h (i.LoopTurn a d to) st o r al tk gv (s.pc + 1) st2 s.frame.place (first_way _ _) m3)))
   act_right s h (i.Call to n) w st o r al tk gv =
       spots_right units h.below Sound w n h.fact.shape r s.stack [] _ h.stack tk tt (λ ps st1 hp len m1.
       let after1 = goes s h (i.Call to n) st o r al tk gv (s.pc + 1) st1 s.frame.place (first_way _ _) m1 in

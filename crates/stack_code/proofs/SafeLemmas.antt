@@ -11,6 +11,7 @@ use Rattle.f66_tree.specs.Evaluation.{whole, operate}
 use Rattle.ground.specs.declared.place.Place.{Place}
 use Rattle.ground.specs.Content.{Content, Nothing, Whole, Truth}
 use Rattle.f66_tree.specs.World.{World, Out, Gives, Halts, bind, Try, Yields, Traps, Fails, settle}
+use Rattle.f66_tree.proofs.Tries.{TriesRightly}
 use Rattle.stack_code.specs.declared.shape.EntryKind.{EntryKind}
 use Rattle.stack_code.specs.declared.shape.EntryKind.TheVariants.{Int, Log, Spot}
 use Rattle.stack_code.specs.declared.fact.Fact.{Fact}
@@ -134,12 +135,7 @@ module _ (units : ℕ) where
 
 -- ---- operations that don't fail ----
 
-abbrev pub TriesRight : {A : Type 0} → (A → Type 0) → Try A → Type 0
-TriesRight P (Yields a) = P a
-TriesRight P (Traps t) = Unit {0}
-TriesRight P Fails = ⊥
-
-pub settle_right : {A B : Type 0} (P : A → Type 0) (Q : B → Type 0) (p : Place) (t : Try A) (w : World) (g : A → World → Out B) → TriesRight P t → ((a : A) → P a → IsRight Q (g a w)) → IsRight Q (bind (settle p t w) g)
+pub settle_right : {A B : Type 0} (P : A → Type 0) (Q : B → Type 0) (p : Place) (t : Try A) (w : World) (g : A → World → Out B) → TriesRightly P t → ((a : A) → P a → IsRight Q (g a w)) → IsRight Q (bind (settle p t w) g)
 settle_right P Q p (Yields a) w g h go = go a h
 settle_right P Q p (Traps t) w g h go = tt
 settle_right P Q p Fails w g h go = absurd h
@@ -156,11 +152,11 @@ abbrev pub IsLog : Content → Type 0
 IsLog (Truth b) = Unit {0}
 IsLog _ = ⊥
 
-pub whole_right : (r : Result ℤ Trap) → TriesRight IsInt (whole r)
+pub whole_right : (r : Result ℤ Trap) → TriesRightly IsInt (whole r)
 whole_right (Ok z) = tt
 whole_right (Err t) = tt
 
-pub arithmetic_right : (op : Operator) → is_logical op ≡ false → is_relation op ≡ false → (a b : ℤ) → TriesRight IsInt (operate op (Whole a) (Whole b))
+pub arithmetic_right : (op : Operator) → is_logical op ≡ false → is_relation op ≡ false → (a b : ℤ) → TriesRightly IsInt (operate op (Whole a) (Whole b))
 arithmetic_right ops.Add x y a b = whole_right (sum a b)
 arithmetic_right ops.Sub x y a b = whole_right (difference a b)
 arithmetic_right ops.Mul x y a b = whole_right (product a b)
@@ -175,7 +171,7 @@ arithmetic_right ops.Gt x y a b = absurd (true≢false y)
 arithmetic_right ops.And x y a b = absurd (true≢false x)
 arithmetic_right ops.Or x y a b = absurd (true≢false x)
 
-pub relation_right : (op : Operator) → is_relation op ≡ true → (a b : ℤ) → TriesRight IsLog (operate op (Whole a) (Whole b))
+pub relation_right : (op : Operator) → is_relation op ≡ true → (a b : ℤ) → TriesRightly IsLog (operate op (Whole a) (Whole b))
 relation_right ops.Lt y a b = tt
 relation_right ops.Le y a b = tt
 relation_right ops.Eq y a b = tt
@@ -190,7 +186,7 @@ relation_right ops.Power y a b = absurd (true≢false (sym y))
 relation_right ops.And y a b = absurd (true≢false (sym y))
 relation_right ops.Or y a b = absurd (true≢false (sym y))
 
-pub logic_right : (op : Operator) → is_logical op ≡ true → (a b : Bool) → TriesRight IsLog (operate op (Truth a) (Truth b))
+pub logic_right : (op : Operator) → is_logical op ≡ true → (a b : Bool) → TriesRightly IsLog (operate op (Truth a) (Truth b))
 logic_right ops.And y a b = tt
 logic_right ops.Or y a b = tt
 logic_right ops.Add y a b = absurd (true≢false (sym y))

@@ -5,13 +5,18 @@ ghost use Rattle.stack_code.specs.ValidCode as valid;
 
 use crate::{EntryKind, Op};
 
-/// From the top down: any value, so many integers, truth values and spots; and what is pushed then.
+/// What is taken, in the order of these fields from the top down, and what is pushed then.
 #[derive(Clone, Copy)]
 pub struct Effect {
+    /// Whether a value of either type comes first.
     pub value: bool,
+    /// So many integers.
     pub ints: u32,
+    /// So many truth values.
     pub logs: u32,
+    /// So many spots.
     pub spots: u32,
+    /// The kind of what is pushed.
     pub gives: Option<EntryKind>,
 }
 

@@ -10,12 +10,14 @@ use crate::{Effect, EntryKind, Op, Shape};
 use f66_tree::Way;
 use std::alloc::{AllocError, Global};
 
-/// What holds at an instruction, whatever way leads there: the stack since its entry's beginning, how many dummies its
-/// frame has, and the plan and the way of the record statement that is open.
+/// What holds at an instruction, whatever way leads there.
 #[derive(Drop)]
 pub struct Fact {
+    /// The stack since its entry's beginning.
     pub shape: Shape,
+    /// How many dummies the frame has.
     pub count: u32,
+    /// The plan, by its number, and the way of the record statement that is open.
     pub format: Option<(u32, Way)>,
 }
 
@@ -31,6 +33,7 @@ impl Fact {
         }
     }
 
+    /// The same, in memory of its own.
     pub fn copy(&self) -> Result<Fact, AllocError>
         ensures { IfOk result (λ f. f ≡ self.now) }
     {
@@ -41,6 +44,7 @@ impl Fact {
         })
     }
 
+    /// Whether two ways that meet agree.
     pub fn is_same(&self, other: &Fact) -> bool
         ensures { IsTrue result ↔ self.now ≡ other.now }
     {

@@ -29,6 +29,7 @@ impl Model for Shape {
 }
 
 impl Shape {
+    /// The stack at an entry's beginning.
     pub fn new(alloc: Global) -> Shape
         ensures { result ≡ [] }
     {
@@ -37,6 +38,7 @@ impl Shape {
         }
     }
 
+    /// The same, in memory of its own.
     pub fn copy(&self) -> Result<Shape, AllocError>
         ensures { IfOk result (λ s. s ≡ self.now) }
     {
@@ -45,6 +47,7 @@ impl Shape {
         })
     }
 
+    /// One entry more on the top.
     pub fn push(&mut self, kind: EntryKind) -> Result<(), AllocError>
         ensures { OnOk result (self.new ≡ kind ∷ self.old) }
     {
@@ -52,24 +55,28 @@ impl Shape {
         Ok(())
     }
 
+    /// The top, taken off.
     pub fn pop(&mut self) -> Option<EntryKind>
         ensures { MatchOption result (self.old ≡ []) (λ kind. self.old ≡ kind ∷ self.new) }
     {
         self.kinds.pop()
     }
 
+    /// Whether both have the same kinds in the same order.
     pub fn is_same(&self, other: &Shape) -> bool
         ensures { IsTrue result ↔ self.now ≡ other.now }
     {
         are_same(&self.kinds, &other.kinds)
     }
 
+    /// So many entries.
     pub fn len(&self) -> usize
         ensures { result ≡ length self.now }
     {
         self.kinds.len()
     }
 
+    /// Whether nothing is on it since its entry's beginning.
     pub fn is_empty(&self) -> bool
         ensures { IsTrue result ↔ self.now ≡ [] }
     {

@@ -11,15 +11,20 @@ use format_io::Plan;
 use ground::{List, Memory};
 use std::alloc::{AllocError, Global};
 
-/// Valid code, with what its runs need: the greatest stack that an entry has of its own, the most dummies of a frame, and
-/// how deep calls go.
+/// Valid code, with what its runs need.
 #[derive(Drop)]
 pub struct Code {
+    /// The instructions; a place in them is their number from 0.
     pub ops: List<Op>,
+    /// The formats.
     pub plans: List<Plan>,
+    /// So many storage units.
     pub units: u32,
+    /// The greatest stack that an entry has of its own.
     pub stack: usize,
+    /// The most dummies of a frame.
     pub dummies: u32,
+    /// How deep calls go.
     pub depth: usize,
 }
 

@@ -41,6 +41,7 @@ pub fn formulas_have(ask: Asked, list: &[Expr]) -> bool
     false
 }
 
+/// Whether a parameter has what is asked for.
 pub fn par_has(ask: Asked, par: &Par) -> bool
     ensures { result ≡ par_has (asked_of ask) (par_of par.now) }
 {

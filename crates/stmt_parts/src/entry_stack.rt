@@ -51,6 +51,7 @@ pub enum Stage {
 }
 
 impl Lists {
+    /// No list is begun.
     pub fn new(alloc: Global) -> Lists
         ensures here { entries_in result.here ≡ [] }
         ensures around { around_onto result.around.items [] ≡ [] }

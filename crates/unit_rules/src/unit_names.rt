@@ -16,7 +16,9 @@ use std::collections::HashMap;
 /// (X3.9-1966, section 10.1).
 #[derive(Drop)]
 pub struct UnitNames<'a> {
+    /// What the declarations say.
     pub declarations: Declarations<'a>,
+    /// The first class of each name.
     pub roles: HashMap<&'a [u8], Role>,
     ghost roles_are: { (q : List ℕ) → get_by (λ k. bytes_eq q k.now) roles ≡ role_of (context_in declarations) (acts_in declarations) q } by { Prim.hlevel props },
 }

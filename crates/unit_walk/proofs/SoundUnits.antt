@@ -14,7 +14,7 @@ use Rattle.f66_tree.specs.Evaluation.{Sort, AnArray, AnIntrinsic, AFunction, Int
 use Rattle.f66_tree.specs.Built.{is_par}
 use Rattle.f66_names.specs.Declaring.{context_by}
 use Rattle.f66_names.specs.Shapes as shapes
-use Rattle.f66_names.specs.Shapes.{stands, stand_all, are_arguments, is_named, is_place, is_parameter, is_branch, has_shape}
+use Rattle.f66_names.specs.Shapes.{stands, stand_all, are_arguments, is_place, is_parameter, is_branch, has_shape}
 use Rattle.f66_names.specs.Sorts.{form_by, name_form, is_array_name, is_dummy, takes}
 use Rattle.f66_names.specs.Kinds as kind_rules
 use Rattle.f66_names.specs.Kinds.{is_listed, clashes}
@@ -24,7 +24,6 @@ use Rattle.f66_names.specs.NameRules.{has_many_sizes, has_wrong_sizes, miscounts
 use Rattle.f66_names.specs.StoreRules.{has_bad_size, has_bad_constant, is_between, is_fit_edit, are_fit, is_assignable, stores_item, stores_entry, store_entries, stores_wrong, is_large, has_bad_format, has_large_array}
 use Rattle.f66_names.specs.BuiltActs.{is_built_form}
 use Rattle.f66_soundness.specs.SoundUnits.{acts_in_unit, IsSoundMain}
-use Rattle.f66_soundness.proofs.RightlyLemmas.{if_both}
 use Rattle.f66_soundness.proofs.KindLemmas.{none_of_both}
 use Rattle.f66_soundness.proofs.ValueLemmas.{is_unfit, FitSizes, FitCounts}
 use Rattle.f66_soundness.proofs.StatementLemmas.{stored_takes}
@@ -33,6 +32,7 @@ use Rattle.f66_check.specs.Answers.{IsSound}
 use Rattle.f66_check.proofs.SoundLemmas.{sound_main}
 use Rattle.unit_walk.specs.Walked.{are_few, is_count, are_pars, are_dimensions, are_declared, is_size, are_sizes, is_shallow, is_formula, are_formulas, is_entry, are_entries, is_plain, is_walked, are_walked, is_walked_unit}
 use Rattle.f66_tree.specs.Syntax as f66
+use Rattle.f66_tree.proofs.Tries.{if_both}
 
 -- what the rules say of one statement
 pub record Fits (c : Context) (a : Act) : Type 0 where

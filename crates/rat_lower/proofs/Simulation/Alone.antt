@@ -13,42 +13,11 @@ use Rattle.f66_tree.specs.OneUnit.{list_number, one_unit}
 use Rattle.f66_tree.proofs.Posts.{IsScope}
 use Rattle.f66_tree.proofs.Related.{SameNames, same_names}
 use Rattle.f66_tree.proofs.AnyNames.{Any, AnySpot, any_scope}
+use Rattle.f66_tree.proofs.ListNumbers.{positive, numbers_differ}
 use Rattle.rat_lower.specs.Checked.{NamesOfSizes, NamesOfAreas, NamesOfNote, NamesOfNotes}
 use Rattle.rat_tree.specs.Syntax.{Commands}
 use Rattle.rat_lower.proofs.Simulation.Parts.{HoldsValue}
 use Rattle.rat_lower.proofs.Simulation.Programs.{Program, entered}
-
--- ---- different lists have different numbers ----
-
-doubled : (a k : ℕ) → a * 2 * k ≡ 2 * (a * k)
-doubled a k = grind arith
-
-next_power : (c m : ℕ) → 2 ^ suc c * (2 * m + 1) ≡ 2 * (2 ^ c * (2 * m + 1))
-next_power c m = ap (λ v. v * (2 * m + 1)) (pow-suc 2 c) ∙ doubled (2 ^ c) (2 * m + 1)
-
-no_power : (m : ℕ) → 2 ^ 0 * (2 * m + 1) ≡ 2 * m + 1
-no_power m = let e : 1 * (2 * m + 1) ≡ 2 * m + 1 = omega arith in ap (λ v. v * (2 * m + 1)) (pow-zero 2) ∙ e
-
-same_parts : (c d m n : ℕ) → 2 ^ c * (2 * m + 1) ≡ 2 ^ d * (2 * n + 1) → (c ≡ d) × (m ≡ n)
-same_parts zero zero m n e = (refl, omega (arith, no_power m, no_power n, e))
-same_parts zero (suc d) m n e = absurd (omega (arith, no_power m, next_power d n, e))
-same_parts (suc c) zero m n e = absurd (omega (arith, next_power c m, no_power n, e))
-same_parts (suc c) (suc d) m n e = let h = same_parts c d m n (omega (arith, next_power c m, next_power d n, e)) in (ap suc h.0, h.1)
-
-pub some_number : (c : ℕ) (cs : List ℕ) → list_number (c ∷ cs) ≢ 0
-some_number c cs e = let h = same_parts_pos c (list_number cs) in absurd (omega (arith, h, e))
-  where
-    same_parts_pos : (c m : ℕ) → 0 < 2 ^ c * (2 * m + 1)
-    same_parts_pos zero m = omega (arith, no_power m)
-    same_parts_pos (suc c) m = omega (arith, next_power c m, same_parts_pos c m)
-
-pub same_list : (a b : List ℕ) → list_number a ≡ list_number b → a ≡ b
-same_list [] [] e = refl
-same_list [] (d ∷ ds) e = absurd (some_number d ds (sym e))
-same_list (c ∷ cs) [] e = absurd (some_number c cs e)
-same_list (c ∷ cs) (d ∷ ds) e =
-    let h = same_parts c d (list_number cs) (list_number ds) e in
-    ap (λ v. v ∷ cs) h.0 ∙ ap (λ v. d ∷ v) (same_list cs ds h.1)
 
 abbrev tail_of : List ℕ → List ℕ
 tail_of [] = []
@@ -185,7 +154,7 @@ module _ (spare : Text) (notes : List Note) where
     scope = spared_scope h;
     same = spared_names;
     numbers = λ u x o. refl;
-    apart = λ u x o fair. ne_eqb (list_number (o ∷ x)) (list_number (0 ∷ spare)) (λ e. fair (ap tail_of (same_list (o ∷ x) (0 ∷ spare) e)));
+    apart = λ u x o fair. ne_eqb (list_number (o ∷ x)) (list_number (0 ∷ spare)) (λ e. fair (ap tail_of (numbers_differ (o ∷ x) (0 ∷ spare) e)));
   }
 
   pub holds_value : (ss : Commands) (code : List Line) (h : NamesOfNotes Other notes) (u : ℕ) → HoldsValue (entered (with_spare ss code h) u [] tt) spare

@@ -12,9 +12,10 @@ use Rattle.f66_tree.specs.World.{Store, State, World, Ended, GoesOn, Lost, Out, 
 use Rattle.f66_tree.specs.Units.{Spot, Setting, moved_to}
 use Rattle.f66_tree.specs.Execution.{stand, Progress, from_label, closers, close, target, exec}
 use Rattle.f66_tree.proofs.Posts.{AllFair}
+use Rattle.f66_tree.proofs.Comes.{at, still, Part, Comes, comes_here, comes_on, one}
 use Rattle.rat_tree.specs.Meaning.{Went, Jumps, Backs, Leave, Again, Flow, Continuation, then_do, turned}
 use Rattle.rat_lower.specs.Code.{Rings, label_behind, label_again, jump, here}
-use Rattle.rat_lower.proofs.Simulation.Spared.{Lowering, at, still, spared, near, Kept, kept_self, kept_on, kept_more, own_rank, code, F}
+use Rattle.rat_lower.proofs.Simulation.Spared.{Lowering, spared, near, Kept, kept_self, kept_on, kept_more, own_rank, code, F}
 use Rattle.rat_lower.proofs.Simulation.Tracks.{Tracks, TW, same_fuel}
 
 -- what the target has besides the source's state: its DO loops in progress, and what the spare units hold
@@ -43,41 +44,6 @@ module _ (g : Lowering) where
   -- within a statement the spare units of the same rank keep theirs besides
   pub keeps_spares : (top : ℕ) (pr : Extra) (v : Store) → Kept g (own_rank g) pr.spare v → Keeps top pr (spare_as pr v)
   keeps_spares top pr v h = record { by = λ q le. refl; kept = kept_more g (omega arith) h }
-
--- what a target's part does, by its fuel, from a world of the source
-abbrev pub Part : Type 0
-Part = ℕ → World → Out ⊤
-
--- the part t comes to the part t1 with d statements; the fuel stays above the bound's rest
-pub record Comes (t : Part) (s : State) (t1 : Part) (s1 : State) (d : ℕ) : Type 0 where
-  pub by : (n k c : ℕ) → d + k < n → (g : ℕ) × (k < g) × (t n (at s (d + k) c) ≡ t1 g (at s1 k (c + d)))
-
-pub comes_here : (t : Part) (s : State) → Comes t s t s 0
-comes_here t s = record { by = λ n k c lt. (n, omega arith, ap (t n) (still s k c)) }
-
-pub comes_on : {t0 t1 t2 : Part} {s0 s1 s2 : State} {a b : ℕ} → Comes t0 s0 t1 s1 a → Comes t1 s1 t2 s2 b → Comes t0 s0 t2 s2 (a + b)
-comes_on {t0} {t1} {t2} {s0} {s1} {s2} {a} {b} l m = record {
-  by = λ n k c lt.
-      let e : a + b + k ≡ a + (b + k) = omega arith in
-      let g : c + a + b ≡ c + (a + b) = omega arith in
-      let p = l.by n (b + k) c (omega arith) in
-      let q = m.by p.0 k (c + a) p.1 in
-      (q.0, q.1, ap (λ v. t0 n (at s0 v c)) e ∙ p.2 ∙ q.2 ∙ ap (λ v. t2 q.0 (at s2 k v)) g);
-}
-
--- one statement begins
-pub one : (t t1 : Part) (s : State) → ((n k c : ℕ) → t (suc n) (at s (suc k) c) ≡ t1 n (at s k (c + 1))) → Comes t s t1 s 1
-one t t1 s is = record { by = go }
-  where
-    go : (n k c : ℕ) → 1 + k < n → (g : ℕ) × (k < g) × (t n (at s (1 + k) c) ≡ t1 g (at s k (c + 1)))
-    go zero k c lt = absurd (omega arith)
-    go (suc n) k c lt =
-        let e : 1 + k ≡ suc k = omega arith in
-        (n, omega arith, ap (λ v. t (suc n) (at s v c)) e ∙ is n k c)
-
--- nothing is begun
-pub none_begun : (t t1 : Part) (s : State) → ((n k c : ℕ) → t n (at s k c) ≡ t1 n (at s k c)) → Comes t s t1 s 0
-none_begun t t1 s is = record { by = λ n k c lt. (n, omega arith, is n (0 + k) c ∙ ap (t1 n) (still s k c)) }
 
 module _ (g : Lowering) where
   -- the statements still to go through, from a world of the target, and of the source

@@ -7,11 +7,12 @@ use Rattle.f66_tree.specs.Syntax.{Text, Line}
 use Rattle.f66_tree.specs.World.{State, World, counted, Ended, GoesOn, Lost, Gives, Halts}
 use Rattle.f66_tree.specs.Units.{is_note}
 use Rattle.f66_tree.specs.Execution.{has_label, runnable, from_label, closers}
+use Rattle.f66_tree.proofs.Comes.{Part, Comes, comes_on}
 use Rattle.rat_tree.specs.Syntax.{Command, Empty, Block, If, IfElse, While, For, Repeat, RepeatUntil, Do, Switch, Break, Next, Return, Plain, Labelled, Commands, NoCommand, AndCommand}
 use Rattle.rat_tree.specs.Meaning.{Went, Jumps, Backs, Leave, Again, Flow, went, then_do, has_own_label, stands, landed, fits_case, meaning, run_from}
 use Rattle.rat_lower.specs.Code.{Rings, here, labels}
 use Rattle.rat_lower.proofs.Simulation.Spared.{Lowering, code}
-use Rattle.rat_lower.proofs.Simulation.Follows.{Extra, keeps_self, Calls, Part, Comes, comes_on, first, weaker, then_follows, past_here}
+use Rattle.rat_lower.proofs.Simulation.Follows.{Extra, keeps_self, Calls, first, weaker, then_follows, past_here}
 use Rattle.rat_lower.proofs.Simulation.Counts.{ends, all_heads}
 use Rattle.rat_lower.proofs.Simulation.Labels.{AreUnique, Within, within_in, within_code, found, found_line, longer_in, Starts}
 use Rattle.rat_lower.proofs.Simulation.Words.{words}

@@ -7,13 +7,14 @@ use Rattle.f66_tree.specs.Units.{Setting, Frame, moved_to}
 use Rattle.f66_tree.specs.Uses.{NamesBy}
 use Rattle.f66_tree.specs.Statements.{LoopParameters, loop_turn}
 use Rattle.f66_tree.specs.Execution.{from_label, closers, close, fetch, exec}
+use Rattle.f66_tree.proofs.Comes.{at, Part, Comes, comes_on, one}
 use Rattle.rat_tree.specs.Meaning.{Went, Flow, Continuation, went, turned, tested, turns, always, stepped, until, do_turns}
 use Rattle.rat_tree.specs.Uses.{NamesIfAnyBy, ActIfAnyBy}
 use Rattle.rat_lower.specs.Code.{Rings, jump, unless, here, with_test, with_act}
 use Rattle.rat_lower.specs.Checked.{IsPlainIfAny}
-use Rattle.rat_lower.proofs.Simulation.Spared.{Lowering, at, near, spared, code, F, Own}
+use Rattle.rat_lower.proofs.Simulation.Spared.{Lowering, near, spared, code, F, Own}
 use Rattle.rat_lower.proofs.Simulation.Tracks.{fewer, same_fuel, track_turn}
-use Rattle.rat_lower.proofs.Simulation.Follows.{Extra, spare_as, Keeps, keeps_self, Calls, Part, Comes, comes_on, one, Raw, Run, Under, Follows, first, bind_follows, past_jump, past_here, turned_follows}
+use Rattle.rat_lower.proofs.Simulation.Follows.{Extra, spare_as, Keeps, keeps_self, Calls, Raw, Run, Under, Follows, first, bind_follows, past_jump, past_here, turned_follows}
 use Rattle.rat_lower.proofs.Simulation.Parts.{Src, unless_follows, tested_follows, performed_follows}
 use Rattle.rat_lower.proofs.Simulation.Labels.{Starts}
 

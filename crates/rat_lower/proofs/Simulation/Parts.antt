@@ -13,13 +13,14 @@ use Rattle.f66_tree.specs.Evaluation.{base_by, load, asked, operate, denied, tru
 use Rattle.f66_tree.specs.Statements.{Exit, Normal, To, Back, does}
 use Rattle.f66_tree.specs.Execution.{runnable, from_label, closers_at, close, leads, fetch, exec}
 use Rattle.f66_tree.proofs.Stores.{read_same, read_other}
+use Rattle.f66_tree.proofs.Comes.{at, Part, comes_here, one, none_begun}
 use Rattle.rat_tree.specs.Meaning.{Went, course_of, Flow, Continuation, decides, plain_statement, passed_label, tested, performed, is_case}
 use Rattle.rat_tree.specs.Uses.{NamesIfAnyBy, ActIfAnyBy}
 use Rattle.rat_lower.specs.Code.{Rings, unless, with_test, with_act, case_test}
 use Rattle.rat_lower.specs.Checked.{IsPlain, IsPlainIfAny}
-use Rattle.rat_lower.proofs.Simulation.Spared.{Lowering, at, over, read_spare, put_spare, near, still_near, spared, Kept, own_rank, code, F, Own, Source}
+use Rattle.rat_lower.proofs.Simulation.Spared.{Lowering, over, read_spare, put_spare, near, still_near, spared, Kept, own_rank, code, F, Own, Source}
 use Rattle.rat_lower.proofs.Simulation.Tracks.{fewer, same_fuel, track_value, track_asks, track_does, track_case}
-use Rattle.rat_lower.proofs.Simulation.Follows.{Extra, spare_as, Keeps, keeps_self, keeps_on, keeps_spares, Calls, Part, comes_here, one, none_begun, Raw, Run, Under, Follows, first, bind_follows, then_follows, past_jump}
+use Rattle.rat_lower.proofs.Simulation.Follows.{Extra, spare_as, Keeps, keeps_self, keeps_on, keeps_spares, Calls, Raw, Run, Under, Follows, first, bind_follows, then_follows, past_jump}
 
 bind_assoc : {A B C : Type 0} (o : Out A) (h : A → World → Out B) (k : B → World → Out C) → bind (bind o h) k ≡ bind o (λ a w. bind (h a w) k)
 bind_assoc (Gives a w) h k = refl

@@ -11,12 +11,13 @@ use Rattle.f66_tree.proofs.Posts.{AllFair, IsScope}
 use Rattle.f66_tree.proofs.Related.{SameNames}
 use Rattle.f66_tree.proofs.Longer.{f66_extends}
 use Rattle.f66_tree.proofs.Agreement.{Ahead, agrees}
+use Rattle.f66_tree.proofs.Comes.{Part}
 use Rattle.rat_tree.specs.Syntax.{Commands}
 use Rattle.rat_tree.specs.Meaning.{Body, Ours, source_call, ratfor}
 use Rattle.rat_lower.specs.Checked.{AllFit, AllLand}
 use Rattle.rat_lower.proofs.Simulation.Spared.{Lowering, over}
 use Rattle.rat_lower.proofs.Simulation.Tracks.{TracksBy, same_fuel}
-use Rattle.rat_lower.proofs.Simulation.Follows.{Part, Calls}
+use Rattle.rat_lower.proofs.Simulation.Follows.{Calls}
 use Rattle.rat_lower.proofs.Simulation.Whole.{IsCode, UnitBy, Whole, unit_by, Run_shows, unit_ahead}
 use Rattle.rat_lower.proofs.Simulation.Exits.{Fine, Whatever}
 use Rattle.rat_lower.proofs.Simulation.Fits.{unit_found, shown_fine}

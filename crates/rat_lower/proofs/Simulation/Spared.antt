@@ -12,6 +12,7 @@ use Rattle.f66_tree.specs.Evaluation.{held, AFunction, sort_of}
 use Rattle.f66_tree.specs.Execution.{nowhere}
 use Rattle.f66_tree.proofs.Posts.{AllFair, IsScope}
 use Rattle.f66_tree.proofs.Related.{SameNames}
+use Rattle.f66_tree.proofs.Comes.{at, still}
 
 -- A unit of a program in both linkages, with what its dummies are associated with: which names the source uses, which spots
 -- may come of them, and that none of these is a spare unit. Units have ranks, and the spare units have their units' ranks.
@@ -31,15 +32,6 @@ pub record Lowering : Type 1 where
   pub numbers : (u : ℕ) (x : Text) (o : ℕ) → target.number u x o ≡ source.number u x o
   pub apart : (u : ℕ) (x : Text) (o : ℕ) → Fair (Held u x o) → spare (source.number u x o) ≡ false
   pub fair : AllFair Fair actuals
-
-abbrev pub at : State → ℕ → ℕ → World
-at s k c = record { state = s; left = k; count = c }
-
-pub still : (s : State) (k c : ℕ) → at s (0 + k) c ≡ at s k (c + 0)
-still s k c =
-    let e : 0 + k ≡ k = omega arith in
-    let g : c ≡ c + 0 = omega arith in
-    ap (λ n. at s n c) e ∙ ap (λ n. at s k n) g
 
 -- the store h in the spare units, and st elsewhere
 abbrev pub over : (ℕ → Bool) → Store → Store → Store

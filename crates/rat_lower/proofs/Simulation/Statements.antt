@@ -8,14 +8,15 @@ use Rattle.f66_tree.specs.Units.{moved_to}
 use Rattle.f66_tree.specs.Uses.{NamesBy, NameOfPar, NamesOfActBy}
 use Rattle.f66_tree.specs.Statements.{LoopParameters, loop_start}
 use Rattle.f66_tree.specs.Execution.{Progress, begun, closers}
-use Rattle.rat_tree.specs.Syntax.{Command, If, IfElse, While, For, Repeat, RepeatUntil, Do, Break, Next, Plain, Labelled, Commands}
+use Rattle.f66_tree.proofs.Comes.{Comes, comes_here, comes_on, one}
+use Rattle.rat_tree.specs.Syntax.{Command, If, IfElse, While, For, Repeat, RepeatUntil, Do, Break, Next, Plain, Labelled}
 use Rattle.rat_tree.specs.Meaning.{Continuation, went, tested, turns, always, stepped, until, do_turns, pred_of, fits_case, meaning}
 use Rattle.rat_tree.specs.Uses.{NamesIfAnyBy, ActIfAnyBy}
 use Rattle.rat_lower.specs.Code.{Rings, label_behind, label_again, jump, unless, here, with_test, with_act, labels}
 use Rattle.rat_lower.specs.Checked.{bit, IsPlain, IsPlainIfAny, IsNothing}
 use Rattle.rat_lower.proofs.Simulation.Spared.{Lowering, kept_self, own_rank, spared, code, Own}
 use Rattle.rat_lower.proofs.Simulation.Tracks.{track_start}
-use Rattle.rat_lower.proofs.Simulation.Follows.{Extra, keeps_self, Calls, Comes, comes_here, comes_on, one, Raw, Under, first, bind_follows, past_jump, past_here}
+use Rattle.rat_lower.proofs.Simulation.Follows.{Extra, keeps_self, Calls, Raw, Under, first, bind_follows, past_jump, past_here}
 use Rattle.rat_lower.proofs.Simulation.Counts.{same_number, ends, heads}
 use Rattle.rat_lower.proofs.Simulation.Labels.{AreUnique, no_closers, one_closer, Within, within_self, within_cons, within_in, within_tail, within_test, within_act, within_code, found, longer_in, starts_code}
 use Rattle.rat_lower.proofs.Simulation.Parts.{unless_follows, plain_follows, labelled_follows, performed_follows}

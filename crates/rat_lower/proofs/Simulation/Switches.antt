@@ -7,13 +7,14 @@ use Rattle.f66_tree.specs.Syntax.{Text, Formula, Formulas, NoFormula, AndFormula
 use Rattle.f66_tree.specs.World.{State, World, counted}
 use Rattle.f66_tree.specs.Uses.{NamesBy, NamesOfAllBy}
 use Rattle.f66_tree.specs.Execution.{from_label, closers}
+use Rattle.f66_tree.proofs.Comes.{Comes, comes_here, comes_on}
 use Rattle.rat_tree.specs.Syntax.{Command, Empty, Block, If, IfElse, While, For, Repeat, RepeatUntil, Do, Switch, Break, Next, Return, Plain, Labelled, Commands, NoCommand, AndCommand, Clauses, NoClause, AndClause}
 use Rattle.rat_tree.specs.Meaning.{Continuation, landed, fits_case, run_from, picked, defaulted}
 use Rattle.rat_tree.specs.Uses.{NamesOfCommandBy, NamesOfCommandsBy, NamesOfClausesBy}
 use Rattle.rat_lower.specs.Code.{Rings, jump, here, all_labels, each_test, tests, default_label, has_switch, have_switch, bodies}
 use Rattle.rat_lower.specs.Checked.{bit, IsBuilt, AreBuilt, ClausesBuilt}
 use Rattle.rat_lower.proofs.Simulation.Spared.{Lowering, code, Own}
-use Rattle.rat_lower.proofs.Simulation.Follows.{Extra, keeps_self, Calls, Comes, comes_here, comes_on, first, past_jump, past_here}
+use Rattle.rat_lower.proofs.Simulation.Follows.{Extra, keeps_self, Calls, first, past_jump, past_here}
 use Rattle.rat_lower.proofs.Simulation.Counts.{same_number, ends, clause_heads}
 use Rattle.rat_lower.proofs.Simulation.Labels.{AreUnique, no_closers, Within, within_in, within_tail, within_all, within_tests, within_bodies, found, longer_in}
 use Rattle.rat_lower.proofs.Simulation.Parts.{HoldsValue, unit, case_follows, kept_follows}

@@ -17,8 +17,9 @@ use Rattle.f66_tree.specs.Evaluation.{asked, held, store_at, load, operate, trut
 use Rattle.f66_tree.specs.Statements.{Exit, LoopParameters, loop_start, loop_turn, taped, taken_content, item_turns, does}
 use Rattle.f66_tree.proofs.Posts.{IfGives, AllFair, post_any}
 use Rattle.f66_tree.proofs.Related.{Sides, side1, side2, Frames, one, two, Good, Parts, Holds, thens, settles, does_holds, asks_hold, value_holds, start_holds, turn_holds}
+use Rattle.f66_tree.proofs.Comes.{at}
 use Rattle.rat_tree.specs.Meaning.{is_case}
-use Rattle.rat_lower.proofs.Simulation.Spared.{Lowering, at, over, put_source, near, still_near, Kept, kept_self, kept_on, same_held, own_rank, Listed, Called, Own}
+use Rattle.rat_lower.proofs.Simulation.Spared.{Lowering, over, put_source, near, still_near, Kept, kept_self, kept_on, same_held, own_rank, Listed, Called, Own}
 
 module _ (I : Type 0) (bound : I → ℕ) (g : Lowering) where
   -- a part t of the target's run, by what bounds its fuel, follows a part of the source's, which gave o

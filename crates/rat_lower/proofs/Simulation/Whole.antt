@@ -9,13 +9,14 @@ use Rattle.f66_tree.specs.Statements.{returned}
 use Rattle.f66_tree.specs.Execution.{runnable, no_loops, past_end, leads, fetch, exec}
 use Rattle.f66_tree.specs.Agreement.{Same}
 use Rattle.f66_tree.proofs.Agreement.{Ahead, IsOver, IsLost}
+use Rattle.f66_tree.proofs.Comes.{at, Part, none_begun}
 use Rattle.rat_tree.specs.Syntax.{Commands}
 use Rattle.rat_tree.specs.Meaning.{Went, Jumps, Backs, Leave, Again, Flow, all_meaning, ended}
 use Rattle.rat_tree.specs.Uses.{NamesOfCommandsBy}
 use Rattle.rat_lower.specs.Code.{have_switch, all_code, end_unless}
 use Rattle.rat_lower.specs.Checked.{AreBuilt}
-use Rattle.rat_lower.proofs.Simulation.Spared.{Lowering, at, near, still_near, spared, Kept, own_rank, code, F, Own}
-use Rattle.rat_lower.proofs.Simulation.Follows.{Extra, keeps_self, Part, none_begun, Run, Under, Calls, Follows, first}
+use Rattle.rat_lower.proofs.Simulation.Spared.{Lowering, near, still_near, spared, Kept, own_rank, code, F, Own}
+use Rattle.rat_lower.proofs.Simulation.Follows.{Extra, keeps_self, Run, Under, Calls, Follows, first}
 use Rattle.rat_lower.proofs.Simulation.Counts.{occurs, occurs-all, ends, ends-all, all_heads, all_dos}
 use Rattle.rat_lower.proofs.Simulation.Labels.{AreUnique, Within}
 use Rattle.rat_lower.proofs.Simulation.Parts.{Src, HoldsValue}

@@ -4,11 +4,12 @@ use Rattle.f66_tree.specs.Syntax.{Text, Line}
 use Rattle.f66_tree.specs.World.{State, World}
 use Rattle.f66_tree.specs.Units.{Setting, Frame}
 use Rattle.f66_tree.specs.Execution.{from_label}
+use Rattle.f66_tree.proofs.Comes.{Part}
 use Rattle.rat_tree.specs.Syntax.{Command, Commands}
 use Rattle.rat_tree.specs.Meaning.{Flow, stands, meaning, run_from}
 use Rattle.rat_lower.specs.Code.{Rings, code_of, all_code}
 use Rattle.rat_lower.proofs.Simulation.Spared.{Lowering, code, F}
-use Rattle.rat_lower.proofs.Simulation.Follows.{Extra, Calls, Part, Run, Follows}
+use Rattle.rat_lower.proofs.Simulation.Follows.{Extra, Calls, Run, Follows}
 use Rattle.rat_lower.proofs.Simulation.Counts.{ends, heads, all_heads}
 use Rattle.rat_lower.proofs.Simulation.Labels.{Within}
 use Rattle.rat_lower.proofs.Simulation.Parts.{Src}

@@ -1,9 +1,7 @@
 -- A step with the records never misses: the edit that is found for an item takes and gives contents of the item's type.
 use Rattle.std.proofs.Common.{◌≡◌, ℕ, Bool, true, false, List, [], ◌∷◌, Option, Some, None, Result, Ok, Err, refl}
-use Rattle.std.specs.Prelude.{int_le, is_some, ◌&&◌, if◌then◌else◌, ⊤}
-use Rattle.ground.specs.declared.place.Place.{Place}
+use Rattle.std.specs.Prelude.{is_some, if◌then◌else◌, ⊤}
 use Rattle.ground.specs.declared.trap.Trap.{Trap}
-use Rattle.ground.specs.declared.trap.Trap.TheVariants.{BadUnit}
 use Rattle.ground.specs.declared.value.Kind.{Kind}
 use Rattle.ground.specs.declared.value.Kind.TheVariants.{Integer, Logical}
 use Rattle.ground.specs.Content.{Content, Whole, Truth}
@@ -15,26 +13,16 @@ use Rattle.f66_tree.specs.declared.editing.Mark.TheVariants.{Due}
 use Rattle.f66_tree.specs.Fields.{Step, Takes, Blanks, Chars, Slash, Fields, has_item}
 use Rattle.f66_tree.specs.Turns.{Hand, ◌>>=◌, blanked, lettered, suits, hand_at, line_in_hand, put_whole, put_truth, put_letter, take_whole, take_truth, take_letter}
 use Rattle.f66_tree.specs.Editing.{Files, Break, with_records, OnRecords, mismatch, exchanged, next_record, seek, cycled, to_item, to_end}
-use Rattle.f66_tree.specs.World.{Tape, files_of, tape_of, World, Try, Yields, Traps, Fails, lifted, Move, Moves, Breaks, Misses, moving}
+use Rattle.f66_tree.specs.World.{Tape, files_of, tape_of, Try, Yields, Traps, Fails, lifted, Move, Moves, Breaks, Misses}
 use Rattle.f66_tree.specs.Records.{tape_placed, read_begun, due, put_by, handed, put, take_by, take, closed}
-use Rattle.f66_tree.specs.Statements.{taped, on_unit, unit_for, opened_by}
-use Rattle.f66_soundness.specs.Rightly.{Rightly, TriesRightly}
-use Rattle.f66_soundness.proofs.RightlyLemmas.{then_rightly, if_both}
-use Rattle.f66_soundness.proofs.ContentLemmas.{IsOfKind}
+use Rattle.f66_tree.specs.Statements.{opened_by}
+use Rattle.f66_tree.proofs.Tries.{IsOfKind, TriesRightly, then_rightly, if_both}
 
 -- a step leaves the records as P says, or traps
 abbrev pub MovesRightly : (Tape → Type 0) → Move → Type 0
 MovesRightly P (Moves t) = P t
 MovesRightly P (Breaks e t) = ⊤
 MovesRightly P Misses = ⊥
-
-pub taped_rightly : (P : Tape → Type 0) (p : Place) (h : Tape → Move) (w : World) → MovesRightly P (h w.state.tape) → Rightly (λ _ v. P v.state.tape) (taped p h w)
-taped_rightly P p h w i = by_move (h w.state.tape) i
-  where
-    by_move : (step : Move) → MovesRightly P step → Rightly (λ _ v. P v.state.tape) (moving p step w)
-    by_move (Moves t) k = k
-    by_move (Breaks e t) k = tt
-    by_move Misses k = k
 
 -- ---- an item is due ----
 
@@ -144,7 +132,3 @@ closed_rightly t = ended (to_end t.hand (files_of t))
     ended : (r : Result (Hand × Files) Break) → MovesRightly (λ _. ⊤) (tape_placed t r)
     ended (Ok x) = tt
     ended (Err e) = tt
-
-pub unit_rightly : (way : Way) (v : Content) → IsOfKind Integer v → TriesRightly (λ _. ⊤) (on_unit way v)
-unit_rightly way (Whole z) h = if_both (TriesRightly (λ _. ⊤)) (int_le z (unit_for way) && int_le (unit_for way) z) (Yields tt) (Traps BadUnit) tt tt
-unit_rightly way _ h = absurd h
