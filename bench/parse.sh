@@ -1,8 +1,9 @@
 #!/bin/sh
-# How fast the tokens of a text become its tree, in Ratfor: whether ten times the tokens take at most twelve times as long, and how many
-# times as long as gathering alone it takes.
+# How fast the tokens of a text become its tree: whether ten times the tokens take at most twelve times as long, and how many times as
+# long as gathering alone it takes. A text of EFL is Unbuilt behind its parse, so there the built program's own time is taken.
 . "$(dirname "$0")/common.sh"
 wants "$layers"
+wants "$eft"
 
 # Units of fewer than 20,000 tokens, the most that a unit may have.
 sums_unit() { # 3,330 assignments of 6 tokens, and `end`
@@ -15,14 +16,36 @@ blocks_unit() { # 768 conditions of 26 tokens, and `end`
     echo end
 }
 
-times() { # LANGUAGE SHAPE
+efl_sums_unit() { # the same assignments in a procedure
+    echo procedure
+    yes 'total = total + 1' | head -n 3330
+    echo end
+}
+
+efl_blocks_unit() { # 768 conditions of 25 tokens in a procedure
+    echo procedure
+    yes 'if (k > f(i, 2) * 3) { k = -k; s(k) }' | head -n 768
+    echo end
+}
+
+ratfor_time() { # FILE
+    layer_time parse ratfor "$1" 5
+}
+
+efl_time() { # FILE
+    command_time /dev/null "$eft" run efl "$1"
+}
+
+measured() { # LANGUAGE SHAPE
     $2_unit >"$work/$2.small"
     for number in 1 2 3 4 5 6 7 8 9 10; do cat "$work/$2.small"; done >"$work/$2.large"
-    large=$(layer_time parse "$1" "$work/$2.large" 5)
-    compare "$2: 200,000 tokens and 20,000" "$large" "$(layer_time parse "$1" "$work/$2.small" 10)" 12
+    large=$($1_time "$work/$2.large")
+    compare "$2: 200,000 tokens and 20,000" "$large" "$($1_time "$work/$2.small")" 12
     compare "$2: 200,000 tokens, and gathering them" "$large" "$(layer_time gather "$1" "$work/$2.large" 5)" 2.5
 }
 
-times ratfor sums
-times ratfor blocks
+measured ratfor sums
+measured ratfor blocks
+measured efl efl_sums
+measured efl efl_blocks
 exit $status

@@ -24,6 +24,9 @@ use Rattle.grammar.specs.Grammar.{EndsWith}
 use Rattle.rat_parse_table.specs.Words.{kind_terminal}
 use Rattle.rat_parse_table.specs.Ratfor.{certificate}
 use Rattle.rat_parse.specs.Ratfor.{grammar}
+use Rattle.efl_parse_table.specs.Words as efl_words
+use Rattle.efl_parse_table.specs.Efl as efl_table
+use Rattle.efl_parse.specs.Efl as efl
 use Rattle.rat_check.specs.FirstFault.{first_fault}
 use Rattle.rat_lower.specs.OneUnit.{means}
 use Rattle.rat_lower.specs.Served.{Serves, AllServe}
@@ -39,11 +42,8 @@ use Rattle.front.specs.Programs.{IsProgramOf}
 pub ends_ratfor : (ts : List Token) → EndsText ts → EndsWith grammar certificate.end ts
 ends_ratfor ts h = (h.0, h.1, h.2, ap kind_terminal h.3)
 
--- a text with an end has a first token
-pub has_first : (ts : List Token) → EndsText ts → slice_get ts 0 ≡ None → ⊥
-has_first [] ([], last, e, k) none = let f = e in cc
-has_first [] (t ∷ front, last, e, k) none = let f = e in cc
-has_first (t ∷ ts) h none = let f : Some t ≡ None = none in cc
+pub ends_efl : (ts : List Token) → EndsText ts → EndsWith efl.grammar efl_table.certificate.end ts
+ends_efl ts h = (h.0, h.1, h.2, ap efl_words.kind_terminal h.3)
 
 -- ---- checks ----
 

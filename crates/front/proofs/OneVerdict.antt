@@ -1,9 +1,7 @@
 -- A text has one verdict.
-use Rattle.std.proofs.Common.{◌≡◌, ℕ, List, ◌⊎◌, inl, inr, Some, refl, sym, ◌∙◌, ap}
+use Rattle.std.proofs.Common.{◌≡◌, ℕ, List, ◌⊎◌, inl, inr, refl, sym, ◌∙◌, ap}
 use Rattle.std.specs.Prelude.{Result, Ok, Err}
 use Rattle.ground.specs.declared.fault.Fault.{Fault}
-use Rattle.ground.specs.declared.fault.FaultKind.TheVariants.{Unbuilt}
-use Rattle.ground.specs.Faults.{fault_at}
 use Rattle.ground.specs.declared.token.Token.{Token}
 use Rattle.ground.specs.declared.token.Dialect.{Dialect}
 use Rattle.ground.specs.declared.token.Dialect.TheVariants.{Ratfor, Efl}
@@ -16,9 +14,13 @@ use Rattle.rat_tree.specs.Syntax.{RatProgram}
 use Rattle.rat_parse.specs.Ratfor as ratfor
 use Rattle.rat_parse_table.specs.Limits as ratfor_limits
 use Rattle.rat_parse_values.specs.Values as ratfor_values
+use Rattle.efl_tree.specs.Syntax.{EflProgram}
+use Rattle.efl_parse.specs.Efl as efl
+use Rattle.efl_parse_table.specs.Limits as efl_limits
+use Rattle.efl_parse_values.specs.Values as efl_values
 use Rattle.front.specs.Checked.{Checked, Faulty}
 use Rattle.front.specs.Ratfor.{checked}
-use Rattle.front.specs.Efl.{IsEfl}
+use Rattle.front.specs.Efl.{unbuilt_of}
 use Rattle.front.specs.Verdict.{Verdict, IsChecked, in_files, IsVerdictOf, Becomes}
 use Rattle.front.proofs.FirstFaults.{one_fault, no_fault, one_tree}
 
@@ -36,15 +38,12 @@ module _ {T N P V M W : Type 0} (g : Grammar Token T N P V) (meter : Meter T P M
 same_program : (a b : RatProgram) → ratfor_values.program a ≡ ratfor_values.program b → a ≡ b
 same_program a b e = cc
 
-one_token : (a b : Token) → Some a ≡ Some b → a ≡ b
-one_token a b e = cc
-
-one_efl : (ts : List Token) → (a b : Checked) → IsEfl ts a → IsEfl ts b → a ≡ b
-one_efl ts a b h k = h.2 ∙ (ap (λ (t : Token). Faulty (fault_at t.place Unbuilt)) (one_token h.0 k.0 (sym h.1 ∙ k.1)) ∙ sym k.2)
+same_efl : (a b : EflProgram) → efl_values.program a ≡ efl_values.program b → a ≡ b
+same_efl a b e = cc
 
 one_checked : (d : Dialect) → (ts : List Token) → (a b : Checked) → IsChecked d ts a → IsChecked d ts b → a ≡ b
 one_checked Ratfor ts a b h k = one_found ratfor.grammar ratfor_limits.meter ratfor_values.program same_program checked ts a b h k
-one_checked Efl ts a b h k = one_efl ts a b h k
+one_checked Efl ts a b h k = one_found efl.grammar efl_limits.meter efl_values.program same_efl unbuilt_of ts a b h k
 
 one_of : (d : Dialect) → (told : Result GatherState Stop) → (a b : Verdict) → IsVerdictOf d told a → IsVerdictOf d told b → a ≡ b
 one_of d (Err stop) a b h k = h ∙ sym k

@@ -1,9 +1,39 @@
--- What becomes of the tokens of an EFL text: its first one, if only the end of the text, is not built yet.
-use Rattle.std.specs.Prelude.{◌≡◌, List, Some, slice_get}
+-- What becomes of the tokens of an EFL text: its first fault. What the grammar accepts is not built yet.
+use Rattle.std.specs.Prelude.{◌≡◌, ◌⊎◌, List, [], ◌∷◌}
+use Rattle.ground.specs.declared.fault.Fault.{Fault}
 use Rattle.ground.specs.declared.fault.FaultKind.TheVariants.{Unbuilt}
+use Rattle.ground.specs.declared.place.Place.{Place}
 use Rattle.ground.specs.Faults.{fault_at}
 use Rattle.ground.specs.declared.token.Token.{Token}
+use Rattle.grammar.specs.Answers.{IsFirstFault}
+use Rattle.grammar.specs.Limits.{IsAccepted}
+use Rattle.efl_parse.specs.Efl.{grammar}
+use Rattle.efl_parse_table.specs.Limits.{meter}
+use Rattle.efl_parse_values.specs.Values.{program}
+use Rattle.efl_tree.specs.Syntax.{EflDecl, EflStmt, Statement, EflStmts, NoStmt, AndStmt, EflProcedure, EflProgram}
 use Rattle.front.specs.Checked.{Checked, Faulty}
 
+-- ---- what is not built ----
+
+-- the first declaration of a procedure, or its first statement, or its end
+abbrev pub first_part : List EflDecl → EflStmts → Place → Place
+first_part (d ∷ ds) ss finish = d.place
+first_part [] (AndStmt (Statement labels p what) ss) finish = p
+first_part [] NoStmt finish = finish
+
+-- that of the first procedure, or the end of the text
+abbrev pub unbuilt_place : List EflProcedure → Place → Place
+unbuilt_place [] finish = finish
+unbuilt_place (p ∷ ps) finish = first_part p.declarations p.body p.finish
+
+-- what is accepted is not built
+abbrev pub unbuilt_of : EflProgram → Checked
+unbuilt_of tree = Faulty (fault_at (unbuilt_place tree.procedures tree.finish) Unbuilt)
+
+-- ---- parse ----
+
+-- the first fault at the grammar or at a limit, or the first part of what is accepted
 abbrev pub IsEfl : List Token → Checked → Type 0
-IsEfl ts c = (first : Token) × (slice_get ts 0 ≡ Some first) × (c ≡ Faulty (fault_at first.place Unbuilt))
+IsEfl ts c =
+    ((fault : Fault) × IsFirstFault grammar meter ts fault × (c ≡ Faulty fault))
+    ⊎ ((tree : EflProgram) × IsAccepted grammar meter ts (program tree) × (c ≡ unbuilt_of tree))

@@ -5,7 +5,7 @@ ghost use Rattle.macro_define.specs.GatherAnswers.{EndsText};
 ghost use Rattle.front.specs.Verdict.{IsChecked, file_name as name_of_file};
 ghost use Rattle.front.specs.Compiled.{Finds, IsCompiled};
 
-use crate::efl::fault_of;
+use crate::efl::refusal_of;
 use crate::ratfor::unit_of;
 use f66_check::CheckedUnit;
 use ground::{Dialect, List, Refusal, Text, Token};
@@ -52,7 +52,7 @@ fn unit_in(alloc: Global, dialect: Dialect, tokens: &List<Token>) -> Result<Chec
 {
     match dialect {
         Dialect::Ratfor => unit_of(alloc, tokens),
-        Dialect::Efl => Err(Refusal::Fault(fault_of(tokens))),
+        Dialect::Efl => Err(refusal_of(alloc, tokens)),
     }
 }
 

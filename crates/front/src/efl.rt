@@ -1,17 +1,46 @@
 // From the tokens of an EFL text to its fault.
+ghost use Rattle.std.specs.Prelude.{◌≡◌};
+ghost use Rattle.efl_tree.specs.Views.{procedure_of, program_of};
 ghost use Rattle.macro_define.specs.GatherAnswers.{EndsText};
-ghost use Rattle.front.specs.Checked.{Faulty};
-ghost use Rattle.front.specs.Efl.{IsEfl};
+ghost use Rattle.front.specs.Efl.{IsEfl, first_part, unbuilt_place};
+ghost use Rattle.front.specs.Compiled.{Refused};
 
-use ground::{Fault, FaultKind, List, Token};
+use efl_parse::parse;
+use efl_tree::{EflProcedure, EflProgram};
+use ground::{Fault, FaultKind, List, Place, Refusal, Token};
+use std::alloc::Global;
 
-/// What a text with these tokens is refused for: nothing of EFL is built yet (Feldman, The Programming Language EFL).
-pub fn fault_of(tokens: &List<Token>) -> Fault
+/// What a text with these tokens is refused for: what its grammar accepts is not built yet (Feldman, The Programming Language
+/// EFL, 1979).
+pub fn refusal_of(alloc: Global, tokens: &List<Token>) -> Refusal
     requires { EndsText tokens.now.items }
-    ensures { IsEfl tokens.now.items (Faulty result) }
+    ensures { Refused (IsEfl tokens.now.items) result }
 {
-    match tokens.first() {
-        Some(token) => Fault::new(token.place, FaultKind::Unbuilt),
-        None => unreachable!(),
+    match parse(alloc, tokens) {
+        Ok(program) => Refusal::Fault(Fault::new(unbuilt_place(&program), FaultKind::Unbuilt)),
+        Err(refusal) => refusal,
+    }
+}
+
+/// Where the first part of the first procedure stands, or the end of the text.
+fn unbuilt_place(program: &EflProgram) -> Place
+    ensures { result ≡ unbuilt_place (program_of program.now).procedures program.now.finish }
+{
+    match program.procedures.first() {
+        Some(procedure) => first_part(procedure),
+        None => program.finish,
+    }
+}
+
+/// Where a procedure's first declaration stands, or its first statement, or its end.
+fn first_part(procedure: &EflProcedure) -> Place
+    ensures { result ≡ first_part (procedure_of procedure.now).declarations (procedure_of procedure.now).body procedure.now.finish }
+{
+    if let Some(declaration) = procedure.declarations.first() {
+        return declaration.place;
+    }
+    match procedure.body.first() {
+        Some(statement) => statement.place,
+        None => procedure.finish,
     }
 }
