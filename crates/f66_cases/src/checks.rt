@@ -11,7 +11,7 @@ use std::process::Abort;
 use std::test::Fail;
 
 /// The fault's word and line, with the number of a limit between them.
-fn fault_shown(alloc: Global, fault: Fault) -> Result<String, AllocError> {
+pub(crate) fn fault_shown(alloc: Global, fault: Fault) -> Result<String, AllocError> {
     let word = fault.kind.word();
     let line = fault.place.line;
     if fault.number == 0 {

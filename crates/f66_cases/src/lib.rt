@@ -1,9 +1,13 @@
-//! Units of FORTRAN, formats and names in rows of text, with what the checks, a run and its records make of them. The
-//! crate has tests alone.
+//! Units of FORTRAN, decks, formats, names and stack code in rows of text, with what the checks, a run and its records make of
+//! them. The crate has tests alone.
 #![tactic(auto)]
 
 #[cfg(test)]
 mod checks;
+#[cfg(test)]
+mod codes;
+#[cfg(test)]
+mod decks;
 #[cfg(test)]
 mod flow;
 #[cfg(test)]

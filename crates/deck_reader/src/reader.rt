@@ -1,0 +1,37 @@
+// A deck of cards, read and checked.
+ghost use Rattle.std.specs.Prelude.{◌≡◌, Ok, map, IfOk, IfErr};
+ghost use Rattle.f66_tree.specs.Views.{routine_of};
+ghost use Rattle.deck_reader.specs.Answers.{IsDeckRefusal, deck_units};
+
+use crate::units::units_of;
+use card_reader::lines_of;
+use f66_check::{SoundUnit, check_unit};
+use f66_tree::Unit;
+use ground::{List, Refusal};
+use std::alloc::Global;
+
+/// The units in their order, where each is sound; else the first fault of the first that is not.
+fn check_units(alloc: Global, units: List<Unit>) -> Result<List<SoundUnit>, Refusal>
+    ensures units { IfOk result (λ sound. sound.items ≡ units.items) }
+    ensures refused { IfErr result (IsDeckRefusal (Ok (map routine_of units.items))) }
+{
+    let mut sound = Vec::new(alloc);
+    for unit in units {
+        let unit = check_unit(alloc, unit)?;
+        let Ok(()) = sound.push(unit) else {
+            return Err(Refusal::Memory);
+        };
+    }
+    Ok(sound)
+}
+
+/// The units of a deck, each sound, or its first fault: that of its cards, else of its first statement or header at fault, else of
+/// its first unit that is not sound (X3.9-1966, sections 3 to 9).
+pub fn read_deck(alloc: Global, bytes: &[u8]) -> Result<List<SoundUnit>, Refusal>
+    ensures units { IfOk result (λ units. deck_units bytes.now ≡ Ok (map routine_of units.items)) }
+    ensures refused { IfErr result (IsDeckRefusal (deck_units bytes.now)) }
+{
+    let lines = lines_of(alloc, bytes)?;
+    let units = units_of(alloc, &lines)?;
+    check_units(alloc, units)
+}

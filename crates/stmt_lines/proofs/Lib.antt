@@ -1,0 +1,2 @@
+-- The lemmas of stmt_lines.
+pub mod BareLemmas

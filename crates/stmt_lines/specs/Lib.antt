@@ -1,0 +1,3 @@
+-- The definitions that the contracts of stmt_lines cite.
+pub mod Answers
+pub mod Orders
