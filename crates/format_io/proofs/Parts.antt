@@ -5,10 +5,6 @@ use Rattle.f66_tree.specs.Fields.{steps, has_item}
 use Rattle.format_io.specs.Places.{Code, code, size, depth}
 use Rattle.format_io.specs.OneField.{one, is_group}
 
-abbrev pub list_size : List tree.Field → ℕ
-list_size [] = 0
-list_size (f ∷ fs) = size (one f) + list_size fs
-
 abbrev pub list_code : ℕ → List tree.Field → List Code
 list_code lv [] = []
 list_code lv (f ∷ fs) = code lv (one f) ++ list_code lv fs

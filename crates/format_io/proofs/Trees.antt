@@ -12,7 +12,7 @@ use Rattle.format_io.specs.declared.code.Laid.{Laid}
 use Rattle.format_io.proofs.Walks.{length_code}
 use Rattle.std.proofs.lemmas.List.{length-map}
 use Rattle.format_io.specs.OneField.{one, is_group}
-use Rattle.format_io.proofs.Parts.{list_size, list_code, list_depth, list_has, list_place, list_cycles}
+use Rattle.format_io.proofs.Parts.{list_code, list_depth, list_has, list_place, list_cycles}
 
 pub code_front : (lv : ℕ) (f : tree.Field) (rest : Fields) → code lv (field_then f rest) ≡ code lv (one f) ++ code lv rest
 code_front lv (tree.Whole n w) rest = refl
@@ -24,15 +24,6 @@ code_front lv tree.Slash rest = refl
 code_front lv (tree.Group' n shape inside) rest =
     ap (λ v. Enter lv n (size (row_fields inside)) ∷ v) (sym (append_assoc (code (suc lv) (row_fields inside)) (Leave lv (size (row_fields inside)) ∷ []) (code lv rest)))
 
-pub size_front : (f : tree.Field) (rest : Fields) → size (field_then f rest) ≡ size (one f) + size rest
-size_front (tree.Whole n w) rest = omega arith
-size_front (tree.Truth n w) rest = omega arith
-size_front (tree.Letter n) rest = omega arith
-size_front (tree.Skip n) rest = omega arith
-size_front (tree.Chars text) rest = omega arith
-size_front tree.Slash rest = omega arith
-size_front (tree.Group' n shape inside) rest = omega arith
-
 pub depth_front : (f : tree.Field) (rest : Fields) → depth (field_then f rest) ≡ max (depth (one f)) (depth rest)
 depth_front (tree.Whole n w) rest = omega arith
 depth_front (tree.Truth n w) rest = omega arith
@@ -41,10 +32,6 @@ depth_front (tree.Skip n) rest = omega arith
 depth_front (tree.Chars text) rest = omega arith
 depth_front tree.Slash rest = omega arith
 depth_front (tree.Group' n shape inside) rest = omega arith
-
-pub list_size_is : (fs : List tree.Field) → size (fields_of fs) ≡ list_size fs
-list_size_is [] = refl
-list_size_is (f ∷ fs) = size_front f (fields_of fs) ∙ ap (λ v. size (one f) + v) (list_size_is fs)
 
 pub list_code_is : (lv : ℕ) (fs : List tree.Field) → code lv (fields_of fs) ≡ list_code lv fs
 list_code_is lv [] = refl
@@ -56,12 +43,6 @@ list_depth_is (f ∷ fs) = depth_front f (fields_of fs) ∙ ap (λ v. max (depth
 
 pub group_is : (n : ℕ) (v : _) → one (tree.Group n v) ≡ Group n (fields_of v.items) NoField
 group_is n v = ap (λ f. f NoField) (group_fields n v)
-
-group_size_of : (n : ℕ) (v : _) → size (one (tree.Group n v)) ≡ 2 + list_size v.items
-group_size_of n v = ap size (group_is n v) ∙ (let e : size (fields_of v.items) ≡ list_size v.items = list_size_is v.items in omega (arith, e))
-
-pub group_size : (f : tree.Field) (n : ℕ) (v : _) (items : List tree.Field) → f ≡ tree.Group n v → items ≡ v.items → 2 + list_size items ≡ size (one f)
-group_size f n v items is same = ap (λ u. 2 + list_size u) same ∙ sym (group_size_of n v) ∙ ap (λ u. size (one u)) (sym is)
 
 pub group_depth : (f : tree.Field) (n : ℕ) (v : _) (items : List tree.Field) (lv : ℕ) → f ≡ tree.Group n v → items ≡ v.items → lv + depth (one f) ≤ 2 → lv + 1 + list_depth items ≤ 2
 group_depth f n v items lv is same le =
@@ -79,18 +60,27 @@ group_within f n v items (suc levels) is same some le =
     let d : list_depth items ≡ list_depth v.items = ap list_depth same in
     omega (arith, a, b, d, le)
 
-pub group_code : (f : tree.Field) (n : ℕ) (v : _) (items : List tree.Field) (lv z : ℕ) (old new : List Code)
-    → f ≡ tree.Group n v → items ≡ v.items → z ≡ size (one f) - 2 → new ≡ old ++ Enter lv n z ∷ []
-    → new ++ (list_code (lv + 1) items ++ Leave lv z ∷ []) ≡ old ++ code lv (one f)
-group_code f n v items lv z old new is same zs e =
-    let a : z ≡ size (fields_of v.items) = (let s : size (one f) ≡ suc (size (fields_of v.items) + 1) = ap (λ u. size (one u)) is ∙ ap size (group_is n v) in omega (arith, zs, s)) in
-    ap (λ u. u ++ (list_code (lv + 1) items ++ Leave lv z ∷ [])) e
-    ∙ append_assoc old (Enter lv n z ∷ []) (list_code (lv + 1) items ++ Leave lv z ∷ [])
-    ∙ ap (λ u. old ++ Enter lv n z ∷ (list_code (lv + 1) u ++ Leave lv z ∷ [])) same
-    ∙ ap (λ u. old ++ Enter lv n z ∷ (list_code u v.items ++ Leave lv z ∷ [])) (let p : lv + 1 ≡ suc lv = omega arith in p)
-    ∙ ap (λ u. old ++ Enter lv n z ∷ (u ++ Leave lv z ∷ [])) (sym (list_code_is (suc lv) v.items))
-    ∙ ap (λ u. old ++ Enter lv n u ∷ (code (suc lv) (fields_of v.items) ++ Leave lv u ∷ [])) a
-    ∙ ap (λ u. old ++ u) (sym (ap (λ u. code lv (one u)) is ∙ ap (code lv) (group_is n v)))
+-- the code of fields between the beginning and the end of a group is that of the group
+group_code : (f : tree.Field) (n : ℕ) (v : _) (items rest : List tree.Field) (lv : ℕ) (old all : List Code) (body : List Op)
+    → f ≡ tree.Group n v → items ≡ v.items → rest ≡ [] → map plan_code body ++ list_code (lv + 1) rest ≡ list_code (lv + 1) items
+    → all ≡ old ++ Enter lv n (length body) ∷ (map plan_code body ++ Leave lv (length body) ∷ [])
+    → all ≡ old ++ code lv (one f)
+group_code f n v items rest lv old all body is same none inside e =
+    let fs = fields_of v.items in
+    let there : map plan_code body ≡ code (suc lv) fs =
+    sym (append-nil (map plan_code body)) ∙ ap (λ u. map plan_code body ++ list_code (lv + 1) u) (sym none) ∙ inside ∙ ap (list_code (lv + 1)) same ∙ sym (list_code_is (lv + 1) v.items)
+    ∙ ap (λ u. code u fs) (let p : lv + 1 ≡ suc lv = omega arith in p) in
+    let many : length body ≡ size fs = sym (length-map body plan_code) ∙ ap length there ∙ length_code (suc lv) fs in
+    e
+    ∙ ap (λ u. old ++ Enter lv n (length body) ∷ (u ++ Leave lv (length body) ∷ [])) there
+    ∙ ap (λ u. old ++ Enter lv n u ∷ (code (suc lv) fs ++ Leave lv u ∷ [])) many
+    ∙ ap (λ u. old ++ code lv u) (sym (ap one is ∙ group_is n v))
+
+pub enclosed : {A B : Type 0} (r : Result A B) (f : tree.Field) (n : ℕ) (v : _) (items rest : List tree.Field) (lv : ℕ) (old all : List Code) (body : List Op)
+    → f ≡ tree.Group n v → items ≡ v.items → rest ≡ [] → map plan_code body ++ list_code (lv + 1) rest ≡ list_code (lv + 1) items
+    → OnOk r (all ≡ old ++ Enter lv n (length body) ∷ (map plan_code body ++ Leave lv (length body) ∷ [])) → OnOk r (all ≡ old ++ code lv (one f))
+enclosed (Ok x) f n v items rest lv old all body is same none inside e = group_code f n v items rest lv old all body is same none inside e
+enclosed (Err e) f n v items rest lv old all body is same none inside h = h
 
 -- ---- edits that take an item ----
 

@@ -1,14 +1,14 @@
 // From the fields of a format to its flat code.
-ghost use Rattle.std.specs.Prelude.{◌≡◌, ◌≤◌, ◌+◌, [], ◌∷◌, ◌++◌, map, length, IfSome, OnOk, IfOk, false, ◌||◌, if◌then◌else◌};
-ghost use Rattle.f66_tree.specs.Fields.{steps, has_item};
+ghost use Rattle.std.specs.Prelude.{◌≡◌, ◌≤◌, ◌+◌, [], ◌∷◌, ◌++◌, map, length, OnOk, IfOk, false, ◌||◌, if◌then◌else◌};
+ghost use Rattle.f66_tree.specs.Fields.{steps, has_item, Chars};
 ghost use Rattle.f66_tree.specs.Views.{fields_of};
-ghost use Rattle.format_io.specs.Places.{size, code, depth, plan_code, step_of, Once, IsPlanOf};
+ghost use Rattle.format_io.specs.Places.{size, code, depth, plan_code, step_of, Once, Enter, Leave, IsPlanOf};
 ghost use Rattle.format_io.specs.OneField.{one, is_group};
 
 use crate::code::{Laid, Op, Piece};
 use crate::format::Plan;
 use f66_tree::{EditKind, Field};
-use ground::{List, Memory};
+use ground::{List, Memory, Text};
 use std::alloc::{AllocError, Global};
 
 /// The plan of a format whose groups nest at most two deep.
@@ -98,24 +98,31 @@ fn emit(alloc: Global, ops: &mut Vec<Op>, level: u8, field: &Field) -> Result<()
 {
     match field {
         Field::Group(count, inside) => {
-            let Some(whole) = code_size(field) else {
-                return Err(AllocError);
-            };
-            let size = whole - 2;
-            ops.push(Op::Enter(level, *count, size))?;
+            let mut body = Vec::new(alloc);
             for part in inside {
-                emit(alloc, ops, level + 1, part)?;
+                emit(alloc, &mut body, level + 1, part)?;
             }
-            ops.push(Op::Leave(level, size))?;
-            Ok(())
+            enclose(ops, level, *count, body)
         }
         Field::Whole(count, width) => once(ops, *count, Piece::Takes(EditKind::Whole, *width)),
         Field::Truth(count, width) => once(ops, *count, Piece::Takes(EditKind::Truth, *width)),
         Field::Letter(count) => once(ops, *count, Piece::Takes(EditKind::Letter, 1)),
         Field::Skip(count) => once(ops, 1, Piece::Blanks(*count)),
-        Field::Chars(text) => once(ops, 1, Piece::Chars(text.clone()?)),
+        Field::Chars(text) => once_chars(ops, text),
         Field::Slash => once(ops, 1, Piece::Slash),
     }
+}
+
+/// The instructions of a group: those of its fields between its beginning and its end, which both tell how many they are.
+fn enclose(ops: &mut Vec<Op>, level: u8, count: u16, mut body: Vec<Op>) -> Result<(), AllocError>
+    ensures { OnOk result
+        (map plan_code ops.new.items ≡ map plan_code ops.old.items ++ Enter level count (length body.items) ∷ (map plan_code body.items ++ Leave level (length body.items) ∷ [])) }
+{
+    let size = body.len();
+    ops.push(Op::Enter(level, count, size))?;
+    ops.append(&mut body)?;
+    ops.push(Op::Leave(level, size))?;
+    Ok(())
 }
 
 /// The instruction of an edit with its count.
@@ -126,24 +133,9 @@ fn once(ops: &mut Vec<Op>, count: u16, piece: Piece) -> Result<(), AllocError>
     Ok(())
 }
 
-/// How many instructions a field has.
-fn code_size(field: &Field) -> Option<usize>
-    ensures { IfSome result (λ n. n ≡ size (one field.now)) }
+/// The instruction of a text.
+fn once_chars(ops: &mut Vec<Op>, text: &Text) -> Result<(), AllocError>
+    ensures { OnOk result (map plan_code ops.new.items ≡ map plan_code ops.old.items ++ Once 1 (Chars text.now) ∷ []) }
 {
-    match field {
-        Field::Group(_, inside) => {
-            let mut total: usize = 2;
-            for part in inside {
-                let n = code_size(part)?;
-                total = total.checked_add(n)?;
-            }
-            Some(total)
-        }
-        Field::Whole(_, _) => Some(1),
-        Field::Truth(_, _) => Some(1),
-        Field::Letter(_) => Some(1),
-        Field::Skip(_) => Some(1),
-        Field::Chars(_) => Some(1),
-        Field::Slash => Some(1),
-    }
+    once(ops, 1, Piece::Chars(text.clone()?))
 }

@@ -212,10 +212,11 @@ fn held_at(cell: &[Option<Value>], offset: usize) -> Option<Value>
 fn put(cell: &mut Vec<Option<Value>>, offset: usize, value: Option<Value>) -> Result<(), AllocError>
     ensures { OnOk result ((i : ℕ) → slice_index_or cell.new.items i None ≡ (if nat_eq offset i then value else slice_index_or cell.old.items i None)) }
 {
-    if offset >= cell.len() {
-        let size = offset.checked_add(1).ok_or(AllocError)?;
-        cell.resize(size, None)?;
+    if offset < cell.len() {
+        cell[offset] = value;
+        return Ok(());
     }
-    cell[offset] = value;
+    cell.resize(offset, None)?;
+    cell.push(value)?;
     Ok(())
 }
