@@ -31,6 +31,79 @@ C A REMARK;      K = 1;     1    + 2;      STOP;      END; | 1 units
       STOP;      END;      SUBROUTINE S(K,K);      RETURN;      END; | DuplicateName at 3
 ";
 
+/// The same of COMMON, EQUIVALENCE and DATA: sound units, and each fault.
+const STORAGE: &str = "
+      COMMON K,M(3);      STOP;      END; | 1 units
+      COMMON /X/ K,L(2)/Y/ M//N;      STOP;      END; | 1 units
+      COMMON /K/ K;      STOP;      END; | 1 units
+      COMMON X;      INTEGER X;      STOP;      END; | 1 units
+      INTEGER K(3);      COMMON K;      STOP;      END; | 1 units
+      COMMON K,/X/ J;      STOP;      END; | Syntax at 1
+      STOP;      COMMON K;      END; | Syntax at 2
+      COMMON /LONGNAME/ K;      STOP;      END; | NameTooLong at 1
+      COMMON LONGNAME;      STOP;      END; | NameTooLong at 1
+      COMMON X;      STOP;      END; | OutOfProfileType at 1
+      COMMON K(1,1,1,1);      STOP;      END; | WrongCount at 1
+      COMMON K;      COMMON /X/ K;      STOP;      END; | DuplicateName at 2
+      COMMON K,J,K;      STOP;      END; | DuplicateName at 1
+      COMMON /X/ K/Y/ J,K;      STOP;      END; | DuplicateName at 1
+      INTEGER K(3);      COMMON K(3);      STOP;      END; | DuplicateName at 2
+      COMMON K(3);      DIMENSION K(3);      STOP;      END; | DuplicateName at 2
+      COMMON N;      K = N(1);      STOP;      END; | DuplicateName at 2
+      SUBROUTINE S(K);      COMMON K;      RETURN;      END; | DuplicateName at 2
+      SUBROUTINE K;      COMMON K;      RETURN;      END; | DuplicateName at 2
+      FUNCTION K(J);      COMMON K;      K = J;      RETURN;      END; | DuplicateName at 2
+      COMMON K(0);      STOP;      END; | BadConstant at 1
+      COMMON K(N);      STOP;      END; | BadConstant at 1
+      COMMON K(32767),J(181,181);      STOP;      END; | 1 units
+      COMMON K(32768);      STOP;      END; | Limit 7 at 1
+      INTEGER M(3);      EQUIVALENCE (K,M(2)),(M(3),J,N);      STOP;      END; | 1 units
+      INTEGER M(3,3);      EQUIVALENCE (K,M(9)),(J,M(2,2));      STOP;      END; | 1 units
+      INTEGER M(3);      EQUIVALENCE (K,M(0)),(J,M(4)),(N,M);      STOP;      END; | 1 units
+      LOGICAL L;      EQUIVALENCE (K,L);      STOP;      END; | 1 units
+      EQUIVALENCE (K);      STOP;      END; | Syntax at 1
+      EQUIVALENCE (K,LONGNAME);      STOP;      END; | NameTooLong at 1
+      EQUIVALENCE (K,X);      STOP;      END; | OutOfProfileType at 1
+      EQUIVALENCE (K,M(X));      STOP;      END; | OutOfProfileType at 1
+      EQUIVALENCE (K,M(1));      STOP;      END; | TypeClash at 1
+      INTEGER M(3);      EQUIVALENCE (K,M(-1));      STOP;      END; | TypeClash at 2
+      INTEGER M(3,3,3);      EQUIVALENCE (K,M(1,2));      STOP;      END; | WrongCount at 2
+      EQUIVALENCE (N,J);      K = N(1);      STOP;      END; | DuplicateName at 2
+      SUBROUTINE S(K);      EQUIVALENCE (K,J);      RETURN;      END; | DuplicateName at 2
+      SUBROUTINE S(M);      INTEGER M(3);      EQUIVALENCE (M(1),J);      RETURN;      END; | DuplicateName at 3
+      FUNCTION K(J);      EQUIVALENCE (N,K);      K = J;      RETURN;      END; | DuplicateName at 2
+      INTEGER M(3);      EQUIVALENCE (K,M(J));      STOP;      END; | BadConstant at 2
+      LOGICAL L;      INTEGER M(3);      DATA K,M(2),L/1,-2,.TRUE./,J,N/2*+7/,I/1HA/;      STOP;      END; | 1 units
+      K = 1;      DATA J/2/;      STOP;      END; | 1 units
+      BLOCK DATA;      COMMON /X/ K;      DATA K/1/;      END; | 1 units
+      INTEGER M(3,3);      DATA M(3,1),M(1,3)/2*0/;      STOP;      END; | 1 units
+      DATA K/J/;      STOP;      END; | Syntax at 1
+      DATA LONGNAME/1/;      STOP;      END; | NameTooLong at 1
+      DATA X/1/;      STOP;      END; | OutOfProfileType at 1
+      INTEGER M(9);      DATA M(J*2)/1/;      STOP;      END; | TypeClash at 2
+      INTEGER M(9);      DATA M(-1)/1/;      STOP;      END; | TypeClash at 2
+      DATA K,J/1/;      STOP;      END; | WrongCount at 1
+      DATA K/2*1/;      STOP;      END; | WrongCount at 1
+      INTEGER M(3,3);      DATA M(1)/1/;      STOP;      END; | WrongCount at 2
+      DATA N/1/;      K = N(1);      STOP;      END; | DuplicateName at 2
+      DATA K/.TRUE./;      STOP;      END; | BadConstant at 1
+      LOGICAL L;      DATA L/1/;      STOP;      END; | BadConstant at 2
+      LOGICAL L;      DATA L/1HA/;      STOP;      END; | BadConstant at 2
+      LOGICAL L;      DATA K,J,L/2*1,.TRUE./;      STOP;      END; | 1 units
+      LOGICAL L;      DATA K,L,J/2*1,1/;      STOP;      END; | BadConstant at 2
+      DATA K/0*1,1/;      STOP;      END; | BadConstant at 1
+      INTEGER M(3);      DATA M/1/;      STOP;      END; | NotAssignable at 2
+      DATA K(1)/1/;      STOP;      END; | NotAssignable at 1
+      DATA K(MOD(1))/.TRUE./;      STOP;      END; | NotAssignable at 1
+      INTEGER M(3);      DATA M(4)/1/;      STOP;      END; | NotAssignable at 2
+      INTEGER M(3);      DATA M(0)/1/;      STOP;      END; | NotAssignable at 2
+      INTEGER M(3);      DATA M(J)/1/;      STOP;      END; | NotAssignable at 2
+      SUBROUTINE S(K);      DATA K/1/;      RETURN;      END; | NotAssignable at 2
+      FUNCTION K(J);      DATA K/1/;      K = J;      RETURN;      END; | NotAssignable at 2
+      COMMON /X/ K;      DATA K/1/;      STOP;      END; | NotAssignable at 2
+      BLOCK DATA;      COMMON K;      DATA K/1/;      END; | NotAssignable at 3
+";
+
 /// What reading a deck gives.
 fn outcome(alloc: Global, deck: &str) -> Result<String, Fail> {
     match read_deck(alloc, deck.as_bytes()) {
@@ -51,12 +124,17 @@ fn expect(rt: &impl Abort, alloc: Global, row: &str) -> Result<(), Fail> {
     Ok(())
 }
 
-#[test]
-fn decks_are_read(rt: HostRuntime) -> Result<(), Fail> {
-    for row in DECKS.lines() {
+fn expect_all(rt: &impl Abort, alloc: Global, rows: &str) -> Result<(), Fail> {
+    for row in rows.lines() {
         if !row.is_empty() {
-            expect(&rt, rt.alloc(), row)?;
+            expect(rt, alloc, row)?;
         }
     }
     Ok(())
+}
+
+#[test]
+fn decks_are_read(rt: HostRuntime) -> Result<(), Fail> {
+    expect_all(&rt, rt.alloc(), DECKS)?;
+    expect_all(&rt, rt.alloc(), STORAGE)
 }

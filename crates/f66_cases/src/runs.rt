@@ -72,8 +72,8 @@ READ 5 9 K, J; 9 FORMAT I2; WRITE 6 9 J; STOP | 12/34/56/ | 9 | 34/done 3
 READ 5 9 K; READ 5 9 K; 9 FORMAT I2; STOP | 12/ | 9 | trap 6 at 2 2
 ";
 
-/// Units, whether the rules of a whole one are asked or those of one in parts, and the first fault by them. COMMON,
-/// EQUIVALENCE, DATA and RETURN stand among them, which the checks of a unit do not let through yet.
+/// Units, whether the rules of order of a whole one are asked or those of one in parts, and the first fault by them. Of COMMON,
+/// EQUIVALENCE and DATA the words alone stand among them.
 pub const FLOW: &str = "
  | whole | Syntax at 0
  | part | sound

@@ -429,11 +429,22 @@ FORMAT 5X,2(2(0X)); STOP | BadFormat at 1
 FORMAT 1H\x07; STOP | Syntax at 1
 FORMAT 2(0X,1H\x07); STOP | Syntax at 1
 0 FORMAT 0X; STOP | BadLabel at 1
-# Statements that have no rules yet go before all faults of their unit.
-COMMON K; STOP | Unbuilt at 1
-EQUIVALENCE K, J; STOP | Unbuilt at 1
-DATA K, 1; STOP | Unbuilt at 1
-SET K, -1; 0 SET K, true; RETURN; COMMON K | Unbuilt at 4
+# COMMON, EQUIVALENCE and DATA; more of them stand in decks.
+COMMON K; STOP | sound
+EQUIVALENCE K, J; STOP | sound
+DATA K, 1; STOP | sound
+DATA K, letter; STOP | sound
+COMMON K; EQUIVALENCE K, J; DATA K, 1; STOP | NotAssignable at 3
+COMMON; STOP | Syntax at 1
+EQUIVALENCE K; STOP | Syntax at 1
+EQUIVALENCE K, 1; STOP | Syntax at 1
+DATA; STOP | Syntax at 1
+DATA K, J; STOP | Syntax at 1
+DATA K, -1; STOP | Syntax at 1
+DATA K, 1 group; STOP | Syntax at 1
+DATA 1, 1; STOP | Syntax at 1
+IF true ? DATA K, 1; STOP | Syntax at 1
+SET K, -1; 0 SET K, true; RETURN; COMMON K | Syntax at 1
 # One statement for each rule of names, and items of READ and WRITE.
 SET I, J 1 +; STOP | sound
 SET I, INDEXES; STOP | NameTooLong at 1
@@ -584,7 +595,8 @@ IF true ? GO 20; STOP | BadLabel at 1 | BadLabel at 1
 WRITE 6 9 K; STOP | BadLabel at 1 | BadLabel at 1
 9 FORMAT 1I133; STOP | BadFormat at 1 | BadFormat at 1
 INTEGER M 32768; STOP | Limit 7 at 1 | Limit 7 at 1
-SET K, -1; COMMON K | Unbuilt at 2 | Unbuilt at 2
+SET K, -1; COMMON K | Syntax at 1 | Syntax at 1
+COMMON K; COMMON K; STOP | DuplicateName at 2 | DuplicateName at 2
 # The same of the smallest units.
 SET I, 1 | Syntax at 1 | sound
 DO 10 I 1 9 1 | Syntax at 1 | sound

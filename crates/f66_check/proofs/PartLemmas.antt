@@ -7,7 +7,6 @@ use Rattle.std.proofs.lemmas.Option.{slice_get-map, slice_get_past}
 use Rattle.std.proofs.lemmas.Bool.{or_parts, cases_lt}
 use Rattle.rule_table.specs.FaultRules.{rule_number}
 use Rattle.rule_table.specs.declared.rule.Rule.{Rule}
-use Rattle.rule_table.specs.declared.rule.Rule.TheVariants.{Unbuilt}
 use Rattle.rule_table.specs.First.{IsFirst, IsClean}
 use Rattle.rule_table.specs.FaultRules.{first_rule}
 use Rattle.rule_table.specs.Words.{first_place, is_some_and}
@@ -28,9 +27,8 @@ use Rattle.f66_flow.specs.declared.scope.Scope.{Scope}
 use Rattle.f66_flow.specs.FlowRules.{breaks_flow, breaks_flow_at}
 use Rattle.f66_soundness.specs.SoundUnits.{acts_in_unit}
 use Rattle.f66_check.specs.CheckRules.{context_of, unbuilt_line, first_unbuilt}
-use Rattle.f66_check.specs.UnitChecks.{breaks_statement, breaks_piece, breaks_unit, unjudged_line, first_unjudged}
-use Rattle.f66_check.specs.Answers.{place_at, IsFaultless, IsFirstRule}
-use Rattle.unit_rules.specs.Judged.{is_judged}
+use Rattle.f66_check.specs.UnitChecks.{breaks_statement, breaks_piece, breaks_unit}
+use Rattle.f66_check.specs.Answers.{place_at, IsFaultless}
 
 -- what the part behind the statements before i breaks is what the statement breaks
 part_at : (w : Scope) (c : Context) (acts : List Act) (all : List Stmt) (i : ℕ) (s : Stmt) → slice_get all i ≡ Some s →
@@ -104,37 +102,30 @@ pub unbuilt_told : (c : Context) (unit : Unit) (o : Option ℕ) → c ≡ contex
 unbuilt_told c unit o e h =
     ap (λ d. unbuilt_line d (lines_of unit.statements.items)) (sym e) ∙ first_place-map (λ s. not (is_built c s.act)) line_of unit.statements.items ∙ sym h
 
--- the first statement that has no rules yet
-pub unjudged_told : (unit : Unit) (o : Option ℕ) → o ≡ first_place (λ s. not (is_judged (act_of s.kind))) unit.statements.items → unjudged_line (lines_of unit.statements.items) ≡ o
-unjudged_told unit o h = first_place-map (λ s. not (is_judged s.act)) line_of unit.statements.items ∙ sym h
-
-pub unjudged_at : (w : Scope) (u : Routine) (i : ℕ) → unjudged_line u.lines ≡ Some i → IsFirstRule (first_unjudged u) w u (i + 1) Unbuilt
-unjudged_at w u i found = subst (λ o. IsFirstRule (option_map (λ n. n + 1) o) w u (i + 1) Unbuilt) (sym found) (refl, refl)
-
-first_told : (w : Scope) (u : Routine) (o : Option (ℕ × Rule)) → first_unjudged u ≡ None →
+first_told : (w : Scope) (u : Routine) (o : Option (ℕ × Rule)) →
     MatchOption o (IsClean (breaks_unit w u)) (λ r. IsFirst rule_number (breaks_unit w u) r.0 r.1) →
-    MatchOption o (IsFaultless w u) (λ r. IsFirstRule (first_unjudged u) w u r.0 r.1)
-first_told w u None judged told = record { judged = judged; clean = told }
-first_told w u (Some r) judged told = subst (λ m. IsFirstRule m w u r.0 r.1) (sym judged) told
+    MatchOption o (IsFaultless w u) (λ r. IsFirst rule_number (breaks_unit w u) r.0 r.1)
+first_told w u None told = record { clean = told }
+first_told w u (Some r) told = told
 
--- what the rules tell of a unit whose statements have rules
+-- what the rules tell of a unit
 told_of : (w : Scope) (u : Routine) (c : Context) (acts : List Act) (lines : List Line) (o : Option (ℕ × Rule)) →
-    c ≡ context_of u → acts ≡ acts_in_unit u.lines → lines ≡ u.lines → unjudged_line u.lines ≡ None →
+    c ≡ context_of u → acts ≡ acts_in_unit u.lines → lines ≡ u.lines →
     MatchOption o (IsClean (breaks_piece w c acts lines)) (λ r. IsFirst rule_number (breaks_piece w c acts lines) r.0 r.1) →
-    MatchOption o (IsFaultless w u) (λ r. IsFirstRule (first_unjudged u) w u r.0 r.1)
-told_of w u c acts lines o same_context same_acts same_lines found told =
-    first_told w u o (ap (option_map (λ n. n + 1)) found)
+    MatchOption o (IsFaultless w u) (λ r. IsFirst rule_number (breaks_unit w u) r.0 r.1)
+told_of w u c acts lines o same_context same_acts same_lines told =
+    first_told w u o
     (subst (λ d. MatchOption o (IsClean (breaks_piece w d (acts_in_unit u.lines) u.lines)) (λ r. IsFirst rule_number (breaks_piece w d (acts_in_unit u.lines) u.lines) r.0 r.1)) same_context
     (subst (λ xs. MatchOption o (IsClean (breaks_piece w c xs u.lines)) (λ r. IsFirst rule_number (breaks_piece w c xs u.lines) r.0 r.1)) same_acts
     (subst (λ ys. MatchOption o (IsClean (breaks_piece w c acts ys)) (λ r. IsFirst rule_number (breaks_piece w c acts ys) r.0 r.1)) same_lines told)))
 
 -- the same of what the rules answer, or of want of memory
 pub told_by : (w : Scope) (u : Routine) (c : Context) (acts : List Act) (lines : List Line) (r : Result (Option (ℕ × Rule)) AllocError) →
-    c ≡ context_of u → acts ≡ acts_in_unit u.lines → lines ≡ u.lines → unjudged_line u.lines ≡ None →
+    c ≡ context_of u → acts ≡ acts_in_unit u.lines → lines ≡ u.lines →
     IfOk r (λ o. MatchOption o (IsClean (breaks_piece w c acts lines)) (λ p. IsFirst rule_number (breaks_piece w c acts lines) p.0 p.1)) →
-    IfOk r (λ o. MatchOption o (IsFaultless w u) (λ p. IsFirstRule (first_unjudged u) w u p.0 p.1))
-told_by w u c acts lines (Ok o) same_context same_acts same_lines found told = told_of w u c acts lines o same_context same_acts same_lines found told
-told_by w u c acts lines (Err e) same_context same_acts same_lines found told = tt
+    IfOk r (λ o. MatchOption o (IsFaultless w u) (λ p. IsFirst rule_number (breaks_unit w u) p.0 p.1))
+told_by w u c acts lines (Ok o) same_context same_acts same_lines told = told_of w u c acts lines o same_context same_acts same_lines told
+told_by w u c acts lines (Err e) same_context same_acts same_lines told = tt
 
 -- ---- units that run ----
 

@@ -4,7 +4,6 @@ use Rattle.std.specs.List.{slice_get}
 use Rattle.rule_table.specs.FaultRules.{rule_number}
 use Rattle.ground.specs.declared.place.Place.{Place}
 use Rattle.rule_table.specs.declared.rule.Rule.{Rule}
-use Rattle.rule_table.specs.declared.rule.Rule.TheVariants.{Unbuilt}
 use Rattle.ground.specs.declared.fault.Fault.{Fault}
 use Rattle.ground.specs.declared.fault.Refusal.{Refusal}
 use Rattle.ground.specs.declared.fault.Refusal.TheVariants.{Fault as AFault, Memory}
@@ -14,16 +13,15 @@ use Rattle.f66_tree.specs.Syntax.{Routine}
 use Rattle.f66_flow.specs.declared.scope.Scope.{Scope}
 use Rattle.f66_flow.specs.declared.scope.Scope.TheVariants.{Whole}
 use Rattle.f66_check.specs.CheckRules.{breaks_at, first_unbuilt}
-use Rattle.f66_check.specs.UnitChecks.{breaks_unit, first_unjudged}
+use Rattle.f66_check.specs.UnitChecks.{breaks_unit}
 
 -- the place of a unit's header, or of a statement
 abbrev pub place_at : Routine → ℕ → Option Place
 place_at u zero = Some u.place
 place_at u (suc i) = option_map (λ s. s.place) (slice_get u.lines i)
 
--- each part of the unit has its rules, and none breaks one
+-- no part of the unit breaks a rule
 pub record IsFaultless (w : Scope) (u : Routine) : Type 0 where
-  pub judged : first_unjudged u ≡ None
   pub clean : IsClean (breaks_unit w u)
 
 -- a sound unit of any kind
@@ -35,14 +33,9 @@ pub record IsSound (u : Routine) : Type 0 where
   pub built : first_unbuilt u ≡ None
   pub clean : IsClean (breaks_at Whole u)
 
--- the first fault of a unit: the first part without rules, wherever it stands; else that of the rules
-abbrev pub IsFirstRule : Option ℕ → Scope → Routine → ℕ → Rule → Type 0
-IsFirstRule (Some m) w u n r = (n ≡ m) × (r ≡ Unbuilt)
-IsFirstRule None w u n r = IsFirst rule_number (breaks_unit w u) n r
-
 -- f is the first fault, and stands at the part with the number n
 pub record IsFirstFault (w : Scope) (u : Routine) (n : ℕ) (f : Fault) : Type 0 where
-  pub first : (r : Rule) × IsFirstRule (first_unjudged u) w u n r × (f ≡ fault_of f.place r)
+  pub first : (r : Rule) × IsFirst rule_number (breaks_unit w u) n r × (f ≡ fault_of f.place r)
   pub place : place_at u n ≡ Some f.place
 
 -- a refusal by a fault is by the first one, of a unit that is not sound

@@ -1,15 +1,13 @@
--- What the parts of a unit of any kind break, its header with the number 0 and its statements from 1 on, and which part has no
--- rules yet.
-use Rattle.std.specs.Prelude.{ℕ, zero, suc, ◌+◌, Bool, not, ◌||◌, List, Option, option_map}
+-- What the parts of a unit of any kind break, its header with the number 0 and its statements from 1 on.
+use Rattle.std.specs.Prelude.{ℕ, zero, suc, Bool, ◌||◌, List}
 use Rattle.std.specs.List.{slice_get}
 use Rattle.rule_table.specs.declared.rule.Rule.{Rule}
-use Rattle.rule_table.specs.Words.{first_place, is_some_and}
+use Rattle.rule_table.specs.Words.{is_some_and}
 use Rattle.f66_tree.specs.Syntax.{Act, Line, Routine}
 use Rattle.f66_tree.specs.Units.{Context}
 use Rattle.f66_flow.specs.FlowRules.{breaks_flow, header_breaks_flow}
 use Rattle.f66_flow.specs.declared.scope.Scope.{Scope}
 use Rattle.f66_soundness.specs.SoundUnits.{acts_in_unit}
-use Rattle.unit_rules.specs.Judged.{is_judged}
 use Rattle.unit_rules.specs.Heads.{breaks_header}
 use Rattle.unit_rules.specs.UnitRules.{breaks_rule}
 use Rattle.f66_check.specs.CheckRules.{context_of}
@@ -26,11 +24,3 @@ breaks_piece w c acts lines (suc i) k = is_some_and (λ s. breaks_statement w c 
 -- the part of the unit with this number breaks the rule k
 abbrev pub breaks_unit : Scope → Routine → ℕ → Rule → Bool
 breaks_unit w u n k = breaks_piece w (context_of u) (acts_in_unit u.lines) u.lines n k
-
--- the place of the first statement that has no rules yet
-abbrev pub unjudged_line : List Line → Option ℕ
-unjudged_line lines = first_place (λ s. not (is_judged s.act)) lines
-
--- its number
-abbrev pub first_unjudged : Routine → Option ℕ
-first_unjudged u = option_map (λ i. i + 1) (unjudged_line u.lines)

@@ -2,12 +2,13 @@
 ghost use Rattle.std.specs.Prelude.{◌≡◌, ◌≤◌, ◌-◌, ◌^◌, ◌<◌, length, Some, IfOk, IfErr, OnOk, IfSome, IfNone, MatchOption};
 ghost use Rattle.f66_tree.specs.Views.{routine_of};
 ghost use Rattle.f66_flow.specs.declared.scope.Scope.TheVariants.{Part};
-ghost use Rattle.f66_check.specs.UnitChecks.{first_unjudged};
-ghost use Rattle.f66_check.specs.Answers.{IsFaultless, IsSoundUnit, IsFirstRule, IsFirstFault, IsRightRefusal, place_at};
-ghost use Rattle.rule_table.specs.FaultRules.{fault_of};
+ghost use Rattle.f66_check.specs.UnitChecks.{breaks_unit};
+ghost use Rattle.f66_check.specs.Answers.{IsFaultless, IsSoundUnit, IsFirstFault, IsRightRefusal, place_at};
+ghost use Rattle.rule_table.specs.First.{IsFirst};
+ghost use Rattle.rule_table.specs.FaultRules.{rule_number, fault_of};
 
 use crate::parts::first_broken;
-use crate::unbuilt::{sayings_of, unjudged_statement};
+use crate::unbuilt::sayings_of;
 use f66_flow::{Scope, flow_of};
 use f66_tree::Unit;
 use ground::{Fault, Memory, Place, Refusal};
@@ -20,11 +21,8 @@ use unit_rules::unit_names_of;
 fn first_of(alloc: Global, scope: Scope, unit: &Unit) -> Result<Option<(usize, Rule)>, AllocError>
     ensures within { IfOk result (λ o. IfSome o (λ r. r.0 ≤ length unit.now.statements.items)) }
     ensures first { IfOk result (λ o. MatchOption o (IsFaultless scope (routine_of unit.now))
-        (λ r. IsFirstRule (first_unjudged (routine_of unit.now)) scope (routine_of unit.now) r.0 r.1)) }
+        (λ r. IsFirst rule_number (breaks_unit scope (routine_of unit.now)) r.0 r.1)) }
 {
-    if let Some(i) = unjudged_statement(&unit.statements) {
-        return Ok(Some((i + 1, Rule::Unbuilt)));
-    }
     let sayings = sayings_of(alloc, &unit.statements)?;
     let names = unit_names_of(alloc, &unit.header, &sayings)?;
     let flow = flow_of(alloc, &unit.statements)?;

@@ -1,4 +1,4 @@
-// The first statement that is not built, and the first one without rules.
+// The first statement that is not built.
 ghost use Rattle.std.specs.Prelude.{◌≡◌, ◌<◌, not, length, map, IfOk, IfSome};
 ghost use Rattle.rule_table.specs.Words.{first_place};
 ghost use Rattle.f66_tree.specs.Units.{is_main as is_main_header};
@@ -6,12 +6,10 @@ ghost use Rattle.f66_tree.specs.Views.{header_of, act_of};
 ghost use Rattle.f66_names.specs.BuiltActs.{is_built as is_built_act};
 ghost use Rattle.f66_names.specs.ActViews.{acts_of};
 ghost use Rattle.f66_names.specs.DeclarationViews.{context_in};
-ghost use Rattle.unit_rules.specs.Judged.{is_judged as is_judged_act};
 
 use f66_names::{Names, Saying, is_built};
 use f66_tree::{Header, Stmt};
 use std::alloc::{AllocError, Global};
-use unit_rules::is_judged;
 
 /// Whether the unit is a main program.
 pub fn is_main(header: &Header) -> bool
@@ -49,18 +47,4 @@ pub fn unbuilt_statement(
         }
     }
     Ok(None)
-}
-
-/// The place of the first statement that has no rules yet.
-#[tactic(auto, using(rule_table::proofs::WordLemmas::place_steps))]
-pub fn unjudged_statement(statements: &[Stmt]) -> Option<usize>
-    ensures within { IfSome result (λ i. i < length statements.now) }
-    ensures first { result ≡ first_place (λ s. not (is_judged_act (act_of s.kind))) statements.now }
-{
-    for (i, statement) in statements.iter().enumerate() {
-        if !is_judged(&statement.kind) {
-            return Some(i);
-        }
-    }
-    None
 }

@@ -159,7 +159,8 @@ pub fn outcome(operator: Operator) -> Kind
     }
 }
 
-fn is_number(e: &Expr) -> bool
+/// Whether an expression is an integer constant without a sign.
+pub fn is_number(e: &Expr) -> bool
     ensures { result ≡ is_number (formula_of e.now) }
 {
     matches!(e, Expr::Int(_))

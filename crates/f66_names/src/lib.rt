@@ -21,20 +21,23 @@ mod uses;
 pub use built::{is_built, is_built_saying};
 pub use declarations::Declarations;
 pub use formats::has_bad_format;
-pub use kinds::{are_subscripts, clashes, counts, may_be, operand, outcome, same_kind, takes_kind};
+pub use kinds::{
+    are_subscripts, clashes, counts, is_number, may_be, operand, outcome, same_kind, takes_kind,
+};
 pub use name_form::{Arity, Class, Manner, NameForm};
 pub use name_rules::{
-    has_long_name, has_long_use, has_other_type, has_other_use, has_wrong_count, has_wrong_use,
-    is_long,
+    has_long_name, has_long_use, has_many_sizes, has_other_type, has_other_use, has_wrong_count,
+    has_wrong_use, is_long,
 };
 pub use names::{Names, names_of};
 pub use repeats::{note_repeat, redeclares};
 pub use rules::{broken_rule, condition_rule, counting_rule, saying_rule, value_rule};
 pub use saying::{Saying, declared_in_saying};
-pub use shapes::{has_shape, is_name, is_printed, stands};
+pub use shapes::{are_declared, has_shape, is_name, is_place, is_printed, stands};
 pub use sorts::{
     form_of, is_array, is_counter, is_foreign, is_integer, is_other, is_real_by_letter, kind_of,
+    takes,
 };
-pub use store_rules::{has_bad_constant, has_large_array, stores_wrong};
+pub use store_rules::{has_bad_constant, has_bad_size, has_large_array, is_large, stores_wrong};
 pub use tables::{declared_in, typed_in};
-pub use uses::{Use, collect_all, uses_of_saying, uses_of_statement};
+pub use uses::{Use, collect_all, collect_pars, collect_target, uses_of_saying, uses_of_statement};

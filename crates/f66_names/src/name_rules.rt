@@ -104,7 +104,8 @@ fn has_other_declaration(declarations: &Declarations, list: &[Declared]) -> bool
         .any(|d| is_real_by_letter(declarations, &d.name))
 }
 
-fn has_many_sizes(declared: &Declared) -> bool
+/// Whether a name has more than three dimensions (section 5.1.3).
+pub fn has_many_sizes(declared: &Declared) -> bool
     ensures { result ≡ has_many_sizes (declared_of declared.now) }
 {
     declared.sizes.len() > 3

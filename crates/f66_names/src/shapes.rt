@@ -160,7 +160,8 @@ fn is_named(e: &Expr) -> bool
     matches!(e, Expr::Ref(_) | Expr::Item(_, _))
 }
 
-fn is_place(e: &Expr) -> bool
+/// Whether an expression is a variable, or a name with arguments or subscripts.
+pub fn is_place(e: &Expr) -> bool
     ensures { result ≡ is_place (formula_of e.now) }
 {
     is_named(e) && stands(7, e)
@@ -279,7 +280,8 @@ fn are_all_declared(list: &[Declared]) -> bool
     true
 }
 
-fn are_declared(list: &[Declared]) -> bool
+/// Whether a list has a name or more, with their dimensions (section 7.2.1).
+pub fn are_declared(list: &[Declared]) -> bool
     ensures { result ≡ are_declared (map declared_of list.now) }
 {
     !list.is_empty() && are_all_declared(list)

@@ -39,7 +39,8 @@ fn is_adjustable(declarations: &Declarations, name: &Name, variable: &Name) -> b
 }
 
 #[tactic(auto, using(rule_table::proofs::WordLemmas::list_any_map))]
-fn has_bad_size(declarations: &Declarations, declared: &Declared) -> bool
+/// Whether a dimension of a name is zero, or a name and no adjustable dimension.
+pub fn has_bad_size(declarations: &Declarations, declared: &Declared) -> bool
     ensures { result ≡ has_bad_size (context_in declarations.now) (declared_of declared.now) }
 {
     are_some_unfit(declarations, &declared.name, &declared.sizes)
@@ -145,7 +146,7 @@ fn are_some_large(list: &[Declared]) -> bool
 }
 
 /// Whether there are more than 32,767 places. Their product is kept below what could wrap.
-fn is_large(declared: &Declared) -> bool
+pub fn is_large(declared: &Declared) -> bool
     ensures { result ≡ is_large (declared_of declared.now) }
 {
     let mut places: u64 = 1;

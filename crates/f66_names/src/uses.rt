@@ -164,7 +164,8 @@ pub fn collect_all<'a>(list: &'a [Expr], uses: &mut Vec<Use<'a>>) -> Result<(), 
     Ok(())
 }
 
-fn collect_target<'a>(e: &'a Expr, uses: &mut Vec<Use<'a>>) -> Result<(), AllocError>
+/// Adds the names of a place.
+pub fn collect_target<'a>(e: &'a Expr, uses: &mut Vec<Use<'a>>) -> Result<(), AllocError>
     ensures { OnOk result (map use_of uses.new.items ≡ map use_of uses.old.items ++ uses_of_target (formula_of e.now)) }
 {
     match e {
@@ -208,7 +209,8 @@ fn collect_entries<'a>(list: &'a [Entry], uses: &mut Vec<Use<'a>>) -> Result<(),
     Ok(())
 }
 
-fn collect_pars<'a>(list: &'a [Par], uses: &mut Vec<Use<'a>>) -> Result<(), AllocError>
+/// Adds the names in dimensions.
+pub fn collect_pars<'a>(list: &'a [Par], uses: &mut Vec<Use<'a>>) -> Result<(), AllocError>
     ensures { OnOk result (map use_of uses.new.items ≡ map use_of uses.old.items ++ flat_map uses_of_par (map par_of list.now)) }
 {
     for par in list {

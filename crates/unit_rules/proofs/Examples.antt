@@ -1,12 +1,12 @@
 -- The rules on small units, by computation.
 use Rattle.std.proofs.Common.{◌≡◌, refl}
-use Rattle.std.specs.Prelude.{ℕ, pos, ◌+◌, true, List, [], ◌∷◌, Option, Some, None, codes}
+use Rattle.std.specs.Prelude.{ℕ, pos, ◌+◌, true, List, [], ◌∷◌, map, Option, Some, None, codes}
 use Rattle.rule_table.specs.declared.rule.Rule.{Rule}
-use Rattle.rule_table.specs.declared.rule.Rule.TheVariants.{Syntax, NameTooLong, OutOfProfileType, TypeClash, WrongCount, DuplicateName}
+use Rattle.rule_table.specs.declared.rule.Rule.TheVariants.{Syntax, NameTooLong, OutOfProfileType, TypeClash, WrongCount, DuplicateName, BadConstant, NotAssignable, LargeArray}
 use Rattle.rule_table.specs.FaultRules.{first_rule}
 use Rattle.f66_tree.specs.declared.declaration.TypeWord.TheVariants.{Integer, Logical, Other}
 use Rattle.f66_tree.specs.declared.expression.Operator.TheVariants.{Add}
-use Rattle.f66_tree.specs.Syntax.{Text, Formula, Int, Truth, Letter, Ref, Item, Pair, Formulas, NoFormula, AndFormula, Constant, Declared, Header, MainUnit, SubUnit, FuncUnit, DataUnit, Act, Assign, When, Continue, Typed, Dimension, Invoke}
+use Rattle.f66_tree.specs.Syntax.{Text, Formula, Int, Truth, Letter, Ref, Item, Minus, Pair, Formulas, NoFormula, AndFormula, Constant, Declared, Header, MainUnit, SubUnit, FuncUnit, DataUnit, Act, Assign, When, Continue, Typed, Dimension, Invoke, Common, Equivalence, Preset}
 use Rattle.f66_names.specs.Declaring.{context_by}
 use Rattle.unit_rules.specs.Heads.{breaks_header}
 use Rattle.unit_rules.specs.UnitRules.{breaks_rule}
@@ -174,3 +174,102 @@ own_dummy = refl
 
 block_data : of_header DataUnit [] ≡ None
 block_data = refl
+
+-- COMMON K, and COMMON /N/ K
+abbrev sized : Text → List ℕ → Declared
+sized y ns = record { name = y; sizes = map (λ n. Constant (pos n)) ns }
+
+abbrev blank : List Declared → Act
+blank ds = Common (record { name = None; list = ds } ∷ [])
+
+abbrev labelled : Text → List Declared → Act
+labelled y ds = Common (record { name = Some y; list = ds } ∷ [])
+
+in_common : of_main (blank (declared k ∷ sized n (3 ∷ []) ∷ []) ∷ []) ≡ None
+in_common = refl
+
+own_block : of_main (labelled k (declared k ∷ []) ∷ []) ≡ None
+own_block = refl
+
+real_common : of_main (blank (declared x ∷ []) ∷ []) ≡ Some OutOfProfileType
+real_common = refl
+
+many_common : of_main (blank (sized n (1 ∷ 1 ∷ 1 ∷ 1 ∷ []) ∷ []) ∷ []) ≡ Some WrongCount
+many_common = refl
+
+twice_common : of_main (blank (declared k ∷ []) ∷ labelled n (declared k ∷ []) ∷ []) ≡ Some DuplicateName
+twice_common = refl
+
+sized_twice : of_main (array ∷ blank (sized k (3 ∷ []) ∷ []) ∷ []) ≡ Some DuplicateName
+sized_twice = refl
+
+common_dummy : fault (SubUnit s (k ∷ [])) (blank (declared k ∷ []) ∷ []) ≡ Some DuplicateName
+common_dummy = refl
+
+common_function : of_main (blank (declared n ∷ []) ∷ referred ∷ []) ≡ Some DuplicateName
+common_function = refl
+
+large_common : of_main (blank (sized k (32768 ∷ []) ∷ []) ∷ []) ≡ Some LargeArray
+large_common = refl
+
+-- EQUIVALENCE (I,K(2)) with and without DIMENSION K(10)
+abbrev equated : Formula → Formula → Act
+equated a b = Equivalence ((a ∷ b ∷ []) ∷ [])
+
+element : of_main (array ∷ equated (Ref i) (Item k (one (num 20))) ∷ []) ≡ None
+element = refl
+
+lone : of_main (Equivalence ((Ref i ∷ []) ∷ []) ∷ []) ≡ Some Syntax
+lone = refl
+
+no_element : of_main (equated (Ref i) (Item k (one (num 2))) ∷ []) ≡ Some TypeClash
+no_element = refl
+
+signed_element : of_main (array ∷ equated (Ref i) (Item k (one (Minus (num 2)))) ∷ []) ≡ Some TypeClash
+signed_element = refl
+
+many_subscripts : of_main (array ∷ equated (Ref i) (Item k (AndFormula (num 1) (one (num 2)))) ∷ []) ≡ Some WrongCount
+many_subscripts = refl
+
+variable_subscript : of_main (array ∷ equated (Ref i) (Item k (one (Ref n))) ∷ []) ≡ Some BadConstant
+variable_subscript = refl
+
+-- DATA I,K(2)/1,2/
+abbrev given : Formula → List (ℕ × Formula) → Act
+given a vs = Preset (record { places = a ∷ []; values = vs } ∷ [])
+
+value : of_main (given (Ref i) ((1, Minus (num 2)) ∷ []) ∷ []) ≡ None
+value = refl
+
+too_many : of_main (given (Ref i) ((2, num 2) ∷ []) ∷ []) ≡ Some WrongCount
+too_many = refl
+
+no_count : of_main (Preset (record { places = Ref i ∷ []; values = (1, num 2) ∷ (0, num 2) ∷ [] } ∷ []) ∷ []) ≡ Some BadConstant
+no_count = refl
+
+other_type : of_main (given (Ref i) ((1, Truth true) ∷ []) ∷ []) ≡ Some BadConstant
+other_type = refl
+
+whole_array : of_main (array ∷ given (Ref k) ((1, num 2) ∷ []) ∷ []) ≡ Some NotAssignable
+whole_array = refl
+
+past_bounds : of_main (array ∷ given (Item k (one (num 11))) ((1, num 2) ∷ []) ∷ []) ≡ Some NotAssignable
+past_bounds = refl
+
+within_bounds : of_main (array ∷ given (Item k (one (num 10))) ((1, num 2) ∷ []) ∷ []) ≡ None
+within_bounds = refl
+
+no_classes : of_main (given (Item n (one (Item (codes "MOD") (one (num 1))))) ((1, num 2) ∷ []) ∷ []) ≡ Some NotAssignable
+no_classes = refl
+
+blank_value : fault DataUnit (blank (declared i ∷ []) ∷ given (Ref i) ((1, num 2) ∷ []) ∷ []) ≡ Some NotAssignable
+blank_value = refl
+
+labelled_value : of_main (labelled s (declared i ∷ []) ∷ given (Ref i) ((1, num 2) ∷ []) ∷ []) ≡ Some NotAssignable
+labelled_value = refl
+
+block_data_value : fault DataUnit (labelled s (declared i ∷ []) ∷ given (Ref i) ((1, num 2) ∷ []) ∷ []) ≡ None
+block_data_value = refl
+
+dummy_value : fault (SubUnit s (i ∷ [])) (given (Ref i) ((1, num 2) ∷ []) ∷ []) ≡ Some NotAssignable
+dummy_value = refl

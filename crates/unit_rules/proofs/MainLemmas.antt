@@ -11,7 +11,7 @@ use Rattle.ground.specs.declared.value.Kind.TheVariants.{Integer, Logical}
 use Rattle.rule_table.specs.declared.rule.Rule.{Rule}
 use Rattle.rule_table.specs.declared.rule.Rule.TheVariants.{Syntax, NameTooLong, OutOfProfileType, TypeClash, WrongCount, DuplicateName, BadConstant, BadFormat, NotAssignable, LargeArray}
 use Rattle.rule_table.specs.Words.{find_map}
-use Rattle.f66_tree.specs.Syntax.{Text, Formula, Int, Truth, Letter, Ref, Item, Group, Plus, Minus, Not, Pair, Formulas, NoFormula, AndFormula, MainUnit, Act, Assign, Sign, When, Invoke}
+use Rattle.f66_tree.specs.Syntax.{Text, Formula, Int, Truth, Letter, Ref, Item, Group, Plus, Minus, Not, Pair, Formulas, NoFormula, AndFormula, Declared, MainUnit, Act, Assign, Sign, When, Invoke, Common, Equivalence, Preset}
 use Rattle.f66_tree.specs.Units.{Context, kind_of}
 use Rattle.f66_names.specs.declared.name_form.NameForm.{NameForm}
 use Rattle.f66_names.specs.declared.name_form.NameForm.TheVariants as forms
@@ -24,6 +24,7 @@ use Rattle.f66_names.specs.Uses.{Usage, usage, many, uses_of, uses_of_all, uses_
 use Rattle.f66_names.specs.Kinds as plain
 use Rattle.f66_names.specs.Kinds.{are_subscripts, same_kind, may_be, operand, outcome, takes_kind}
 use Rattle.f66_names.specs.NameRules as names
+use Rattle.f66_names.specs.StoreRules.{has_bad_constant, stores_wrong, has_large_array}
 use Rattle.f66_names.specs.NameRules.{has_name, is_long, has_other_type, has_wrong_count, redeclares, class_by, class_used, class_given, class_of, has_other_class}
 use Rattle.f66_names.specs.Shapes.{has_shape}
 use Rattle.f66_names.specs.BuiltActs.{is_function_by, is_function, is_built_form, is_built}
@@ -32,10 +33,12 @@ use Rattle.f66_names.proofs.TableLemmas.{find_map-append}
 use Rattle.unit_rules.specs.declared.roles.Role.{Role}
 use Rattle.unit_rules.specs.declared.roles.Role.TheVariants as roles
 use Rattle.unit_rules.specs.Called.{called_in, passed_in}
+use Rattle.unit_rules.specs.Listed.{common_in, equated_in, preset_in, uses_of_listed, uses_of_place, more_uses}
 use Rattle.unit_rules.specs.Forms.{has_form}
 use Rattle.unit_rules.specs.Types.{applied, fits, are_integers, are_actuals, assigns, clashes}
 use Rattle.unit_rules.specs.Roles.{role_by, role_given, role_called, role_in, role_held, role_of, has_other_role, misuses, mixes_roles}
 use Rattle.unit_rules.specs.Heads.{declares_own}
+use Rattle.unit_rules.specs.Storage.{lists_again}
 use Rattle.unit_rules.specs.UnitRules.{breaks_rule}
 
 -- ---- forms ----
@@ -43,6 +46,9 @@ use Rattle.unit_rules.specs.UnitRules.{breaks_rule}
 pub built_shape : (a : Act) → has_form a ≡ true → is_built_form a ≡ true → has_shape a ≡ true
 built_shape (Invoke x es) h is = absurd (true≢false (sym is))
 built_shape (When e a) h is = (and_parts (has_shape (When e a)) (has_form a) h).0
+built_shape (Common areas) h is = absurd (true≢false (sym is))
+built_shape (Equivalence groups) h is = absurd (true≢false (sym is))
+built_shape (Preset parts) h is = absurd (true≢false (sym is))
 built_shape _ h is = h
 
 -- nothing is called by a CALL
@@ -50,6 +56,23 @@ uncalled : (a : Act) → is_built_form a ≡ true → (called_in a ≡ None) × 
 uncalled (Invoke x es) is = absurd (true≢false (sym is))
 uncalled (When e a) is = uncalled a is
 uncalled _ is = (refl, refl)
+
+-- nothing is listed by COMMON, EQUIVALENCE or DATA
+unlisted : (a : Act) → is_built_form a ≡ true → (common_in a ≡ []) × (equated_in a ≡ []) × (preset_in a ≡ [])
+unlisted (Common areas) is = absurd (true≢false (sym is))
+unlisted (Equivalence groups) is = absurd (true≢false (sym is))
+unlisted (Preset parts) is = absurd (true≢false (sym is))
+unlisted _ is = (refl, refl, refl)
+
+abbrev more_by : Context → Formulas → List Declared → List Formula → List Formula → List Usage
+more_by c es ds ps qs = uses_of_all es ++ (flat_map uses_of_listed ds ++ (flat_map (uses_of_place c) ps ++ flat_map (uses_of_place c) qs))
+
+-- so no more names are used
+no_more : (c : Context) (a : Act) → is_built_form a ≡ true → more_uses c a ≡ []
+no_more c a is =
+    let none = unlisted a is in
+    ap (λ es. more_by c es (common_in a) (equated_in a) (preset_in a)) (uncalled a is).1 ∙ ap (λ ds. more_by c NoFormula ds (equated_in a) (preset_in a)) none.0
+    ∙ ap (λ ps. more_by c NoFormula [] ps (preset_in a)) none.1 ∙ ap (more_by c NoFormula [] []) none.2
 
 -- ---- types ----
 
@@ -159,9 +182,9 @@ module _ (c : Context) where
 
   act_same : (q : Text) (a : Act) → is_built c a ≡ true → role_in c q a ≡ option_map as_role (find_map (class_given c q) (uses_in a))
   act_same q a is =
-      let none = uncalled a (and_parts (is_built_form a) _ is).0 in
-      ap (λ o. option_or (role_called q o) (option_or (find_map (role_given c q) (uses_in a)) (find_map (role_given c q) (uses_of_all (passed_in a))))) none.0
-      ∙ ap (λ es. option_or (find_map (role_given c q) (uses_in a)) (find_map (role_given c q) (uses_of_all es))) none.1
+      let built = (and_parts (is_built_form a) _ is).0 in
+      ap (λ o. option_or (role_called q o) (option_or (find_map (role_given c q) (uses_in a)) (find_map (role_given c q) (more_uses c a)))) (uncalled a built).0
+      ∙ ap (λ us. option_or (find_map (role_given c q) (uses_in a)) (find_map (role_given c q) us)) (no_more c a built)
       ∙ or_none (find_map (role_given c q) (uses_in a)) ∙ uses_same q (uses_in a) (no_function a is)
 
   -- all statements are built
@@ -195,15 +218,16 @@ module _ (c : Context) where
     main_clean i a is Syntax h = ap not (built_shape a (not-false (has_form a) h) (and_parts (is_built_form a) _ is).0)
     main_clean i a is NameTooLong h = (or_parts (has_name is_long a) _ h).0
     main_clean i a is OutOfProfileType h = (or_parts (has_other_type c a) _ h).0
-    main_clean i a is TypeClash h = sym (clash_same c a (and_parts (is_built_form a) _ is).0 (no_function a is)) ∙ h
+    main_clean i a is TypeClash h = sym (clash_same c a (and_parts (is_built_form a) _ is).0 (no_function a is)) ∙ (or_parts (clashes c a) _ h).0
     main_clean i a is WrongCount h = (or_parts (has_wrong_count c a) _ h).0
     main_clean i a is DuplicateName h =
         let p = or_parts (redeclares acts i a) _ h in
-        let q = or_parts (declares_own c.header a) (mixes_roles c acts a) p.1 in
-        let r = or_parts (list_any (misuses c acts) (uses_in a) || list_any (misuses c acts) (uses_of_all (passed_in a))) _ q.1 in
+        let l = or_parts (lists_again c acts i a) _ p.1 in
+        let q = or_parts (declares_own c.header a) (mixes_roles c acts a) l.1 in
+        let r = or_parts (list_any (misuses c acts) (uses_in a) || list_any (misuses c acts) (more_uses c a)) _ q.1 in
         or_from (redeclares acts i a) _ p.0 (sym (all_misused (uses_in a) (no_function a is)) ∙ (or_parts (list_any (misuses c acts) (uses_in a)) _ r.0).0)
-    main_clean i a is BadConstant h = h
+    main_clean i a is BadConstant h = (or_parts (has_bad_constant c a) _ h).0
     main_clean i a is BadFormat h = h
-    main_clean i a is NotAssignable h = h
-    main_clean i a is LargeArray h = h
+    main_clean i a is NotAssignable h = (or_parts (stores_wrong c a) _ h).0
+    main_clean i a is LargeArray h = (or_parts (has_large_array a) _ h).0
     main_clean i a is _ h = refl

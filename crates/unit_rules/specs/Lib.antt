@@ -1,8 +1,11 @@
 -- The definitions that the contracts of unit_rules cite.
-pub mod Judged
 pub mod Called
+pub mod Listed
+pub mod ListViews
 pub mod Forms
 pub mod Types
 pub mod Roles
 pub mod Heads
+pub mod Bounds
+pub mod Storage
 pub mod UnitRules

@@ -15,7 +15,8 @@ use Rattle.f66_names.specs.Sorts.{name_form, is_array_name}
 use Rattle.f66_names.specs.Uses.{Usage}
 use Rattle.unit_rules.specs.declared.roles.Role.{Role}
 use Rattle.unit_rules.specs.declared.roles.Role.TheVariants.{Variable, Function, Subroutine}
-use Rattle.unit_rules.specs.Called.{called_in, any_use, first_use}
+use Rattle.unit_rules.specs.Called.{called_in}
+use Rattle.unit_rules.specs.Listed.{any_use, first_use}
 
 -- the class that a name is used in; an array has none of these, and what is stored into and is no array is another fault
 abbrev pub role_by : NameForm → Manner → Option Role
@@ -37,7 +38,7 @@ role_called q (Some x) = if bytes_eq q x then Some Subroutine else None
 
 -- the first class that a statement uses a name in
 abbrev pub role_in : Context → Text → Act → Option Role
-role_in c q a = option_or (role_called q (called_in a)) (first_use (role_given c q) a)
+role_in c q a = option_or (role_called q (called_in a)) (first_use c (role_given c q) a)
 
 abbrev pub role_listed : Text → List Text → Option Role
 role_listed q ds = if list_any (bytes_eq q) ds then Some Variable else None
@@ -72,4 +73,4 @@ miscalls c acts x = has_other_role (Some Subroutine) (role_of c acts x) || (is_s
 
 -- the statement uses a name in another class than its first one
 abbrev pub mixes_roles : Context → List Act → Act → Bool
-mixes_roles c acts a = any_use (misuses c acts) a || is_some_and (miscalls c acts) (called_in a)
+mixes_roles c acts a = any_use c (misuses c acts) a || is_some_and (miscalls c acts) (called_in a)

@@ -1,14 +1,11 @@
 // What statements call, and what they hand over.
-ghost use Rattle.std.specs.Prelude.{◌≡◌, IfOk, map, option_map};
+ghost use Rattle.std.specs.Prelude.{◌≡◌, option_map};
 ghost use Rattle.f66_tree.specs.Views.{formulas_of, act_of};
 ghost use Rattle.f66_names.specs.ActViews.{act_said};
-ghost use Rattle.f66_names.specs.Uses.{uses_of_all};
-ghost use Rattle.f66_names.specs.UseViews.{use_of};
 ghost use Rattle.unit_rules.specs.Called.{called_in, passed_in};
 
-use f66_names::{Saying, Use, collect_all};
+use f66_names::Saying;
 use f66_tree::{Expr, Name, StmtKind};
-use std::alloc::{AllocError, Global};
 
 /// The subroutine that a CALL names (X3.9-1966, section 7.1.2.4).
 pub fn called_in(kind: &StmtKind) -> Option<&Name>
@@ -40,23 +37,4 @@ pub fn called_in_saying<'a>(saying: &Saying<'a>) -> Option<&'a Name>
         Saying::Act(kind) => called_in(kind),
         Saying::Condition(_) | Saying::Value(_) | Saying::Counting(_, _, _, _) => None,
     }
-}
-
-/// The arguments that it hands over.
-pub fn passed_in_saying<'a>(saying: &Saying<'a>) -> &'a [Expr]
-    ensures { formulas_of result.now ≡ passed_in (act_said saying.now) }
-{
-    match *saying {
-        Saying::Act(kind) => passed_in(kind),
-        Saying::Condition(_) | Saying::Value(_) | Saying::Counting(_, _, _, _) => &[],
-    }
-}
-
-/// The names that arguments use.
-pub fn uses_passed<'a>(alloc: Global, list: &'a [Expr]) -> Result<Vec<Use<'a>>, AllocError>
-    ensures { IfOk result (λ v. map use_of v.items ≡ uses_of_all (formulas_of list.now)) }
-{
-    let mut uses = Vec::new(alloc);
-    collect_all(list, &mut uses)?;
-    Ok(uses)
 }

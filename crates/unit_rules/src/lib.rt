@@ -2,17 +2,23 @@
 //! statement.
 #![tactic(auto)]
 
+mod again;
 mod called;
+mod constants;
+mod counts;
 mod forms;
 mod heads;
-mod judged;
+mod listed;
+mod more_uses;
+mod presets;
 mod roles;
 mod rules;
+mod shapes;
+mod tables;
 mod types;
 mod unit_names;
 
 pub use heads::header_rule;
-pub use judged::is_judged;
 pub use roles::Role;
 pub use rules::broken_rule;
 pub use unit_names::{UnitNames, unit_names_of};

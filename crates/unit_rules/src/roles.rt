@@ -11,7 +11,8 @@ ghost use Rattle.f66_names.specs.UseViews.{use_of};
 ghost use Rattle.f66_names.specs.DeclarationViews.{context_in, acts_in};
 ghost use Rattle.unit_rules.specs.Roles.{role_by, role_used, role_given, role_called, role_in, role_listed, role_held, role_of, same_role, has_other_role};
 
-use crate::called::{called_in_saying, passed_in_saying, uses_passed};
+use crate::called::called_in_saying;
+use crate::more_uses::more_uses_of_saying;
 use f66_names::{Declarations, Manner, NameForm, Saying, Use, form_of, uses_of_saying};
 use f66_tree::{Header, Name};
 use rule_table::note;
@@ -39,6 +40,18 @@ pub fn role_table<'a>(
     for saying in declarations.sayings {
         note_roles(alloc, &mut table, declarations, saying)?;
     }
+    Ok(table)
+}
+
+/// The class that a header gives each of its names.
+pub fn held_table<'a>(
+    alloc: Global,
+    header: &'a Header,
+) -> Result<HashMap<&'a [u8], Role>, AllocError>
+    ensures { IfOk result (λ m. (q : List ℕ) → get_by (λ k. bytes_eq q k.now) m ≡ role_held (header_of header.now) q) }
+{
+    let mut table = HashMap::new(alloc);
+    note_held(&mut table, header)?;
     Ok(table)
 }
 
@@ -84,10 +97,10 @@ fn note_roles<'a>(
         ≡ option_or (get_by (λ k. bytes_eq q k.now) table.old) (role_in (context_in declarations.now) q (act_said saying.now))) }
 {
     let uses = uses_of_saying(alloc, saying)?;
-    let passed = uses_passed(alloc, passed_in_saying(saying))?;
+    let more = more_uses_of_saying(alloc, declarations, saying)?;
     note_called(table, called_in_saying(saying))?;
     note_used(table, declarations, &uses)?;
-    note_used(table, declarations, &passed)
+    note_used(table, declarations, &more)
 }
 
 fn note_called<'a>(

@@ -1,23 +1,33 @@
 // The rule with the smallest number that a statement breaks.
-ghost use Rattle.std.specs.Prelude.{◌≡◌, map, option_map, is_some, IfOk};
+ghost use Rattle.std.specs.Prelude.{◌≡◌, ◌||◌, map, option_map, is_some, IfOk};
 ghost use Rattle.std.specs.List.{list_any};
 ghost use Rattle.rule_table.specs.FaultRules.{first_rule};
 ghost use Rattle.rule_table.specs.Words.{find_map, is_some_and};
-ghost use Rattle.f66_tree.specs.Views.{formulas_of, act_of};
+ghost use Rattle.f66_tree.specs.Views.{act_of};
 ghost use Rattle.f66_names.specs.Declaring.{type_given};
 ghost use Rattle.f66_names.specs.DeclarationViews.{context_in, acts_in};
 ghost use Rattle.f66_names.specs.NameRules.{is_long as is_long_text};
-ghost use Rattle.f66_names.specs.Uses.{uses_in, uses_of_all};
+ghost use Rattle.f66_names.specs.StoreRules.{has_bad_constant as has_bad};
+ghost use Rattle.f66_names.specs.Uses.{uses_in};
 ghost use Rattle.f66_names.specs.UseViews.{use_of};
-ghost use Rattle.unit_rules.specs.Called.{called_in, passed_in};
+ghost use Rattle.unit_rules.specs.Listed.{more_names, more_uses};
+ghost use Rattle.unit_rules.specs.ListViews.{AreLists};
 ghost use Rattle.unit_rules.specs.Roles.{misuses, miscalls, mixes_roles};
+ghost use Rattle.unit_rules.specs.Storage.{lists_bad_constant as lists_bad};
 ghost use Rattle.unit_rules.specs.UnitRules.{has_long_name as has_long, has_foreign_name as has_foreign, counts_wrong as counts_other, is_duplicate, breaks_rule};
 
 use crate::UnitNames;
-use crate::called::{called_in, passed_in, uses_passed};
+use crate::again::lists_again;
+use crate::called::called_in;
+use crate::constants::{has_large_common, lists_bad_constant};
+use crate::counts::lists_miscounted;
 use crate::forms::has_form;
 use crate::heads::declares_own;
+use crate::listed::{Lists, lists_of};
+use crate::more_uses::{more_names, more_uses};
+use crate::presets::presets_wrong;
 use crate::roles::{Role, has_other_role, role_used};
+use crate::shapes::{has_long_block, lists_odd};
 use crate::types::clashes;
 use f66_names::{
     Declarations, Use, has_bad_constant, has_bad_format, has_large_array, has_long_name,
@@ -40,36 +50,38 @@ pub fn broken_rule(
         (λ o. o ≡ first_rule (breaks_rule (context_in names.now.declarations) (acts_in names.now.declarations) i (act_of kind.now))) }
 {
     let uses = uses_of_statement(alloc, kind)?;
-    let passed = uses_passed(alloc, passed_in(kind))?;
-    let duplicate = is_duplicate(alloc, names, i, kind, &uses, &passed)?;
+    let lists = lists_of(alloc, kind)?;
+    let named = more_names(alloc, kind, &lists)?;
+    let more = more_uses(alloc, &names.declarations, kind, &lists)?;
+    let duplicate = is_duplicate(alloc, names, i, kind, &lists, &uses, &more)?;
     if !has_form(kind) {
         return Ok(Some(Rule::Syntax));
     }
-    if is_long_somewhere(kind, &uses, &passed) {
+    if is_long_somewhere(kind, &uses, &named) {
         return Ok(Some(Rule::NameTooLong));
     }
-    if is_foreign_somewhere(&names.declarations, kind, &uses, &passed) {
+    if is_foreign_somewhere(&names.declarations, kind, &uses, &named) {
         return Ok(Some(Rule::OutOfProfileType));
     }
-    if clashes(&names.declarations, kind) {
+    if clashes(&names.declarations, kind) || lists_odd(&names.declarations, kind, &lists) {
         return Ok(Some(Rule::TypeClash));
     }
-    if counts_wrong(&names.declarations, kind, &uses, &passed) {
+    if counts_wrong(&names.declarations, kind, &lists, &uses, &more) {
         return Ok(Some(Rule::WrongCount));
     }
     if duplicate {
         return Ok(Some(Rule::DuplicateName));
     }
-    if has_bad_constant(&names.declarations, kind) {
+    if is_constant_bad(&names.declarations, kind, &lists) {
         return Ok(Some(Rule::BadConstant));
     }
     if has_bad_format(kind) {
         return Ok(Some(Rule::BadFormat));
     }
-    if stores_wrong(&names.declarations, kind) {
+    if stores_wrong(&names.declarations, kind) || presets_wrong(names, kind, &lists) {
         return Ok(Some(Rule::NotAssignable));
     }
-    if has_large_array(kind) {
+    if has_large_array(kind) || has_large_common(kind, &lists) {
         return Ok(Some(Rule::LargeArray));
     }
     Ok(None)
@@ -84,34 +96,50 @@ fn is_long_called(called: Option<&Name>) -> bool
     }
 }
 
-fn is_long_somewhere(kind: &StmtKind, uses: &[Use], passed: &[Use]) -> bool
+fn is_long_somewhere(kind: &StmtKind, uses: &[Use], named: &[Use]) -> bool
     requires uses { map use_of uses.now ≡ uses_in (act_of kind.now) }
-    requires passed { map use_of passed.now ≡ uses_of_all (passed_in (act_of kind.now)) }
+    requires named { map use_of named.now ≡ more_names (act_of kind.now) }
     ensures { result ≡ has_long (act_of kind.now) }
 {
     let called = is_long_called(called_in(kind));
-    has_long_name(kind, uses) || (called || has_long_use(passed))
+    has_long_name(kind, uses) || (called || (has_long_block(kind) || has_long_use(named)))
 }
 
 fn is_foreign_somewhere(
     declarations: &Declarations,
     kind: &StmtKind,
     uses: &[Use],
-    passed: &[Use],
+    named: &[Use],
 ) -> bool
     requires uses { map use_of uses.now ≡ uses_in (act_of kind.now) }
-    requires passed { map use_of passed.now ≡ uses_of_all (passed_in (act_of kind.now)) }
+    requires named { map use_of named.now ≡ more_names (act_of kind.now) }
     ensures { result ≡ has_foreign (context_in declarations.now) (act_of kind.now) }
 {
-    has_other_type(declarations, kind, uses) || has_other_use(declarations, passed)
+    has_other_type(declarations, kind, uses) || has_other_use(declarations, named)
 }
 
-fn counts_wrong(declarations: &Declarations, kind: &StmtKind, uses: &[Use], passed: &[Use]) -> bool
+fn counts_wrong(
+    declarations: &Declarations,
+    kind: &StmtKind,
+    lists: &Lists,
+    uses: &[Use],
+    more: &[Use],
+) -> bool
+    requires lists { AreLists lists.now (act_of kind.now) }
     requires uses { map use_of uses.now ≡ uses_in (act_of kind.now) }
-    requires passed { map use_of passed.now ≡ uses_of_all (passed_in (act_of kind.now)) }
+    requires more { map use_of more.now ≡ more_uses (context_in declarations.now) (act_of kind.now) }
     ensures { result ≡ counts_other (context_in declarations.now) (act_of kind.now) }
 {
-    has_wrong_count(declarations, kind, uses) || has_wrong_use(declarations, passed)
+    has_wrong_count(declarations, kind, uses)
+        || (has_wrong_use(declarations, more) || lists_miscounted(declarations, kind, lists))
+}
+
+fn is_constant_bad(declarations: &Declarations, kind: &StmtKind, lists: &Lists) -> bool
+    requires { AreLists lists.now (act_of kind.now) }
+    ensures { result
+        ≡ (has_bad (context_in declarations.now) (act_of kind.now) || lists_bad (context_in declarations.now) (act_of kind.now)) }
+{
+    has_bad_constant(declarations, kind) || lists_bad_constant(declarations, kind, lists)
 }
 
 fn is_duplicate(
@@ -119,26 +147,29 @@ fn is_duplicate(
     names: &UnitNames,
     i: usize,
     kind: &StmtKind,
+    lists: &Lists,
     uses: &[Use],
-    passed: &[Use],
+    more: &[Use],
 ) -> Result<bool, AllocError>
+    requires lists { AreLists lists.now (act_of kind.now) }
     requires uses { map use_of uses.now ≡ uses_in (act_of kind.now) }
-    requires passed { map use_of passed.now ≡ uses_of_all (passed_in (act_of kind.now)) }
+    requires more { map use_of more.now ≡ more_uses (context_in names.now.declarations) (act_of kind.now) }
     ensures { IfOk result (λ b. b ≡ is_duplicate (context_in names.now.declarations) (acts_in names.now.declarations) i (act_of kind.now)) }
 {
     let again = redeclares(alloc, &names.declarations, i, kind)?;
+    let listed = lists_again(alloc, names, i, kind, lists)?;
     let own = declares_own(names.declarations.header, kind);
-    let mixed = mixes_roles(names, kind, uses, passed);
-    Ok(again || (own || mixed))
+    let mixed = mixes_roles(names, kind, uses, more);
+    Ok(again || (listed || (own || mixed)))
 }
 
-fn mixes_roles(names: &UnitNames, kind: &StmtKind, uses: &[Use], passed: &[Use]) -> bool
+fn mixes_roles(names: &UnitNames, kind: &StmtKind, uses: &[Use], more: &[Use]) -> bool
     requires uses { map use_of uses.now ≡ uses_in (act_of kind.now) }
-    requires passed { map use_of passed.now ≡ uses_of_all (passed_in (act_of kind.now)) }
+    requires more { map use_of more.now ≡ more_uses (context_in names.now.declarations) (act_of kind.now) }
     ensures { result ≡ mixes_roles (context_in names.now.declarations) (acts_in names.now.declarations) (act_of kind.now) }
 {
     let called = is_miscalled(names, called_in(kind));
-    (has_misuse(names, uses) || has_misuse(names, passed)) || called
+    (has_misuse(names, uses) || has_misuse(names, more)) || called
 }
 
 fn is_miscalled(names: &UnitNames, called: Option<&Name>) -> bool

@@ -57,7 +57,7 @@ fn kind_applied(declarations: &Declarations, name: &Name) -> Kind
 }
 
 /// The type that an expression has where it has one.
-fn kind_seen(declarations: &Declarations, e: &Expr) -> Kind
+pub fn kind_seen(declarations: &Declarations, e: &Expr) -> Kind
     ensures { result ≡ kind_seen (context_in declarations.now) (formula_of e.now) }
 {
     match e {

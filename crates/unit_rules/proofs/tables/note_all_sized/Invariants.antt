@@ -1,0 +1,13 @@
+-- Those before are noted.
+use Rattle.std.proofs.Common.{◌≡◌, ℕ, List, take, map, Some, None}
+use Rattle.std.specs.Prelude.{if◌then◌else◌, ◌&&◌}
+use Rattle.std.specs.HashMap.{get_by}
+use Rattle.std.specs.List.{list_any}
+use Rattle.std.specs.Option.{option_or}
+use Rattle.std.specs.Str.{bytes_eq}
+use Rattle.f66_tree.specs.Views.{declared_of}
+use Rattle.f66_names.specs.Declaring.{names, is_sized}
+use Rattle.unit_rules.proofs.tables.note_all_sized.Given as goal
+
+abbrev pub invariant-loop-declared : goal.invariant-loop-declared
+invariant-loop-declared l = (q : List ℕ) → get_by (λ k. bytes_eq q k.now) l.table ≡ option_or (get_by (λ k. bytes_eq q k.now) l.initial.table) (if list_any (λ d. is_sized d && names q d) (map (λ d. declared_of d.now) (take l.declared-index l.list)) then Some l.place else None)

@@ -1,0 +1,7 @@
+-- One more is noted.
+use Rattle.std.proofs.Common.{arith}
+use Rattle.rule_table.proofs.WordLemmas.{place_steps}
+use Rattle.unit_rules.proofs.tables.note_all_sizes.Goals as goal
+
+pub loop-declared-preserved : goal.loop-declared-preserved
+loop-declared-preserved c = λ q. grind (arith, place_steps, c.loop-declared.invariant q)
