@@ -18,7 +18,7 @@ at : {ties : List Tie} {a b : Row} {d e : ℤ} → d ≡ e → IsSame ties a b d
 at {ties} {a} {b} same h = subst (λ x. IsSame ties a b x) same h
 
 -- from a row to a row: the same one, within a unit, or through a block
-data Way (ties : ℕ → List Tie) (a b : Row) (d : ℤ) : Type 0 where
+pub data Way (ties : ℕ → List Tie) (a b : Row) (d : ℤ) : Type 0 where
   none : a ≡ b → d ≡ pos 0 → Way ties a b d
   within : (u : ℕ) → IsOwned u a → IsOwned u b → IsSame (ties u) a b d → Way ties a b d
   across : (u v : ℕ) (x : Option Text) (d1 d2 : ℤ) → IsOwned u a → IsOwned v b → IsSame (ties u) a (Block x) d1 → IsSame (ties v) (Block x) b d2 → d ≡ d1 +ℤ d2 → Way ties a b d
@@ -95,7 +95,7 @@ module _ (ties : ℕ → List Tie) (good : (u : ℕ) → ¬ AreBad (ties u)) whe
 
   module _ (whole : List Tie) (owned : (u : ℕ) (t : Tie) → Contains (ties u) t → IsOwned u t.from × IsOwned u t.to)
       (parts : (t : Tie) → Contains whole t → (u : ℕ) × Contains (ties u) t) where
-    way_of : {a b : Row} {d : ℤ} → IsSame whole a b d → Way ties a b d
+    pub way_of : {a b : Row} {d : ℤ} → IsSame whole a b d → Way ties a b d
     way_of (by_tie t c) = (let p = parts t c in let o = owned p.0 t p.1 in within p.0 o.0 o.1 (by_tie t p.1))
     way_of (itself a) = none refl refl
     way_of (back h) = turned (way_of h)

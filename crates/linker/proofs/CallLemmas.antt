@@ -1,5 +1,6 @@
 -- What the tests of calls say.
-use Rattle.std.proofs.Common.{◌≡◌, ◌∙◌, ◌∷◌, [], ℕ, zero, suc, Bool, true, List, map, Option, None, Some, option_map, refl, ap}
+use Rattle.std.proofs.Common.{◌≡◌, ◌∙◌, ◌∷◌, [], ℕ, zero, suc, Bool, true, List, map, Option, None, Some, option_map, option_copied, refl, ap}
+use denote.Bor.{Bor}
 use Rattle.std.specs.List.{slice_get}
 use Rattle.rule_table.specs.Words.{is_some_and}
 use Rattle.f66_tree.specs.Syntax.{Routine}
@@ -12,6 +13,11 @@ pub got_seen : {X Y : Type 0} (f : X → Y) (xs : List X) (i : ℕ) (o : Option 
 got_seen f [] i o e = ap (option_map f) e
 got_seen f (x ∷ xs) zero o e = ap (option_map f) e
 got_seen f (x ∷ xs) (suc i) o e = got_seen f xs i o e
+
+-- a lent element, seen by f
+pub seen_copied : {X Y : Type 0} (f : X → Y) (o : Option (Bor X)) → option_map (λ x. f x.now) o ≡ option_map f (option_copied o)
+seen_copied f None = refl
+seen_copied f (Some x) = refl
 
 pub mapped_some : {X Y : Type 0} (f : X → Y) (o : Option X) (y : Y) → option_map f o ≡ Some y → (x : X) × (o ≡ Some x) × (f x ≡ y)
 mapped_some f None y e = absurd (cc)
@@ -34,7 +40,7 @@ missing_sound rs s e = nothing_is (unit_named s.call.name rs) e
 pub missing_whole : (rs : List Routine) (s : Site) → unit_named s.call.name rs ≡ None → is_missing rs s ≡ true
 missing_whole rs s e = ap is_nothing e
 
-some_passes : {X : Type 0} (test : X → Bool) (o : Option X) → is_some_and test o ≡ true → (x : X) × (o ≡ Some x) × (test x ≡ true)
+pub some_passes : {X : Type 0} (test : X → Bool) (o : Option X) → is_some_and test o ≡ true → (x : X) × (o ≡ Some x) × (test x ≡ true)
 some_passes test None e = absurd (cc)
 some_passes test (Some x) e = (x, refl, e)
 

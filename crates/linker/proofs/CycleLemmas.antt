@@ -49,7 +49,7 @@ ordered_pairs : (xs : List Site) → IsOrdered xs → AllPairs IsNotBefore xs
 ordered_pairs [] o = λ i j d lt l. absurd (omega (arith, l))
 ordered_pairs (x ∷ xs) o = AllPairs-cons IsNotBefore x xs o.0 (ordered_pairs xs o.1)
 
-some_number : (o : Option ℕ) → not (is_nothing o) ≡ true → (v : ℕ) × (o ≡ Some v)
+pub some_number : (o : Option ℕ) → not (is_nothing o) ≡ true → (v : ℕ) × (o ≡ Some v)
 some_number None e = absurd (cc)
 some_number (Some v) e = (v, refl)
 

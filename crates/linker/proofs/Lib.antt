@@ -6,3 +6,8 @@ pub mod SiteLemmas
 pub mod FindLemmas
 pub mod CallLemmas
 pub mod CycleLemmas
+pub mod RepeatLemmas
+pub mod TypeLemmas
+pub mod SortLemmas
+pub mod ClashLemmas
+pub mod OrderLemmas

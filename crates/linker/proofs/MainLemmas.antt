@@ -1,5 +1,5 @@
 -- The second main, and a program without one.
-use Rattle.std.proofs.Common.{◌≡◌, ◌<◌, ◌+◌, ◌⊎◌, inl, inr, ℕ, Bool, true, false, List, length, Option, None, Some, refl, sym, ap, ◌∙◌, arith, subst}
+use Rattle.std.proofs.Common.{◌≡◌, ◌<◌, ◌+◌, ◌⊎◌, inl, inr, ℕ, Bool, true, false, List, length, None, Some, refl, sym, ap, ◌∙◌, arith, subst}
 use Rattle.std.specs.Prelude.{MatchBool}
 use Rattle.std.proofs.lemmas.Bool.{cases_lt}
 use Rattle.std.specs.List.{Contains, slice_get}
@@ -10,10 +10,7 @@ use Rattle.f66_tree.specs.Units.{is_main}
 use Rattle.f66_program.specs.Linking.{Program, Part, at_part, IsEarlier, first_of, place_of_part, MiscountsMain, second, none}
 use Rattle.linker.specs.Rules.{IsFirstBroken, IsKept}
 use Rattle.linker.specs.Mains.{IsMainAt, HasOneMain, HasNoMain}
-use Rattle.linker.proofs.PartLemmas.{contains_got, got_contained, got_inside, place_here, place_behind}
-
-same_unit : {r s : Routine} (o : Option Routine) → o ≡ Some r → o ≡ Some s → r ≡ s
-same_unit o e f = (let g = sym e ∙ f in cc)
+use Rattle.linker.proofs.PartLemmas.{contains_got, got_contained, got_inside, place_here, place_behind, same_unit}
 
 module _ (rs : List Routine) (i : ℕ) (r : Routine) (here : slice_get rs i ≡ Some r) where
   pub main_new : is_main r.header ≡ true → HasNoMain rs i → HasOneMain rs (i + 1)

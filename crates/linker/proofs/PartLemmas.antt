@@ -1,5 +1,5 @@
 -- Units of a program in memory.
-use Rattle.std.proofs.Common.{◌≡◌, ◌<◌, ℕ, zero, suc, List, [], ◌∷◌, length, map, get_or, None, Some, refl, sym, ap, arith}
+use Rattle.std.proofs.Common.{◌≡◌, ◌<◌, ℕ, zero, suc, List, [], ◌∷◌, length, map, get_or, Option, None, Some, refl, sym, ap, ◌∙◌, arith}
 use Rattle.std.specs.List.{Contains, slice_get}
 use Rattle.f66_tree.specs.Syntax.{Routine}
 use Rattle.f66_program.specs.Linking.{Program, Part, place_in, place_of_part}
@@ -37,6 +37,9 @@ pub got_inside : {X : Type 0} (xs : List X) (i : ℕ) (x : X) → slice_get xs i
 got_inside [] i x e = absurd (cc)
 got_inside (y ∷ xs) zero x e = omega arith
 got_inside (y ∷ xs) (suc i) x e = (let l = got_inside xs i x e in omega (arith, l))
+
+pub same_unit : {r s : Routine} (o : Option Routine) → o ≡ Some r → o ≡ Some s → r ≡ s
+same_unit o e f = (let g = sym e ∙ f in cc)
 
 -- the place of a part of a unit, and that behind all units
 pub place_here : (p : Program) (q : Part) (r : Routine) → slice_get p.units q.unit ≡ Some r → place_in p q ≡ place_of_part r q.part

@@ -1,10 +1,10 @@
-// Faults of linking, and where they stand.
+// Faults of linking, where they stand, and what headers say.
 ghost use Rattle.std.specs.Prelude.{◌≡◌, Some};
-ghost use Rattle.f66_tree.specs.Units.{is_main};
+ghost use Rattle.f66_tree.specs.Units.{dummies_of, is_main};
 ghost use Rattle.f66_tree.specs.Views.{header_of, routine_of};
 ghost use Rattle.f66_program.specs.Linking.{first_of, place_of_part};
 
-use f66_tree::{Header, Unit};
+use f66_tree::{Header, Name, Unit};
 use ground::{Fault, FaultKind, Place};
 
 /// A fault that is no limit's.
@@ -35,4 +35,15 @@ pub(crate) fn is_main(unit: &Unit) -> bool
     ensures { result ≡ is_main (routine_of unit.now).header }
 {
     matches!(unit.header, Header::Main)
+}
+
+/// The dummies of a header.
+pub(crate) fn dummies_of(header: &Header) -> &[Name]
+    ensures { result.now ≡ dummies_of (header_of header.now) }
+{
+    match header {
+        Header::Sub(_, dummies) => dummies.as_slice(),
+        Header::Func(_, _, dummies) => dummies.as_slice(),
+        _ => &[],
+    }
 }

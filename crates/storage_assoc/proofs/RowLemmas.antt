@@ -15,7 +15,7 @@ use Rattle.storage_assoc.specs.Indexing.{row_at}
 use Rattle.storage_assoc.specs.Listings.{AreNumberedFrom, capped, is_found, name_at}
 use Rattle.storage_assoc.specs.Lists.{block_by}
 use Rattle.storage_assoc.specs.Groups.{dims_by}
-use Rattle.storage_assoc.specs.Naming.{IsReady, HasBlocks, AreListed}
+use Rattle.storage_assoc.specs.Naming.{IsReady, HasBlocks, AreListed, AreLabelled}
 
 number_found : (o : Option ℕ) → is_found o ≡ true → (i : ℕ) × (o ≡ Some i)
 number_found None e = absurd (cc)
@@ -156,4 +156,12 @@ module _ (r : Routine) (find blocks : Text → Option ℕ) (dims : Text → Opti
         rw o.2 (sym (name_size o.0 o.1 ∙ ap size_of o.3 ∙ s));
     shape = λ x p. shapes x;
     names = λ x p. number_found (find x) (names_are x ∙ p);
+  }
+
+  pub are_labelled : AreLabelled r labels count rows
+  are_labelled = record {
+    many = refl;
+    blank = refl;
+    each = block_row;
+    named = λ k lt. sym (blocks_are (name_at labels k)) ∙ ap is_found (bl.has k lt);
   }

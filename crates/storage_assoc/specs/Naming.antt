@@ -1,11 +1,13 @@
 -- What a checked unit gives of its names, and what a list of its blocks and names is to show to be their table.
-use Rattle.std.specs.Prelude.{◌≡◌, ◌<◌, ◌≤◌, ◌^◌, ℕ, zero, suc, true, List, length, slice_index, Option, Some, ⊤}
+use Rattle.std.specs.Prelude.{◌≡◌, ◌<◌, ◌≤◌, ◌^◌, ℕ, zero, suc, true, List, length, slice_index, Option, None, Some, ⊤}
 use Rattle.std.specs.List.{All}
 use Rattle.f66_tree.specs.Syntax.{Text, Formula, Ref, Item, Par, Act, Common, Equivalence, Routine}
 use Rattle.f66_tree.specs.Units.{sizes_of}
 use Rattle.f66_program.specs.Mentions.{context_of, has_places}
 use Rattle.f66_program.specs.Association.{Row, Own, Block, size_in}
+use Rattle.f66_program.specs.Linking.{unit_names_block}
 use Rattle.storage_assoc.specs.Indexing.{row_at}
+use Rattle.storage_assoc.specs.Listings.{name_at}
 use Rattle.storage_assoc.specs.Lists.{block_by, row_by}
 use Rattle.storage_assoc.specs.Groups.{dims_by}
 use Rattle.storage_assoc.specs.Tables.{IsTableOf}
@@ -45,6 +47,16 @@ pub record AreListed (r : Routine) (find blocks : Text → Option ℕ) (dims : T
   pub size : (x : Text) (i : ℕ) → find x ≡ Some i → size_in (context_of r) x ≡ slice_index sizes i
   pub shape : (x : Text) → has_places r x ≡ true → sizes_of x (context_of r).notes ≡ dims_by dims x
   pub names : (x : Text) → has_places r x ≡ true → (i : ℕ) × (find x ≡ Some i)
+
+-- behind blank common the blocks have these labels, each of which the unit names
+pub record AreLabelled (r : Routine) (labels : List Text) (count : ℕ) (rows : List Row) : Type 0 where
+  pub many : count ≡ suc (length labels)
+  pub blank : row_at rows 0 ≡ Block None
+  pub each : (k : ℕ) → k < length labels → row_at rows (suc k) ≡ Block (Some (name_at labels k))
+  pub named : (k : ℕ) → k < length labels → unit_names_block (Some (name_at labels k)) r ≡ true
+
+abbrev pub AreListedBy : Routine → (Text → Option ℕ) → (Text → Option ℕ) → (Text → Option (List Par)) → List ℕ → ℕ → List Text → Type 0
+AreListedBy r find blocks dims sizes count labels = (rows : List Row) × AreListed r find blocks dims sizes count rows × AreLabelled r labels count rows
 
 abbrev pub index_by : (Text → Option ℕ) → (Text → Option ℕ) → Row → ℕ
 index_by find blocks (Own zero x) = row_by find x

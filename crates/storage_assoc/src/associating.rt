@@ -117,7 +117,7 @@ fn bad_fault(
 }
 
 /// The fault of too many storage units.
-fn limit_fault(unit: &Unit) -> Fault
+pub fn limit_fault(unit: &Unit) -> Fault
     ensures kind { (result.kind ≡ IsLimit) × (result.number ≡ 8) }
     ensures place { place_of_part (routine_of unit.now) (first_of (routine_of unit.now)) ≡ Some result.place }
 {

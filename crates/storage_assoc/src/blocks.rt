@@ -19,10 +19,20 @@ pub(crate) fn labels_of<'a>(
     ensures listed { IfOk result (λ l. (q : List ℕ) → has_name l q ≡ list_any (λ s. names_block (Some q) s.act) (map line_of statements.now)) }
 {
     let mut labels = no_names(alloc);
-    for statement in statements {
-        list_labels(&mut labels, &statement.kind)?;
-    }
+    add_labels(&mut labels, statements)?;
     Ok(labels)
+}
+
+/// Lists the labels of the blocks that statements name, behind those that are listed.
+pub fn add_labels<'a>(labels: &mut Listing<'a>, statements: &'a [Stmt]) -> Result<(), AllocError>
+    requires { IsListing 1 labels.old }
+    ensures listing { OnOk result (IsListing 1 labels.new) }
+    ensures listed { OnOk result ((q : List ℕ) → has_name labels.new q ≡ (has_name labels.old q || list_any (λ s. names_block (Some q) s.act) (map line_of statements.now))) }
+{
+    for statement in statements {
+        list_labels(labels, &statement.kind)?;
+    }
+    Ok(())
 }
 
 /// Lists the labels of the blocks that a statement names.

@@ -15,7 +15,11 @@ mod table;
 mod units;
 mod walk;
 
-pub use associating::associate;
+pub use associating::{associate, limit_fault};
 pub use association::Association;
+pub use blocks::add_labels;
 pub use laws::lists_serve;
+pub use listing::{Listing, no_names};
+pub use table::{Table, table_of};
 pub use units::number_units;
+pub use walk::{UnitLinks, unit_links};

@@ -8,13 +8,13 @@ use std::collections::HashMap;
 
 /// Names, each once, with their numbers, which count from a first one on.
 #[derive(Drop)]
-pub(crate) struct Listing<'a> {
-    pub(crate) numbers: HashMap<&'a [u8], usize>,
-    pub(crate) names: Vec<&'a [u8]>,
+pub struct Listing<'a> {
+    pub numbers: HashMap<&'a [u8], usize>,
+    pub names: Vec<&'a [u8]>,
 }
 
 /// No names.
-pub(crate) fn no_names<'a>(alloc: Global) -> Listing<'a>
+pub fn no_names<'a>(alloc: Global) -> Listing<'a>
     ensures listing { (first : ℕ) → IsListing first result }
     ensures none { (q : List ℕ) → has_name result q ≡ false }
 {

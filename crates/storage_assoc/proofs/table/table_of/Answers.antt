@@ -17,8 +17,8 @@ use Rattle.f66_mentions.proofs.DimensionLemmas.{sizes_given}
 use Rattle.storage_assoc.specs.Listings.{AreNumberedFrom, capped, is_found, names_in, number_of_name}
 use Rattle.storage_assoc.specs.Tables.{IsTableOf}
 use Rattle.storage_assoc.specs.Groups.{dims_by}
-use Rattle.storage_assoc.specs.Naming.{index_by}
-use Rattle.storage_assoc.proofs.RowLemmas.{rows, is_listed}
+use Rattle.storage_assoc.specs.Naming.{AreListedBy, index_by}
+use Rattle.storage_assoc.proofs.RowLemmas.{rows, is_listed, are_labelled}
 use Rattle.storage_assoc.proofs.NamingLemmas.{is_table}
 use Rattle.storage_assoc.proofs.table.table_of.Goals as goal
 
@@ -52,4 +52,8 @@ returns c =
     let bounded : length sizes < 2 ^ 31 = grind (arith, c.if-len.false) in
     let all = rows r find blocks dims labels names sizes c.requires.ready bl nl blocks_are names_are sizes_are shapes bounded in
     let listed = is_listed r find blocks dims labels names sizes c.requires.ready bl nl blocks_are names_are sizes_are shapes bounded in
-    subst (λ n. IsTableOf r find blocks dims sizes n) (sym count_is) (all, index_by find blocks, is_table r find blocks dims sizes (suc (length labels)) all c.requires.ready listed)
+    let labelled = are_labelled r find blocks dims labels names sizes c.requires.ready bl nl blocks_are names_are sizes_are shapes bounded in
+    record {
+      table = subst (λ n. IsTableOf r find blocks dims sizes n) (sym count_is) (all, index_by find blocks, is_table r find blocks dims sizes (suc (length labels)) all c.requires.ready listed);
+      listed = subst (λ n. AreListedBy r find blocks dims sizes n labels) (sym count_is) (all, listed, labelled);
+    }

@@ -1,0 +1,2 @@
+-- The definitions that the contracts of sound_units cite.
+pub mod Laws
