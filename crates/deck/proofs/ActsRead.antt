@@ -22,7 +22,7 @@ arguments_stand : (es : List Formula) → AllByRecursion IsReadableArgument es �
 arguments_stand [] all = tt
 arguments_stand (e ∷ es) all = (all.0.is_argument, arguments_stand es all.1)
 
-arguments_readable : (es : List Formula) → AllByRecursion IsReadableArgument es → AllByRecursion (λ a. is_readable_argument a ≡ true) es
+pub arguments_readable : (es : List Formula) → AllByRecursion IsReadableArgument es → AllByRecursion (λ a. is_readable_argument a ≡ true) es
 arguments_readable [] all = tt
 arguments_readable (e ∷ es) all = (all.0.readable, arguments_readable es all.1)
 

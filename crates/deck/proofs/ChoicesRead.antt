@@ -63,10 +63,10 @@ pub branched : (o c r : Option Act) (a : Act) → o ≡ None → c ≡ Some a �
 branched (Some b) c r a none is = absurd cc
 branched None c r a none is = ap (λ (x : Option Act). or_else x r) is
 
-abbrev choice_tokens : ℕ → List ℕ → Text → List Token
+abbrev pub choice_tokens : ℕ → List ℕ → Text → List Token
 choice_tokens l ls x = t.Open ∷ spell_members spell_label t.Comma l ls (t.Close ∷ t.Comma ∷ t.Word x ∷ [])
 
-choice_lexed : (l : ℕ) (ls : List ℕ) (x : Text) → IsLabelInRange l → AllByRecursion IsLabelInRange ls → is_name x ≡ true
+pub choice_lexed : (l : ℕ) (ls : List ℕ) (x : Text) → IsLabelInRange l → AllByRecursion IsLabelInRange ls → is_name x ≡ true
     → tokens_of (statement_text (Computed (l ∷ ls) x)) ≡ t.Word (codes "GOTO") ∷ choice_tokens l ls x
 choice_lexed l ls x small all name =
     ap (λ (y : List Token). t.Word (codes "GOTO") ∷ t.Open ∷ y)
@@ -98,13 +98,13 @@ choice_read l ls x small all name =
 
 -- ---- arithmetic IF ----
 
-abbrev sign_tokens : Formula → ℕ → ℕ → ℕ → List Token
+abbrev pub sign_tokens : Formula → ℕ → ℕ → ℕ → List Token
 sign_tokens e l m n = t.Open ∷ spell e (t.Close ∷ spell_members spell_label t.Comma l (m ∷ n ∷ []) [])
 
 signs_text : (a b c : List ℕ) → ((a ++ 44 ∷ b) ++ 44 ∷ c) ++ [] ≡ a ++ 44 ∷ (b ++ 44 ∷ (c ++ []))
 signs_text a b c = append_assoc (a ++ 44 ∷ b) (44 ∷ c) [] ∙ append_assoc a (44 ∷ b) (44 ∷ (c ++ []))
 
-sign_lexed : (e : Formula) (l m n : ℕ) → IsReadable e → IsLabelInRange l → IsLabelInRange m → IsLabelInRange n → tokens_of (statement_text (Sign e l m n)) ≡ t.Word (codes "IF") ∷ sign_tokens e l m n
+pub sign_lexed : (e : Formula) (l m n : ℕ) → IsReadable e → IsLabelInRange l → IsLabelInRange m → IsLabelInRange n → tokens_of (statement_text (Sign e l m n)) ≡ t.Word (codes "IF") ∷ sign_tokens e l m n
 sign_lexed e l m n fine below zero_label above =
     ap (λ (y : List Token). t.Word (codes "IF") ∷ t.Open ∷ y)
     (text_lexed e true (41 ∷ (((decimal l ++ 44 ∷ decimal m) ++ 44 ∷ decimal n) ++ [])) fine.readable (refl, refl, refl, refl)
@@ -206,6 +206,12 @@ first c r a is = ap (λ (x : Option Act). or_else x r) is
 
 stop_lexed : (n : ℕ) → IsOctal 5 n (digits 8 false n) → tokens_of (statement_text (Stop (Some n))) ≡ t.Word (codes "STOP" ++ digits 8 false n) ∷ []
 stop_lexed n r = word_goes_on (codes "STOP") (digits 8 false n) [] r.letters
+
+pub stop_letters : (n : ℕ) → n < 32768 → list_all is_alnum (digits 8 false n) ≡ true
+stop_letters n small = (octal_digits 4 n (omega (arith, small)) (omega (arith, small))).letters
+
+pub stop_tokens : (n : ℕ) → n < 32768 → tokens_of (statement_text (Stop (Some n))) ≡ t.Word (codes "STOP" ++ digits 8 false n) ∷ []
+stop_tokens n small = stop_lexed n (octal_digits 4 n (omega (arith, small)) (omega (arith, small)))
 
 pub stop_branch : (n : ℕ) → n < 32768 → ReadsAsBranch (Stop (Some n))
 stop_branch n small =

@@ -35,7 +35,7 @@ use Rattle.deck.proofs.CallsRead.{call_behind, call_is_none, arguments_lexed}
 assigned : (tokens : List Token) (a : Act) → assignment_of tokens ≡ Some a → branch_of tokens ≡ Some a
 assigned tokens a is = rw is refl
 
-assignment_lexed : (x e : Formula) → IsReadable x → IsReadable e → tokens_of (statement_text (Assign x e)) ≡ spell x (t.Equals ∷ spell e [])
+pub assignment_lexed : (x e : Formula) → IsReadable x → IsReadable e → tokens_of (statement_text (Assign x e)) ≡ spell x (t.Equals ∷ spell e [])
 assignment_lexed x e left right =
     text_lexed x false (61 ∷ formula_text e []) left.readable (refl, refl, refl, refl) ∙ ap (λ (k : List Token). spell x (t.Equals ∷ k)) (text_lexed e false [] right.readable tt)
 

@@ -35,21 +35,21 @@ use Rattle.deck.proofs.RecordsRead.{IsUncut, uncut_open, uncut_close}
 -- ---- what is written ----
 
 -- a count of one is left out
-abbrev count_if : ℕ → Option ℕ
+abbrev pub count_if : ℕ → Option ℕ
 count_if n = cond (n == 1) None (Some n)
 
-abbrev item_of : ℕ → Step → Item
+abbrev pub item_of : ℕ → Step → Item
 item_of n (Takes kind w) = Edit (count_if n) (edit_letter kind ∷ decimal w)
 item_of n (Blanks m) = Edit (Some m) (88 ∷ [])
 item_of n (Chars text) = Words text
 item_of n Slash = Stroke
 
-abbrev pointed : Bool → Fields → Items → Items
+abbrev pub pointed : Bool → Fields → Items → Items
 pointed beside NoField k = k
 pointed beside (Single n s rest) k = cond (beside || is_slash s) k (Then Point k)
 pointed beside (Group n inside rest) k = cond beside k (Then Point k)
 
-abbrev written : Fields → Items
+abbrev pub written : Fields → Items
 written NoField = Ends
 written (Single n s rest) = Then (item_of n s) (pointed (is_slash s) rest (written rest))
 written (Group n inside rest) = Then (Nest (count_if n) (written inside)) (pointed false rest (written rest))
@@ -192,10 +192,10 @@ count_by n false is low = small_is n low
 count_is : (n : ℕ) → n ≤ 65535 → count_of (count_if n) ≡ n
 count_is n low = count_by n (n == 1) refl low
 
-record IsWidth (n : ℕ) (ds : List ℕ) : Type 0 where
-  some : 1 ≤ length ds
-  all : list_all is_digit ds ≡ true
-  value : value_after 0 ds ≡ n
+pub record IsWidth (n : ℕ) (ds : List ℕ) : Type 0 where
+  pub some : 1 ≤ length ds
+  pub all : list_all is_digit ds ≡ true
+  pub value : value_after 0 ds ≡ n
 
 is_digit_of : (d : ℕ) → d < 10 → is_digit (48 + d) ≡ true
 is_digit_of d lt = and_from (nat_le 48 (48 + d)) (nat_le (48 + d) 57) (le-leb 48 (48 + d) (omega arith)) (le-leb (48 + d) 57 (omega (arith, lt)))
@@ -220,12 +220,15 @@ width_more n ds ten r =
       value = value_behind 0 ds (48 + n % 10) ∙ omega (arith, r.value);
     }
 
+pub width_digits : (w : ℕ) → w ≤ 65535 → IsWidth w (decimal w)
+width_digits w low = decimal_by_steps IsWidth width_one width_more w (omega (arith, low))
+
 width_by : (w : ℕ) (ds : List ℕ) → w ≤ 65535 → IsWidth w ds → width_of ds ≡ Some w
 width_by w [] low r = absurd (omega (arith, r.some))
 width_by w (c ∷ cs) low r = let all = r.all in let value = r.value in let kept = small_is w low in rw (all, value, kept) refl
 
 width_is : (w : ℕ) → w ≤ 65535 → width_of (decimal w) ≡ Some w
-width_is w low = width_by w (decimal w) low (decimal_by_steps IsWidth width_one width_more w (omega (arith, low)))
+width_is w low = width_by w (decimal w) low (width_digits w low)
 
 edit_is : (n w : ℕ) (kind : EditKind) → n ≤ 65535 → w ≤ 65535 → sized (count_if n) kind (width_of (decimal w)) ≡ Some (Single n (Takes kind w))
 edit_is n w kind low narrow = ap (sized (count_if n) kind) (width_is w narrow) ∙ ap (λ (m : ℕ). Some (Single m (Takes kind w))) (count_is n low)
@@ -313,7 +316,7 @@ formatted : (o c r : Option Act) (a : Act) → o ≡ None → c ≡ Some a → o
 formatted (Some b) c r a none is = absurd cc
 formatted None c r a none is = ap (λ (x : Option Act). or_else x r) is
 
-format_lexed : (fs : Fields) → AreReadableFields fs → tokens_of (statement_text (Format fs)) ≡ t.Word (codes "FORMAT") ∷ t.Open ∷ spell_items (written fs) (t.Close ∷ [])
+pub format_lexed : (fs : Fields) → AreReadableFields fs → tokens_of (statement_text (Format fs)) ≡ t.Word (codes "FORMAT") ∷ t.Open ∷ spell_items (written fs) (t.Close ∷ [])
 format_lexed fs all = ap (λ (y : List Token). t.Word (codes "FORMAT") ∷ t.Open ∷ y) (fields_lexed fs (41 ∷ []) all (refl, refl, refl, refl))
 
 pub format_known : (fs : Fields) → AreReadableFields fs → AreKnown (tokens_of (statement_text (Format fs)))

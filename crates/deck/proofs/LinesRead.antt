@@ -34,6 +34,13 @@ ends_known : (text : List ℕ) (p : Part) → list_all is_known (lexed p text) �
 ends_known [] p all = end_known p all
 ends_known (c ∷ text) p all = ends_known text (at p c).part (back_known (at p c).tokens (lexed (at p c).part text) all)
 
--- the line that a deck gives for a statement's text is read as the text is
+-- the line that a deck gives for a text has the tokens of the text, where all of them are known
+pub known_filled : (text : List ℕ) → list_all is_known (tokens_of text) ≡ true → tokens_of (filled 66 text) ≡ tokens_of text
+known_filled text known = filled_lexed text (ends_known text (Clear false) known)
+
+pub line_lexed : (a : Act) → IsReadableAct a → tokens_of (filled 66 (statement_text a)) ≡ tokens_of (statement_text a)
+line_lexed a readable = known_filled (statement_text a) (act_known a readable)
+
+-- so it is read as the text is
 pub line_read : (a : Act) → IsReadableAct a → statement_of (tokens_of (filled 66 (statement_text a))) ≡ Some a
-line_read a readable = ap statement_of (filled_lexed (statement_text a) (ends_known (statement_text a) (Clear false) (act_known a readable))) ∙ act_read a readable
+line_read a readable = ap statement_of (line_lexed a readable) ∙ act_read a readable

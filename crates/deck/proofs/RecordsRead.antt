@@ -124,7 +124,7 @@ mutual
 
 -- ---- the statements ----
 
-abbrev record_tokens : Par → ℕ → Entries → List Token
+abbrev pub record_tokens : Par → ℕ → Entries → List Token
 record_tokens u l es = par_token u ∷ t.Comma ∷ t.Number l ∷ t.Close ∷ spell_entries es []
 
 record_lexed : (u : Par) (l : ℕ) (es : Entries) → is_readable_par u ≡ true → IsLabelInRange l → AreReadableEntries es → lexed (Clear true) (par_text u (44 ∷ (decimal l ++ 41 ∷ entries_text es []))) ≡ record_tokens u l es
@@ -173,10 +173,10 @@ entries_known (AndEntry e es) fine = entry_known e (more_entries es []) fine.0 (
 record_known : (u : Par) (l : ℕ) (es : Entries) → is_readable_par u ≡ true → AreReadableEntries es → AreKnown (t.Open ∷ record_tokens u l es)
 record_known u l es ru all = par_known u (t.Comma ∷ t.Number l ∷ t.Close ∷ spell_entries es []) ru (entries_known es all)
 
-read_lexed : (u : Par) (l : ℕ) (es : Entries) → is_readable_par u ≡ true → IsLabelInRange l → AreReadableEntries es → tokens_of (statement_text (Read u l es)) ≡ t.Word (codes "READ") ∷ t.Open ∷ record_tokens u l es
+pub read_lexed : (u : Par) (l : ℕ) (es : Entries) → is_readable_par u ≡ true → IsLabelInRange l → AreReadableEntries es → tokens_of (statement_text (Read u l es)) ≡ t.Word (codes "READ") ∷ t.Open ∷ record_tokens u l es
 read_lexed u l es ru small all = ap (λ (y : List Token). t.Word (codes "READ") ∷ t.Open ∷ y) (record_lexed u l es ru small all)
 
-write_lexed : (u : Par) (l : ℕ) (es : Entries) → is_readable_par u ≡ true → IsLabelInRange l → AreReadableEntries es → tokens_of (statement_text (Write u l es)) ≡ t.Word (codes "WRITE") ∷ t.Open ∷ record_tokens u l es
+pub write_lexed : (u : Par) (l : ℕ) (es : Entries) → is_readable_par u ≡ true → IsLabelInRange l → AreReadableEntries es → tokens_of (statement_text (Write u l es)) ≡ t.Word (codes "WRITE") ∷ t.Open ∷ record_tokens u l es
 write_lexed u l es ru small all = ap (λ (y : List Token). t.Word (codes "WRITE") ∷ t.Open ∷ y) (record_lexed u l es ru small all)
 
 pub read_branch : (u : Par) (l : ℕ) (es : Entries) → is_readable_par u ≡ true → IsLabelInRange l → AreReadableEntries es → ReadsAsBranch (Read u l es)

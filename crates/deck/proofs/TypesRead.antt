@@ -101,7 +101,7 @@ names_read letters d ds first readable =
     }
 
 -- what is spelled so begins with the word
-word_first : (P : List Token → Type 0) (w : List ℕ) (sizes : List Par) (ks : List Token) → ((tokens : List Token) → P (t.Word w ∷ tokens)) → P (spell (sized_formula w sizes) ks)
+pub word_first : (P : List Token → Type 0) (w : List ℕ) (sizes : List Par) (ks : List Token) → ((tokens : List Token) → P (t.Word w ∷ tokens)) → P (spell (sized_formula w sizes) ks)
 word_first P w [] ks all = all ks
 word_first P w (p ∷ ps) ks all = all (t.Open ∷ spell_list (par_formulas (p ∷ ps)) (t.Close ∷ ks))
 
@@ -114,6 +114,16 @@ by_word letters d ds a first readable all =
     let r = names_read letters d ds first readable in
     ap statement_of r.whole
     ∙ word_first (Reads letters d ds a) (letters ++ d.name) d.sizes (spell_others spell_declared t.Comma ds []) all (ap assignment_of (sym r.whole) ∙ r.none) (ap (after_word letters) (sym r.whole) ∙ r.behind_it)
+
+-- all its tokens
+pub names_lexed : (letters : List ℕ) (d : Declared) (ds : List Declared) → is_readable_declared d ≡ true → AllByRecursion (λ b. is_readable_declared b ≡ true) ds
+    → lexed (InWord letters) (declared_text d (more_commas declared_text ds [])) ≡ spell (sized_formula (letters ++ d.name) d.sizes) (spell_others spell_declared t.Comma ds [])
+names_lexed letters d ds first readable = (names_read letters d ds first readable).whole
+
+-- what stands behind the letters
+pub names_behind : (letters : List ℕ) (d : Declared) (ds : List Declared) → is_readable_declared d ≡ true → AllByRecursion (λ b. is_readable_declared b ≡ true) ds
+    → after_word letters (lexed (InWord letters) (declared_text d (more_commas declared_text ds []))) ≡ Some (spell_members spell_declared t.Comma d ds [])
+names_behind letters d ds first readable = (names_read letters d ds first readable).behind_it
 
 -- all its tokens are known
 pub names_all_known : (letters : List ℕ) (d : Declared) (ds : List Declared) → is_readable_declared d ≡ true → AllByRecursion (λ b. is_readable_declared b ≡ true) ds → AreKnown (lexed (InWord letters) (declared_text d (more_commas declared_text ds [])))

@@ -1,6 +1,8 @@
 // A deck of cards, read and checked.
-ghost use Rattle.std.specs.Prelude.{◌≡◌, Ok, map, IfOk, IfErr};
+ghost use Rattle.std.specs.Prelude.{◌≡◌, Ok, map, IfOk, IfErr, OnOk};
+ghost use Rattle.std.specs.List.{AllByRecursion};
 ghost use Rattle.f66_tree.specs.Views.{routine_of};
+ghost use Rattle.f66_check.specs.Answers.{IsSoundUnit};
 ghost use Rattle.deck_reader.specs.Answers.{IsDeckRefusal, deck_units};
 
 use crate::units::units_of;
@@ -13,6 +15,7 @@ use std::alloc::Global;
 /// The units in their order, where each is sound; else the first fault of the first that is not.
 fn check_units(alloc: Global, units: List<Unit>) -> Result<List<SoundUnit>, Refusal>
     ensures units { IfOk result (λ sound. sound.items ≡ units.items) }
+    ensures sound { OnOk result (AllByRecursion IsSoundUnit (map routine_of units.items)) }
     ensures refused { IfErr result (IsDeckRefusal (Ok (map routine_of units.items))) }
 {
     let mut sound = Vec::new(alloc);
@@ -29,6 +32,7 @@ fn check_units(alloc: Global, units: List<Unit>) -> Result<List<SoundUnit>, Refu
 /// its first unit that is not sound (X3.9-1966, sections 3 to 9).
 pub fn read_deck(alloc: Global, bytes: &[u8]) -> Result<List<SoundUnit>, Refusal>
     ensures units { IfOk result (λ units. deck_units bytes.now ≡ Ok (map routine_of units.items)) }
+    ensures sound { IfOk result (λ units. AllByRecursion IsSoundUnit (map routine_of units.items)) }
     ensures refused { IfErr result (IsDeckRefusal (deck_units bytes.now)) }
 {
     let lines = lines_of(alloc, bytes)?;
