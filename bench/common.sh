@@ -4,6 +4,7 @@ here=$(CDPATH= cd -- "$(dirname -- "$0")/.." && pwd) || exit 1
 eft=$here/crates/eft/out/eft
 layers=$here/crates/bench/out/bench
 status=0
+rounds=3
 work=$(mktemp -d) || exit 1
 trap 'rm -rf "$work"' EXIT
 
@@ -17,11 +18,11 @@ layer_time() { # LAYER LANGUAGE FILE ROUNDS
     "$layers" "$1" "$2" "$3" "$4" | sed -n 's/ ns$//p'
 }
 
-# The least time of three runs of a command over an input, in nanoseconds. What it writes is left in $work/out.
+# The least time of $rounds runs of a command over an input, in nanoseconds. What it writes is left in $work/out.
 command_time() { # INPUT COMMAND...
     input=$1
     shift
-    for _ in 1 2 3; do
+    for _ in $(seq "$rounds"); do
         from=$(date +%s%N)
         "$@" <"$input" 2>"$work/err" | cat >"$work/out"
         echo $(($(date +%s%N) - from))

@@ -1,5 +1,5 @@
 -- A sound unit whose texts fit their cards can be written as a deck.
-use Rattle.std.proofs.Common.{◌≡◌, ◌≤◌, ◌<◌, ℕ, zero, Bool, true, false, ◌||◌, ◌==◌, List, [], ◌∷◌, length, Option, Some, None, unwrap_or, refl, sym, ap, ◌∙◌, option_map, arith}
+use Rattle.std.proofs.Common.{◌≡◌, ◌≤◌, ℕ, zero, false, ◌||◌, ◌==◌, List, [], ◌∷◌, length, Option, Some, None, unwrap_or, refl, ap, ◌∙◌, option_map, arith}
 use Rattle.std.specs.Prelude.{nat_lt, if◌then◌else◌}
 use Rattle.std.specs.List.{All, AllByRecursion, slice_get, slice_index_or}
 use Rattle.std.proofs.lemmas.Bool.{or_parts, le-ltb, ltb-false}
@@ -9,7 +9,6 @@ use Rattle.rule_table.specs.declared.rule.Rule.TheVariants.{BadLabel}
 use Rattle.rule_table.specs.Words.{is_some_and, is_below}
 use Rattle.f66_tree.specs.Syntax.{Line, Routine}
 use Rattle.f66_tree.specs.Views.{line_of, lines_of, routine_of}
-use Rattle.f66_tree.specs.declared.statement.Stmt.{Stmt}
 use Rattle.f66_tree.specs.declared.unit.Unit.{Unit}
 use Rattle.f66_flow.specs.Ranges.{label_place}
 use Rattle.f66_flow.specs.FlowRules.{has_bad_label}
@@ -17,7 +16,7 @@ use Rattle.f66_check.specs.Answers.{IsSound}
 use Rattle.f66_check.proofs.SoundLemmas.{clean_line}
 use Rattle.stmt_text.specs.Texts.{header_text, statement_text}
 use Rattle.stmt_text.specs.Fitting.{FitsCards, IsPrintable}
-use Rattle.deck.specs.Decks.{HasCardLabel, HasCardLabels}
+use Rattle.deck.specs.Decks.{HasCardLabels}
 use Rattle.deck.specs.LongTexts.{limit_nine, fault_of_text, fault_of_line, or_else, first_fault, fault_of_unit}
 
 -- ---- texts ----

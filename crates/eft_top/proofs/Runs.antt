@@ -17,9 +17,9 @@ use Rattle.front.proofs.OneVerdict.{one_verdict}
 use Rattle.eft_top.specs.declared.status.Status.{Status}
 use Rattle.eft_top.specs.declared.status.Status.TheVariants.{Done, Usage, SourceFault, LibraryFault, InputFault, OutputFault, StepLimit, Memory, Stopped, InputTooLong, Trapped}
 use Rattle.eft_top.specs.Input.{Got, is_too_long, records_of}
-use Rattle.eft_top.specs.Words.{Command, Run, AskFor}
+use Rattle.eft_top.specs.Words.{Command, Run}
 use Rattle.eft_top.specs.Outcome.{Outcome, IsRun, RunsIn, ComesOf, IsOutcomeBy, status_of, out_of, diag_line, end_status, end_line}
-use Rattle.eft_top.specs.Causes.{IsOneOf, IsOfText, IsShown}
+use Rattle.eft_top.specs.Causes.{IsOneOf, IsOfText}
 use Rattle.eft_top.specs.Laws.{IsRunOf, Presents, IsMeant, MissesNothing, RunShowsMeaning, RunMissesNothing}
 use Rattle.eft_top.proofs.ReadWords.{one_command}
 
@@ -46,7 +46,7 @@ module _ (words : List (List ℕ)) (limit : ℕ) (language : Dialect) (file : Li
     pub is : IsRun meaning limit (records_of got) run
     pub presents : Presents files limit got.failed run result out diag
 
-  ran_in : (got : Got) (o : Outcome) (long : Bool) → is_too_long got ≡ long → RunsIn long files meaning limit got o → Some result ≡ status_of o → out (out_of o) → diag (diag_line o) →
+  ran_in : (got : Got) (o : Outcome) (long : Bool) → is_too_long got ≡ long → RunsIn long files (IsRun meaning limit (records_of got)) limit got o → Some result ≡ status_of o → out (out_of o) → diag (diag_line o) →
       ((is_too_long got ≡ true) × (result ≡ InputTooLong)) ⊎ Ran got
   ran_in got o true e over s p d = inl (e, some_injective (s ∙ ap status_of over))
   ran_in got o false e over s p d = inr (record {
@@ -59,7 +59,7 @@ module _ (words : List (List ℕ)) (limit : ℕ) (language : Dialect) (file : Li
     };
   })
 
-  ran_by : (o : Outcome) → (h : IsRunOf words limit language file held files meaning given result out diag) → IsOutcomeBy (Run limit language file) (Some held) given o → (got : Got) × given got × RunsIn (is_too_long got) files meaning limit got o
+  ran_by : (o : Outcome) → (h : IsRunOf words limit language file held files meaning given result out diag) → IsOutcomeBy (Run limit language file) (Some held) given o → (got : Got) × given got × RunsIn (is_too_long got) files (IsRun meaning limit (records_of got)) limit got o
   ran_by o h is =
       let told = subst (λ (k : Known). Becomes language file k is.2.0) is.1 is.2.1 in
       let same = one_verdict language file (Holds held) is.2.0 (Accepts files meaning) told h.accepted in

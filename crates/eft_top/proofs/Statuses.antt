@@ -1,21 +1,23 @@
 -- From what came of a call to the clauses of the top call.
-use Rattle.std.proofs.Common.{◌≡◌, ℕ, Bool, true, false, ◌&&◌, if◌then◌else◌, List, [], ◌∷◌, ◌⊎◌, inl, inr, refl, sym, ◌∙◌, ap, subst, Some, None}
+use Rattle.std.proofs.Common.{◌≡◌, ℕ, Bool, true, false, ◌&&◌, if◌then◌else◌, List, [], ◌∷◌, ◌⊎◌, inl, inr, refl, sym, ◌∙◌, ap, subst, Ok, Err, Some, None}
 use Rattle.std.specs.declared.option.Option.{Option}
 use Rattle.ground.specs.declared.trap.Trap.{Trap}
 use Rattle.ground.specs.declared.trap.Trap.TheVariants.{EndOfInput}
-use Rattle.f66_tree.specs.World.{End, Ended, GoesOn, Lost, Done, Stopped, Trapped, Wrong}
-use Rattle.macro_define.specs.Answers.{Known, Holds}
-use Rattle.front.specs.Checked.{Meaning}
+use Rattle.ground.specs.declared.fault.Fault.{Fault}
+use Rattle.f66_tree.specs.World.{Shown, End, Ended, GoesOn, Lost, Done, Stopped, Trapped, Wrong}
+use Rattle.macro_define.specs.Answers.{Known, Holds, answer}
 use Rattle.front.specs.Verdict.{Verdict, Refuses, Accepts}
 use Rattle.front.proofs.OneVerdict.{one_verdict}
+use Rattle.deck_file.specs.Loaded.{Loaded}
+use Rattle.deck_file.proofs.OneLoaded.{both_refused}
 use Rattle.eft_top.specs.declared.status.Status.{Status}
 use Rattle.eft_top.specs.declared.status.Status.TheVariants.{Done as IsDone, Usage, SourceFault, LibraryFault, InputFault, OutputFault, Memory, Trapped as IsTrapped}
 use Rattle.eft_top.specs.declared.report.Report.{Report}
-use Rattle.eft_top.specs.Words.{Command, Run, Cards, AskNothing}
+use Rattle.eft_top.specs.Words.{Command, Run, Cards, Deck, AskNothing}
 use Rattle.eft_top.specs.Input.{Got, is_too_long}
-use Rattle.eft_top.specs.Outcome.{Outcome, HasFault, HasDeck, HasLongInput, Runs, RunsIn, IsPrinted, ComesOf, is_end_of_input, trap_status, IsOutcomeOf, IsOutcomeBy, status_of, end_status}
+use Rattle.eft_top.specs.Outcome.{Outcome, HasFault, HasDeck, HasLongInput, Runs, RunsIn, IsPrinted, ComesOf, DeckComesOf, is_end_of_input, trap_status, IsOutcomeOf, IsOutcomeBy, status_of, end_status}
 use Rattle.eft_top.specs.Lines.{output_fault_line}
-use Rattle.eft_top.specs.Causes.{IsOneOf, Comes, MayBe, MustBe, Compels, IsOfText, IsShown, IfTold, AnswersCall, WasToShow}
+use Rattle.eft_top.specs.Causes.{Comes, MayBe, Compels, IsOfText, IsShown, IfTold, AnswersCall, WasToShow}
 use Rattle.eft_top.specs.Report.{IsReport, line_bytes, out_bytes}
 use Rattle.eft_top.specs.Story.{CameOf, NotFetched, NoMemory, Shows, Came, BadWords, Asked}
 
@@ -56,13 +58,13 @@ no_run_is_faulty failed (Ended Wrong) e = cc
 no_run_is_faulty failed GoesOn e = cc
 no_run_is_faulty failed Lost e = cc
 
-no_run_over_is_faulty : (files : List (List ℕ)) (meaning : Meaning) (limit : ℕ) (got : Got) (o : Outcome) (long : Bool) → RunsIn long files meaning limit got o → status_of o ≡ Some SourceFault → ⊥
-no_run_over_is_faulty files meaning limit got o true over e = absurd (let f = ap status_of (sym over) ∙ e in cc)
-no_run_over_is_faulty files meaning limit got o false over e = no_run_is_faulty got.failed over.0.end (ap status_of (sym over.2) ∙ e)
+no_run_over_is_faulty : (files : List (List ℕ)) (P : Shown → Type 0) (limit : ℕ) (got : Got) (o : Outcome) (long : Bool) → RunsIn long files P limit got o → status_of o ≡ Some SourceFault → ⊥
+no_run_over_is_faulty files P limit got o true over e = absurd (let f = ap status_of (sym over) ∙ e in cc)
+no_run_over_is_faulty files P limit got o false over e = no_run_is_faulty got.failed over.0.end (ap status_of (sym over.2) ∙ e)
 
 faulty_of : (verdict : Verdict) (limit : ℕ) (given : Got → Type 0) (one other : Outcome) → ComesOf verdict limit given one → ComesOf verdict limit given other → status_of other ≡ Some SourceFault → status_of one ≡ Some SourceFault
 faulty_of (Refuses fault file) limit given one other h k e = ap status_of h
-faulty_of (Accepts files meaning) limit given one other h k e = absurd (no_run_over_is_faulty files meaning limit k.0 other (is_too_long k.0) k.2 e)
+faulty_of (Accepts files meaning) limit given one other h k e = absurd (no_run_over_is_faulty files _ limit k.0 other (is_too_long k.0) k.2 e)
 
 no_deck_is_faulty : (deck : List ℕ) (o : Outcome) → o ≡ HasDeck deck → status_of o ≡ Some SourceFault → ⊥
 no_deck_is_faulty deck o is e = let f = ap status_of (sym is) ∙ e in cc
@@ -71,6 +73,11 @@ faulty_print : (verdict : Verdict) (one other : Outcome) → IsPrinted verdict o
 faulty_print (Refuses fault file) one other h k e = ap status_of h
 faulty_print (Accepts files meaning) one other h k e = absurd (no_deck_is_faulty k.0 other k.2 e)
 
+-- a deck that comes to a fault was refused
+faulty_deck : (file : List ℕ) (loaded : Loaded) (limit : ℕ) (given : Got → Type 0) (o : Outcome) → DeckComesOf file loaded limit given o → status_of o ≡ Some SourceFault → (fault : Fault) × (loaded ≡ Err fault)
+faulty_deck file (Err fault) limit given o h e = (fault, refl)
+faulty_deck file (Ok lines) limit given o h e = absurd (no_run_over_is_faulty (file ∷ []) _ limit h.0 o (is_too_long h.0) h.2 e)
+
 faulty_too : (command : Command) (known : Known) (given : Got → Type 0) (one other : Outcome) → IsOutcomeOf command known given one → IsOutcomeOf command known given other → status_of other ≡ Some SourceFault → status_of one ≡ Some SourceFault
 faulty_too (Run limit language file) known given one other h k e =
     let same : k.0 ≡ h.0 = one_verdict language file known k.0 h.0 k.1 h.1 in
@@ -78,6 +85,10 @@ faulty_too (Run limit language file) known given one other h k e =
 faulty_too (Cards language file) known given one other h k e =
     let same : k.0 ≡ h.0 = one_verdict language file known k.0 h.0 k.1 h.1 in
     faulty_print h.0 one other h.2 (subst (λ v. IsPrinted v other) same k.2) e
+faulty_too (Deck limit file) known given one other h k e =
+    let refused = faulty_deck file k.0 limit given other k.2 e in
+    let too = both_refused (answer known file) k.0 h.0 refused.0 k.1 refused.1 h.1 in
+    ap status_of (subst (λ l. DeckComesOf file l limit given one) too.1 h.2)
 
 compelled : (command : Command) (known : Known) (given : Got → Type 0) (o : Outcome) → IsOutcomeOf command known given o → (status : Status) → Compels (IsOutcomeOf command known given) status → status_of o ≡ Some status
 compelled command known given o told SourceFault may = faulty_too command known given o may.0 told may.1 may.2
@@ -203,13 +214,13 @@ read_of_end failed (Ended Wrong) e = cc
 read_of_end failed GoesOn e = cc
 read_of_end failed Lost e = cc
 
-failed_of_run : (files : List (List ℕ)) (meaning : Meaning) (limit : ℕ) (got : Got) (o : Outcome) (long : Bool) → RunsIn long files meaning limit got o → status_of o ≡ Some InputFault → got.failed ≡ true
-failed_of_run files meaning limit got o true over e = absurd (let f = ap status_of (sym over) ∙ e in cc)
-failed_of_run files meaning limit got o false over e = failed_of_end got.failed over.0.end (ap status_of (sym over.2) ∙ e)
+failed_of_run : (files : List (List ℕ)) (P : Shown → Type 0) (limit : ℕ) (got : Got) (o : Outcome) (long : Bool) → RunsIn long files P limit got o → status_of o ≡ Some InputFault → got.failed ≡ true
+failed_of_run files P limit got o true over e = absurd (let f = ap status_of (sym over) ∙ e in cc)
+failed_of_run files P limit got o false over e = failed_of_end got.failed over.0.end (ap status_of (sym over.2) ∙ e)
 
-read_of_run : (files : List (List ℕ)) (meaning : Meaning) (limit : ℕ) (got : Got) (o : Outcome) (long : Bool) → RunsIn long files meaning limit got o → status_of o ≡ Some (IsTrapped EndOfInput) → (got.failed ≡ false) × (long ≡ false)
-read_of_run files meaning limit got o true over e = absurd (let f = ap status_of (sym over) ∙ e in cc)
-read_of_run files meaning limit got o false over e = (read_of_end got.failed over.0.end (ap status_of (sym over.2) ∙ e), refl)
+read_of_run : (files : List (List ℕ)) (P : Shown → Type 0) (limit : ℕ) (got : Got) (o : Outcome) (long : Bool) → RunsIn long files P limit got o → status_of o ≡ Some (IsTrapped EndOfInput) → (got.failed ≡ false) × (long ≡ false)
+read_of_run files P limit got o true over e = absurd (let f = ap status_of (sym over) ∙ e in cc)
+read_of_run files P limit got o false over e = (read_of_end got.failed over.0.end (ap status_of (sym over.2) ∙ e), refl)
 
 -- a text that is printed has a fault, or the deck is done
 printed_status : (verdict : Verdict) (o : Outcome) → IsPrinted verdict o → (status_of o ≡ Some SourceFault) ⊎ (status_of o ≡ Some IsDone)
@@ -219,19 +230,29 @@ printed_status (Accepts files meaning) o h = inr (ap status_of h.2)
 module _ (files : Option (List ℕ → Option (List ℕ))) (given : Got → Type 0) (o : Outcome) where
   failed_of_verdict : (verdict : Verdict) (limit : ℕ) → ComesOf verdict limit given o → status_of o ≡ Some InputFault → (got : Got) × given got × (got.failed ≡ true)
   failed_of_verdict (Refuses fault file) limit h e = absurd (let f = ap status_of (sym h) ∙ e in cc)
-  failed_of_verdict (Accepts names meaning) limit h e = (h.0, h.1, failed_of_run names meaning limit h.0 o (is_too_long h.0) h.2 e)
+  failed_of_verdict (Accepts names meaning) limit h e = (h.0, h.1, failed_of_run names _ limit h.0 o (is_too_long h.0) h.2 e)
 
   read_of_verdict : (verdict : Verdict) (limit : ℕ) → ComesOf verdict limit given o → status_of o ≡ Some (IsTrapped EndOfInput) → (got : Got) × given got × (got.failed ≡ false) × (is_too_long got ≡ false)
   read_of_verdict (Refuses fault file) limit h e = absurd (let f = ap status_of (sym h) ∙ e in cc)
-  read_of_verdict (Accepts names meaning) limit h e = let read = read_of_run names meaning limit h.0 o (is_too_long h.0) h.2 e in (h.0, h.1, read.0, read.1)
+  read_of_verdict (Accepts names meaning) limit h e = let read = read_of_run names _ limit h.0 o (is_too_long h.0) h.2 e in (h.0, h.1, read.0, read.1)
+
+  failed_of_deck : (file : List ℕ) (loaded : Loaded) (limit : ℕ) → DeckComesOf file loaded limit given o → status_of o ≡ Some InputFault → (got : Got) × given got × (got.failed ≡ true)
+  failed_of_deck file (Err fault) limit h e = absurd (let f = ap status_of (sym h) ∙ e in cc)
+  failed_of_deck file (Ok lines) limit h e = (h.0, h.1, failed_of_run (file ∷ []) _ limit h.0 o (is_too_long h.0) h.2 e)
+
+  read_of_deck : (file : List ℕ) (loaded : Loaded) (limit : ℕ) → DeckComesOf file loaded limit given o → status_of o ≡ Some (IsTrapped EndOfInput) → (got : Got) × given got × (got.failed ≡ false) × (is_too_long got ≡ false)
+  read_of_deck file (Err fault) limit h e = absurd (let f = ap status_of (sym h) ∙ e in cc)
+  read_of_deck file (Ok lines) limit h e = let read = read_of_run (file ∷ []) _ limit h.0 o (is_too_long h.0) h.2 e in (h.0, h.1, read.0, read.1)
 
   failed_of_outcome : (command : Command) → IsOutcomeBy command files given o → status_of o ≡ Some InputFault → (got : Got) × given got × (got.failed ≡ true)
   failed_of_outcome (Run limit language file) h e = failed_of_verdict h.2.0 limit h.2.2 e
   failed_of_outcome (Cards language file) h e = elim (printed_status h.2.0 o h.2.2) [ inl f ↦ absurd (let g = sym f ∙ e in cc) | inr f ↦ absurd (let g = sym f ∙ e in cc) ]
+  failed_of_outcome (Deck limit file) h e = failed_of_deck file h.2.0 limit h.2.2 e
 
   read_of_outcome : (command : Command) → IsOutcomeBy command files given o → status_of o ≡ Some (IsTrapped EndOfInput) → (got : Got) × given got × (got.failed ≡ false) × (is_too_long got ≡ false)
   read_of_outcome (Run limit language file) h e = read_of_verdict h.2.0 limit h.2.2 e
   read_of_outcome (Cards language file) h e = elim (printed_status h.2.0 o h.2.2) [ inl f ↦ absurd (let g = sym f ∙ e in cc) | inr f ↦ absurd (let g = sym f ∙ e in cc) ]
+  read_of_outcome (Deck limit file) h e = read_of_deck file h.2.0 limit h.2.2 e
 
 module _ (asks : Command → Type 0) (files : Option (List ℕ → Option (List ℕ))) (before now : ℕ) (given : Got → Type 0) (report : Report) where
   failed_of : (command : Command) → CameOf command files before now given report → report.status ≡ InputFault → (got : Got) × given got × (got.failed ≡ true)

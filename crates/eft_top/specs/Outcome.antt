@@ -1,5 +1,5 @@
 -- What comes of a command: a fault of its text, its deck, an input that is too long, or a run over the records got.
-use Rattle.std.specs.Prelude.{◌≡◌, ℕ, Bool, true, false, ◌&&◌, List, [], Some, None, if◌then◌else◌}
+use Rattle.std.specs.Prelude.{◌≡◌, ℕ, Bool, true, false, ◌&&◌, List, [], ◌∷◌, Ok, Err, Some, None, if◌then◌else◌}
 use Rattle.std.specs.declared.option.Option.{Option}
 use Rattle.ground.specs.declared.fault.Fault.{Fault}
 use Rattle.ground.specs.declared.place.Place.{Place}
@@ -7,17 +7,19 @@ use Rattle.ground.specs.declared.trap.Trap.{Trap}
 use Rattle.ground.specs.declared.trap.Trap.TheVariants.{EndOfInput}
 use Rattle.ports.specs.Records.{output_bytes}
 use Rattle.f66_tree.specs.World.{Record, Shown, End, Ended, GoesOn, Lost, Done, Stopped, Trapped, Wrong}
-use Rattle.f66_tree.specs.Syntax.{Routine}
-use Rattle.macro_define.specs.Answers.{Known, IsOf}
+use Rattle.f66_tree.specs.Syntax.{Line, Routine}
+use Rattle.f66_tree.specs.OneUnit.{executed}
+use Rattle.macro_define.specs.Answers.{Known, IsOf, answer}
 use Rattle.front.specs.Checked.{Meaning}
 use Rattle.deck.specs.Decks.{deck_of}
 use Rattle.front.specs.Verdict.{Verdict, Refuses, Accepts, Becomes, file_name}
 use Rattle.front.specs.Programs.{IsProgramOf}
+use Rattle.deck_file.specs.Loaded.{Loaded, IsLoaded}
 use Rattle.eft_top.specs.declared.status.Status.{Status}
 use Rattle.eft_top.specs.declared.status.Status.TheVariants.{SourceFault, Done as IsDone, Stopped as IsStopped, Trapped as IsTrapped, StepLimit, InputFault, InputTooLong}
 use Rattle.eft_top.specs.Lines.{fault_line, trap_line, stop_line, limit_line, input_fault_line, input_too_long_line}
 use Rattle.eft_top.specs.Input.{Got, is_too_long, records_of}
-use Rattle.eft_top.specs.Words.{Command, Run, Cards}
+use Rattle.eft_top.specs.Words.{Command, Run, Cards, Deck}
 
 -- a fault in the file of a name; a deck; an input that is too long; or what a run shows of which at most so many statements begin, with
 -- the names of the files, and whether a read of its input has failed
@@ -48,23 +50,34 @@ abbrev pub IsPrinted : Verdict → Outcome → Type 0
 IsPrinted (Refuses fault file) outcome = outcome ≡ HasFault fault file
 IsPrinted (Accepts files meaning) outcome = (deck : List ℕ) × IsDeck meaning deck × (outcome ≡ HasDeck deck)
 
--- what comes of an accepted text and what was got of the input, by whether that is too long
-abbrev pub RunsIn : Bool → List (List ℕ) → Meaning → ℕ → Got → Outcome → Type 0
-RunsIn true files meaning limit got outcome = outcome ≡ HasLongInput
-RunsIn false files meaning limit got outcome = (shown : Shown) × IsRun meaning limit (records_of got) shown × (outcome ≡ Runs files limit got.failed shown)
+-- what comes of a run and what was got of the input, by whether that is too long; P holds of what the run shows
+abbrev pub RunsIn : Bool → List (List ℕ) → (Shown → Type 0) → ℕ → Got → Outcome → Type 0
+RunsIn true files P limit got outcome = outcome ≡ HasLongInput
+RunsIn false files P limit got outcome = (shown : Shown) × P shown × (outcome ≡ Runs files limit got.failed shown)
 
-abbrev pub RunsOver : List (List ℕ) → Meaning → ℕ → Got → Outcome → Type 0
-RunsOver files meaning limit got outcome = RunsIn (is_too_long got) files meaning limit got outcome
+-- the input is read, and what was got is what its reads may have given
+abbrev pub RunsOver : List (List ℕ) → (Got → Shown → Type 0) → ℕ → (Got → Type 0) → Outcome → Type 0
+RunsOver files P limit given outcome = (got : Got) × given got × RunsIn (is_too_long got) files (P got) limit got outcome
 
--- a refused text comes to its fault; of an accepted one the input is read, and what was got is what its reads may have given
+-- a refused text comes to its fault, an accepted one to a run
 abbrev pub ComesOf : Verdict → ℕ → (Got → Type 0) → Outcome → Type 0
 ComesOf (Refuses fault file) limit given outcome = outcome ≡ HasFault fault file
-ComesOf (Accepts files meaning) limit given outcome = (got : Got) × given got × RunsOver files meaning limit got outcome
+ComesOf (Accepts files meaning) limit given outcome = RunsOver files (λ got. IsRun meaning limit (records_of got)) limit given outcome
+
+-- a run of a deck's statements over what was got
+abbrev pub IsDeckRun : List Line → ℕ → Got → Shown → Type 0
+IsDeckRun lines limit got shown = shown ≡ executed lines (records_of got) limit
+
+-- a refused deck comes to its fault, another one to its run; all its places are in its file
+abbrev pub DeckComesOf : List ℕ → Loaded → ℕ → (Got → Type 0) → Outcome → Type 0
+DeckComesOf file (Err fault) limit given outcome = outcome ≡ HasFault fault file
+DeckComesOf file (Ok lines) limit given outcome = RunsOver (file ∷ []) (IsDeckRun lines limit) limit given outcome
 
 -- what may come of a command, by what is known of the library and what reads may have given
 abbrev pub IsOutcomeOf : Command → Known → (Got → Type 0) → Outcome → Type 0
 IsOutcomeOf (Run limit language file) known given outcome = (verdict : Verdict) × Becomes language file known verdict × ComesOf verdict limit given outcome
 IsOutcomeOf (Cards language file) known given outcome = (verdict : Verdict) × Becomes language file known verdict × IsPrinted verdict outcome
+IsOutcomeOf (Deck limit file) known given outcome = (loaded : Loaded) × IsLoaded (answer known file) loaded × DeckComesOf file loaded limit given outcome
 
 -- the same by what the library tells, or, where it tells nothing, by some texts that fetches may have given
 abbrev pub IsOutcomeBy : Command → Option (List ℕ → Option (List ℕ)) → (Got → Type 0) → Outcome → Type 0

@@ -1,5 +1,5 @@
--- What the words ask for: run [--steps N] LANG FILE, with options anywhere behind the command, or cards LANG FILE. LANG is ratfor
--- or efl.
+-- What the words ask for: run [--steps N] LANG FILE, with options anywhere behind the command, cards LANG FILE, or deck [--steps N]
+-- FILE. LANG is ratfor or efl.
 use Rattle.std.specs.Prelude.{◌≡◌, ◌≢◌, ◌⊎◌, ⊤, ℕ, ◌+◌, ◌-◌, ◌*◌, nat_le, List, [], ◌∷◌, ◌++◌, ◌&&◌, not, Bool, false, codes, Some, None, if◌then◌else◌, ◌==◌, map, unwrap_or, String, string_bytes}
 use Rattle.std.specs.Str.{bytes_eq}
 use Rattle.std.specs.Char.{is_ascii_digit}
@@ -8,10 +8,11 @@ use Rattle.ground.specs.declared.token.Dialect.{Dialect}
 use Rattle.ground.specs.declared.token.Dialect.TheVariants.{Ratfor, Efl}
 use Rattle.std.specs.declared.alloc.Global.{Global}
 
--- a run of the text in a file, of which at most so many statements begin; or the deck of the text
+-- a run of the text in a file, of which at most so many statements begin; the deck of the text; or a run of the deck in a file
 pub data Command : Type 0 where
   Run : ℕ → Dialect → List ℕ → Command
   Cards : Dialect → List ℕ → Command
+  Deck : ℕ → List ℕ → Command
 
 abbrev pub texts : List (String Global) → List (List ℕ)
 texts words = map string_bytes words
@@ -101,12 +102,16 @@ abbrev pub language_word : Dialect → List ℕ
 language_word Ratfor = codes "ratfor"
 language_word Efl = codes "efl"
 
--- the words behind a command name a text, and may have --steps
-pub record NameText (steps : Option ℕ) (language : Dialect) (file : List ℕ) (words : List (List ℕ)) : Type 0 where
+-- the words behind a command name a file, behind these operands, and may have --steps
+pub record NameFile (steps : Option ℕ) (operands : List (List ℕ)) (file : List ℕ) (words : List (List ℕ)) : Type 0 where
   pub numbers : List (List ℕ)
-  pub shuffled : AreShuffled numbers (language_word language ∷ file ∷ []) words
+  pub shuffled : AreShuffled numbers (operands ++ file ∷ []) words
   pub counted : AreSteps numbers steps
   pub named : file ≢ []
+
+-- a text is named behind its language
+abbrev pub NameText : Option ℕ → Dialect → List ℕ → List (List ℕ) → Type 0
+NameText steps language file words = NameFile steps (language_word language ∷ []) file words
 
 -- without --steps the limit is 10,000,000
 abbrev pub limit_by : Option ℕ → ℕ
@@ -117,6 +122,7 @@ abbrev pub AskFor : List (List ℕ) → Command → Type 0
 AskFor words (Run limit language file) =
     (rest : List (List ℕ)) × (words ≡ codes "run" ∷ rest) × (steps : Option ℕ) × NameText steps language file rest × (limit ≡ limit_by steps)
 AskFor words (Cards language file) = (rest : List (List ℕ)) × (words ≡ codes "cards" ∷ rest) × NameText None language file rest
+AskFor words (Deck limit file) = (rest : List (List ℕ)) × (words ≡ codes "deck" ∷ rest) × (steps : Option ℕ) × NameFile steps [] file rest × (limit ≡ limit_by steps)
 
 -- the words ask for no command
 abbrev pub AskNothing : (Command → Type 0) → Type 0

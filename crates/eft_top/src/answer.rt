@@ -1,11 +1,11 @@
-// What a call has to show: the words are read, the text is compiled, and its deck is written, or the input is read and the unit is
-// walked over it.
+// What a call has to show: the words are read, the text is compiled or the deck is read, and the text's deck is written, or the input
+// is read and the unit is walked over it.
 ghost use Rattle.std.specs.Prelude.{◌≡◌, ℕ, List, [], ◌∷◌, false, IfOk};
 ghost use Rattle.ground.specs.declared.token.Dialect.{Dialect};
 ghost use Rattle.f66_tree.specs.Views.{routine_of};
 ghost use Rattle.stmt_text.specs.Fitting.{IsPrintable};
 ghost use Rattle.deck.specs.Decks.{deck_of};
-ghost use Rattle.eft_top.specs.Words.{AskFor, texts, Run, Cards};
+ghost use Rattle.eft_top.specs.Words.{AskFor, texts, Run, Cards, Deck};
 ghost use Rattle.eft_top.specs.Outcome.{HasDeck};
 ghost use Rattle.eft_top.specs.Reading.{asked_command};
 ghost use Rattle.eft_top.specs.Causes.{NeedsNoInput};
@@ -18,10 +18,11 @@ use crate::input::{Got, read_input};
 use crate::report::Report;
 use crate::words::{Asked, read_words};
 use deck::push_unit;
+use deck_file::load_deck;
 use front::{Compiled, TextRefusal, compile_text};
-use ground::{Dialect, Memory, Refusal};
+use ground::{Dialect, List, Memory, Refusal, Text};
 use ports::{Library, Source};
-use std::alloc::Global;
+use std::alloc::{AllocError, Global};
 use unit_walk::walk;
 
 /// All that a call does but for its puts.
@@ -67,6 +68,7 @@ fn report_of<L: Library, S: Source>(
             run_file(alloc, limit, language, file, library, input)
         }
         Asked::Cards(language, file) => print_file(alloc, language, file, library),
+        Asked::Deck(limit, file) => run_deck(alloc, limit, file, library, input),
     }
 }
 
@@ -88,6 +90,36 @@ fn run_file<L: Library, S: Source>(
         Ok(compiled) => read_and_run(alloc, limit, &compiled, input),
         Err(refusal) => refused(alloc, refusal),
     }
+}
+
+/// Reads the deck in a file, and runs it.
+fn run_deck<L: Library, S: Source>(
+    alloc: Global,
+    limit: u64,
+    file: &str,
+    library: &mut L,
+    input: &mut S,
+) -> Result<Report, Memory>
+    ensures becomes { L.becomes library.old library.new }
+    ensures input { HasRead (S.left input.old) (S.left input.new) }
+    ensures unread { IfOk result (λ report. NeedsNoInput report.status → input.new ≡ input.old) }
+    ensures came { IfOk result (CameOf (Deck limit file.now) (L.files library.old) (L.faults library.old) (L.faults library.new) (HasGiven S.left S.faults input.old input.new)) }
+{
+    let files = only_file(alloc, file)?;
+    match load_deck(alloc, file, library) {
+        Ok(unit) => read_and_run(alloc, limit, &Compiled { unit, files }, input),
+        Err(refusal) => refused(alloc, refusal),
+    }
+}
+
+/// The names of the files of a deck: its own.
+fn only_file(alloc: Global, file: &str) -> Result<List<Text>, AllocError>
+    ensures { IfOk result (λ files. files.items ≡ file.now ∷ []) }
+{
+    let name = Text::new(Vec::from_slice(alloc, file.as_bytes())?);
+    let mut files = Vec::new(alloc);
+    files.push(name)?;
+    Ok(files)
 }
 
 /// Compiles the text in a file, and writes its deck.

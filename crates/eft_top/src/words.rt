@@ -2,7 +2,7 @@
 ghost use Rattle.std.specs.Prelude.{◌≡◌, fold};
 ghost use Rattle.std.specs.Option.{option_map};
 ghost use Rattle.eft_top.specs.Words.{AskFor, IsAsked, texts, is_option as is_option_word};
-ghost use Rattle.eft_top.specs.Reading.{asked as asked_of, at_stage, command_of, asked_command, run_of, cards_of, wanted_of, language_of as language_in, operands as operands_of, read as read_word, reading_of, start, with_operand as with_operand_word, with_steps as with_number, with_word as with_open_word};
+ghost use Rattle.eft_top.specs.Reading.{asked as asked_of, at_stage, command_of, asked_command, run_of, cards_of, deck_of, named_of, text_in, wanted_of, language_of as language_in, operands as operands_of, read as read_word, reading_of, start, with_operand as with_operand_word, with_steps as with_number, with_word as with_open_word};
 
 use crate::numbers::steps_in;
 use ground::Dialect;
@@ -17,12 +17,21 @@ pub enum Asked<'a> {
     Run(u64, Dialect, &'a str),
     /// The deck of the text in a file.
     Cards(Dialect, &'a str),
+    /// A run of the deck in a file, of which at most so many statements begin.
+    Deck(u64, &'a str),
 }
 
-/// A text that words name, and the number of `--steps` where there is one.
+/// One operand or two, and the number of `--steps` where there is one.
 #[derive(Clone, Copy)]
 pub struct Wanted<'a> {
     pub steps: Option<u64>,
+    pub first: &'a str,
+    pub second: Option<&'a str>,
+}
+
+/// A text in a file.
+#[derive(Clone, Copy)]
+pub struct NamedText<'a> {
     pub language: Dialect,
     pub file: &'a str,
 }
@@ -41,8 +50,8 @@ pub enum Stage {
 pub struct Reading<'a> {
     pub stage: Stage,
     pub steps: Option<u64>,
-    pub language: Option<&'a str>,
-    pub file: Option<&'a str>,
+    pub first: Option<&'a str>,
+    pub second: Option<&'a str>,
 }
 
 /// What the words ask for, where they are a command.
@@ -56,8 +65,9 @@ fn read_command(words: &[String]) -> Option<Asked<'_>>
     ensures { option_map asked_command result ≡ command_of (texts words.now) }
 {
     match words {
-        [command, rest @ ..] if command.as_str() == "run" => run_of(read_text(rest)),
-        [command, rest @ ..] if command.as_str() == "cards" => cards_of(read_text(rest)),
+        [command, rest @ ..] if command.as_str() == "run" => run_of(read_operands(rest)),
+        [command, rest @ ..] if command.as_str() == "cards" => cards_of(read_operands(rest)),
+        [command, rest @ ..] if command.as_str() == "deck" => deck_of(read_operands(rest)),
         _ => None,
     }
 }
@@ -65,38 +75,62 @@ fn read_command(words: &[String]) -> Option<Asked<'_>>
 fn run_of(wanted: Option<Wanted<'_>>) -> Option<Asked<'_>>
     ensures { option_map asked_command result ≡ run_of (option_map wanted_of wanted.entry) }
 {
-    let Wanted {
-        steps,
-        language,
-        file,
-    } = wanted?;
-    Some(Asked::Run(steps.unwrap_or(USUAL_STEPS), language, file))
+    let wanted = wanted?;
+    let text = text_in(wanted)?;
+    Some(Asked::Run(
+        wanted.steps.unwrap_or(USUAL_STEPS),
+        text.language,
+        text.file,
+    ))
 }
 
-/// A deck has no steps.
+/// Cards have no steps.
 fn cards_of(wanted: Option<Wanted<'_>>) -> Option<Asked<'_>>
     ensures { option_map asked_command result ≡ cards_of (option_map wanted_of wanted.entry) }
 {
-    let Wanted {
-        steps,
-        language,
-        file,
-    } = wanted?;
-    match steps {
-        Some(_) => None,
-        None => Some(Asked::Cards(language, file)),
+    let wanted = wanted?;
+    match (wanted.steps, text_in(wanted)) {
+        (None, Some(text)) => Some(Asked::Cards(text.language, text.file)),
+        _ => None,
     }
 }
 
-/// The text that the words behind a command name.
-fn read_text(words: &[String]) -> Option<Wanted<'_>>
+/// A deck has no language.
+fn deck_of(wanted: Option<Wanted<'_>>) -> Option<Asked<'_>>
+    ensures { option_map asked_command result ≡ deck_of (option_map wanted_of wanted.entry) }
+{
+    let Wanted {
+        steps,
+        first,
+        second,
+    } = wanted?;
+    if second.is_some() || first.is_empty() {
+        return None;
+    }
+    Some(Asked::Deck(steps.unwrap_or(USUAL_STEPS), first))
+}
+
+/// The text that two operands name.
+fn text_in(wanted: Wanted<'_>) -> Option<NamedText<'_>>
+    ensures { option_map named_of result ≡ text_in (wanted_of wanted.entry) }
+{
+    let file = wanted.second?;
+    if file.is_empty() {
+        return None;
+    }
+    let language = language_of(wanted.first)?;
+    Some(NamedText { language, file })
+}
+
+/// The operands and the number of `--steps` behind a command.
+fn read_operands(words: &[String]) -> Option<Wanted<'_>>
     ensures { option_map wanted_of result ≡ asked_of (fold read_word start (texts words.now)) }
 {
     let mut reading = Reading {
         stage: Stage::Open,
         steps: None,
-        language: None,
-        file: None,
+        first: None,
+        second: None,
     };
     for word in words {
         reading = read(reading, word.as_str());
@@ -153,17 +187,17 @@ fn with_steps(reading: Reading<'_>, number: Option<u64>) -> Reading<'_>
     }
 }
 
-/// The language, or the file behind it.
+/// The first operand, or the second one.
 fn with_operand<'a>(reading: Reading<'a>, word: &'a str) -> Reading<'a>
-    ensures { reading_of result ≡ with_operand_word (reading_of reading.entry).language (reading_of reading.entry).file word.now (reading_of reading.entry) }
+    ensures { reading_of result ≡ with_operand_word (reading_of reading.entry).first (reading_of reading.entry).second word.now (reading_of reading.entry) }
 {
-    match (reading.language, reading.file) {
+    match (reading.first, reading.second) {
         (None, _) => Reading {
-            language: Some(word),
+            first: Some(word),
             ..reading
         },
         (Some(_), None) => Reading {
-            file: Some(word),
+            second: Some(word),
             ..reading
         },
         (Some(_), Some(_)) => at_stage(reading, Stage::Wrong),
@@ -186,19 +220,14 @@ fn finish(reading: Reading<'_>) -> Option<Wanted<'_>>
 }
 
 fn operands(reading: Reading<'_>) -> Option<Wanted<'_>>
-    ensures { option_map wanted_of result ≡ operands_of reading.entry.steps (reading_of reading.entry).language (reading_of reading.entry).file }
+    ensures { option_map wanted_of result ≡ operands_of reading.entry.steps (reading_of reading.entry).first (reading_of reading.entry).second }
 {
-    match (reading.language, reading.file) {
-        (Some(language), Some(file)) if !file.is_empty() => {
-            let language = language_of(language)?;
-            Some(Wanted {
-                steps: reading.steps,
-                language,
-                file,
-            })
-        }
-        _ => None,
-    }
+    let first = reading.first?;
+    Some(Wanted {
+        steps: reading.steps,
+        first,
+        second: reading.second,
+    })
 }
 
 fn language_of(word: &str) -> Option<Dialect>

@@ -1,6 +1,5 @@
 -- Why `print_unit` keeps its clauses.
-use Rattle.std.proofs.Common.{◌≡◌, ◌++◌, [], ◌∷◌, Some, None, ap, sym, subst, ◌∙◌, rules}
-use Rattle.std.proofs.lemmas.List.{append-nil}
+use Rattle.std.proofs.Common.{◌≡◌, Some, sym, subst, ◌∙◌, rules}
 use Rattle.std.proofs.lemmas.Option.{none-some}
 use Rattle.deck.specs.Decks.{HasCardLabels}
 use Rattle.deck.specs.LongTexts.{fault_of_unit, Refuses}

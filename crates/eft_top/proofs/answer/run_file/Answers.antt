@@ -3,15 +3,15 @@ use Rattle.std.proofs.Common.{refl}
 use Rattle.front.specs.Verdict.{Accepts, Refuses}
 use Rattle.eft_top.specs.Words.{Run}
 use Rattle.eft_top.specs.Story.{Shows}
-use Rattle.eft_top.proofs.Reports.{if_ok, told_of, refused_came}
+use Rattle.eft_top.proofs.Reports.{if_ok, ran_text, refused_came}
 use Rattle.eft_top.proofs.answer.run_file.Goals as goal
 
 pub returns-in-Ok-clause-came : goal.returns-in-Ok-clause-came
 returns-in-Ok-clause-came g c =
     let text = c.in-Ok.ensures.text in
     if_ok (λ report ran.
-    let told = told_of report c.in-Ok.compiled text.gives.0 c.args.limit ran.0 text.gives.2 ran.2 in
-    Shows told.0 (text.known, text.of, (Accepts c.in-Ok.compiled.files.items text.gives.0, text.gives.1, (ran.0, ran.1, told.1))) c.in-Ok.ensures.cause told.2)
+    let told = ran_text report c.in-Ok.compiled text.gives.0 c.args.limit _ text.gives.2 ran in
+    Shows told.0 (text.known, text.of, (Accepts c.in-Ok.compiled.files.items text.gives.0, text.gives.1, told.1)) c.in-Ok.ensures.cause told.2)
     c.read_and_run.result
     c.read_and_run.ensures.report
 

@@ -1,0 +1,93 @@
+#!/bin/sh
+# How fast texts become decks, and decks are read: `eft cards ratfor`, and `eft deck --steps 1` on the deck that it writes, over a
+# large text and one of a tenth. No main of 4 MiB is accepted, since a unit has at most 20,000 tokens. So `statements` is the largest main
+# of short assignments, with 35 KiB, and `formats` the largest of FORMATs whose quoted texts are one token each, with 1.8 MiB.
+# Wanted are at most eleven times the time for ten times the text, both without an empty run, and at most 40 times the text as memory,
+# without that of an empty run. f2c and ftnchek are compared with where they are there.
+. "$(dirname "$0")/common.sh"
+wants "$eft"
+rounds=20
+
+# A main of so many assignments of 10 tokens with the end of the line, behind a short one.
+statements() { # COUNT
+    echo 'k = 0'
+    yes 'k = k + 1 - n + n' | head -n "$1"
+    echo end
+}
+
+# A main of so many FORMATs of 14 tokens with the end of the line, which take twenty cards each.
+formats() { # COUNT
+    awk -v n="$1" 'BEGIN {
+        for (i = 1; i <= 255; i++) text = text "x"
+        text = "\047" text "\047"
+        for (i = 1; i <= n; i++) printf "%d format(%s,%s,%s,%s,%s)\n", i, text, text, text, text, text
+        print "end"
+    }'
+}
+
+# The processor's time of ten runs of a command in milliseconds. Its output is left in $work/out.
+processor_time() { # COMMAND...
+    (
+        for _ in 1 2 3 4 5 6 7 8 9 10; do "$@" </dev/null >"$work/out" 2>"$work/err"; done
+        times
+    ) | tail -n 1 | awk '{ for (i = 1; i <= 2; i++) { split($i, part, /[ms]/); sum += part[1] * 60 + part[2] } printf "%.0f\n", sum * 1000 }'
+}
+
+# The least address space with which a command ends well, in KiB.
+memory() { # COMMAND...
+    low=0
+    high=4194304
+    while [ $((high - low)) -gt 64 ]; do
+        middle=$(((low + high) / 2))
+        if (ulimit -v "$middle" && "$@" </dev/null >/dev/null 2>&1) 2>/dev/null; then high=$middle; else low=$middle; fi
+    done
+    echo "$high"
+}
+
+# Tells the processor's time of a command beside that of another program where this is there.
+beside() { # PROGRAM WORDS WHAT COMMAND...
+    program=$1
+    words=$2
+    what=$3
+    shift 3
+    if command -v "$program" >/dev/null; then
+        own=$(processor_time "$@")
+        echo "$what: $own ms of the processor in ten runs, and $program $(processor_time sh -c "$program $words") ms"
+    else
+        echo "$what: $program is not installed here"
+    fi
+}
+
+printf 'end\n' >"$work/empty.r"
+"$eft" cards ratfor "$work/empty.r" >"$work/empty.f"
+empty_cards=$(command_time /dev/null "$eft" cards ratfor "$work/empty.r")
+empty_deck=$(command_time /dev/null "$eft" deck --steps 1 "$work/empty.f")
+empty_memory=$(memory "$eft" cards ratfor "$work/empty.r")
+
+measured() { # SHAPE LARGE SMALL
+    shape=$1
+    $shape "$2" >"$work/large.r"
+    $shape "$3" >"$work/small.r"
+    for size in large small; do
+        "$eft" cards ratfor "$work/$size.r" >"$work/$size.f" || { echo "bench/cards.sh: $size $shape have no deck" >&2; exit 1; }
+    done
+    large=$(($(command_time /dev/null "$eft" cards ratfor "$work/large.r") - empty_cards))
+    small=$(($(command_time /dev/null "$eft" cards ratfor "$work/small.r") - empty_cards))
+    compare "cards of $2 $shape and $3" "$large" "$small" 11
+    echo "cards of $2 $shape: $(($(wc -l <"$work/large.r") * 1000000000 / large)) lines a second"
+    large=$(($(command_time /dev/null "$eft" deck --steps 1 "$work/large.f") - empty_deck))
+    small=$(($(command_time /dev/null "$eft" deck --steps 1 "$work/small.f") - empty_deck))
+    compare "the deck of $2 $shape and $3" "$large" "$small" 11
+    echo "the deck of $2 $shape: $(($(wc -l <"$work/large.f") * 1000000000 / large)) cards a second"
+    bytes=$(wc -c <"$work/large.r")
+    awk -v what="$2 $shape" -v took="$(($(memory "$eft" cards ratfor "$work/large.r") - empty_memory))" -v bytes="$bytes" 'BEGIN {
+        printf "cards of %s: %d KiB of memory for %d of text, %.1f times (at most 40 wanted)\n", what, took, bytes / 1024, took * 1024 / bytes
+        exit took * 1024 > 40 * bytes
+    }' || status=1
+    beside f2c "<$work/large.f" "cards of $2 $shape" "$eft" cards ratfor "$work/large.r"
+    beside ftnchek "$work/large.f" "the deck of $2 $shape" "$eft" deck --steps 1 "$work/large.f"
+}
+
+measured statements 1990 199
+measured formats 1420 142
+exit $status

@@ -1,0 +1,3 @@
+-- The definitions that the contracts of deck_file cite.
+pub mod Loaded
+pub mod Answers
