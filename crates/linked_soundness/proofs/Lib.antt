@@ -1,0 +1,16 @@
+-- The lemmas of linked_soundness.
+pub mod PartLemmas
+pub mod KindLemmas
+pub mod PlaceLemmas
+pub mod ValueLemmas
+pub mod StatementLemmas
+pub mod ItemLemmas
+pub mod ActLemmas
+pub mod RunLemmas
+pub mod FormatLemmas
+pub mod RuleLemmas
+pub mod CallLemmas
+pub mod ProgramLemmas
+pub mod AloneLemmas
+mod Examples
+mod ExamplesOfFailures

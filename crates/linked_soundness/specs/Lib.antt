@@ -1,0 +1,2 @@
+-- The definitions that the contracts of linked_soundness cite.
+pub mod Laws
