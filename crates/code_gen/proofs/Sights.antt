@@ -9,8 +9,8 @@ use Rattle.f66_tree.specs.Units as units
 use Rattle.f66_tree.specs.Units.{Held, Lent, Linkage}
 use Rattle.f66_tree.specs.Evaluation.{held, given}
 use Rattle.stack_code.specs.StackMachine.{Spot, Core, Program, unit_of, dummy}
-use Rattle.code_gen.specs.Expressions.{size_in}
-use Rattle.code_gen.specs.Behaves.{IsLaid}
+use Rattle.code_gen.specs.Layout.{size_in}
+use Rattle.code_gen.specs.Coded.{IsLaid, IsOwn}
 use Rattle.code_gen.proofs.Steps.{finish, Meets}
 
 abbrev pub own_spot : Linkage → ℕ → List ℕ → ℕ → Spot
@@ -28,7 +28,7 @@ module _ (l : Linkage) (bound first : ℕ) (hold : Store) where
     pub kept : (q : ℕ) → first ≤ q → m.state.store q ≡ hold q
 
   abbrev pub SpotSeen : units.Spot → Spot → Type 0
-  SpotSeen (Held u x o) e = (e ≡ own_spot l u x o) × (o < size_in (l.context u) x) × IsLaid l u bound
+  SpotSeen (Held u x o) e = (e ≡ own_spot l u x o) × (o < size_in (l.context u) x) × IsLaid l u bound × IsOwn l u x
   SpotSeen (Lent c) e = (q : ℕ) × (e ≡ lent_spot q) × (first ≤ q) × (hold q ≡ c)
 
   abbrev pub SpotsSeen : List units.Spot → List Spot → Type 0
@@ -43,8 +43,8 @@ module _ (l : Linkage) (bound first : ℕ) (hold : Store) where
   -- what a spot holds
   pub held_seen : (p : units.Spot) (e : Spot) (w m : World) → SpotSeen p e → Seen w m → m.state.store (unit_of e) ≡ held l p w.state.store
   held_seen (Held u x o) e w m h seen =
-      let same : unit_of e ≡ l.number u x o = ap unit_of h.0 ∙ sym (h.2.runs x o h.1) in
-      ap m.state.store same ∙ seen.store (l.number u x o) (h.2.below x o h.1)
+      let same : unit_of e ≡ l.number u x o = ap unit_of h.0 ∙ sym (h.2.runs x o h.3 h.1) in
+      ap m.state.store same ∙ seen.store (l.number u x o) (h.2.below x o h.3 h.1)
   held_seen (Lent c) e w m h seen =
       let same : unit_of e ≡ h.0 = ap unit_of h.1 ∙ omega arith in
       ap m.state.store same ∙ seen.kept h.0 h.2 ∙ h.3
@@ -80,3 +80,19 @@ module _ (l : Linkage) (bound first : ℕ) (hold : Store) (low : bound ≤ first
   pub seen_put : (w m : World) → Seen l bound first hold w m → (q : ℕ) → q < bound → (v : Content) → Seen l bound first hold (holding (put_in q v w.state.store) w) (holding (put_in q v m.state.store) m)
   seen_put w m h q lt v =
       record { store = λ r rl. put_same q r v m.state.store w.state.store (h.store r rl); tape = h.tape; left = h.left; count = h.count; kept = λ r rl. put_other q r v m.state.store (λ e. omega arith) ∙ h.kept r rl }
+
+pub put_in_kept : (l : Linkage) (bound first : ℕ) (hold : Store) (w m : World) → Seen l bound first hold w m → (q : ℕ) → bound ≤ q → q < first → (v : Content) → Seen l bound first hold w (holding (put_in q v m.state.store) m)
+put_in_kept l bound first hold w m h q above below v =
+    record { store = λ r rl. put_other q r v m.state.store (λ e. omega arith) ∙ h.store r rl; tape = h.tape; left = h.left; count = h.count; kept = λ r rl. put_other q r v m.state.store (λ e. omega arith) ∙ h.kept r rl }
+
+-- what is lent from a unit on is lent from a lower one on, where those units hold what they held
+module _ (l : Linkage) (bound first lower : ℕ) (old new : Store) (below : lower ≤ first) (keeps : (q : ℕ) → first ≤ q → new q ≡ old q) where
+  pub spot_low : (p : units.Spot) (e : Spot) → SpotSeen l bound first old p e → SpotSeen l bound lower new p e
+  spot_low (Held r x o) e h = h
+  spot_low (Lent a) e h = (h.0, h.1, omega (arith, h.2), keeps h.0 h.2 ∙ h.3)
+
+  pub spots_low : (ps : List units.Spot) (es : List Spot) → SpotsSeen l bound first old ps es → SpotsSeen l bound lower new ps es
+  spots_low [] [] h = h
+  spots_low [] (e ∷ es) h = absurd h
+  spots_low (p ∷ ps) [] h = absurd h
+  spots_low (p ∷ ps) (e ∷ es) h = (spot_low p e h.0, spots_low ps es h.1)

@@ -1,86 +1,76 @@
 -- Where the code of statements stands: each rest of a unit's statements at its distance from the unit's end.
-use Rattle.std.proofs.Common.{◌≡◌, cond, ℕ, ◌+◌, nat_eq, Bool, true, false, List, [], ◌∷◌, ◌++◌, length, Option, Some, None, refl, sym, subst, arith, length-append, slice_get}
+use Rattle.std.proofs.Common.{◌≡◌, cond, ℕ, suc, ◌+◌, ◌≤◌, nat_eq, Bool, true, false, List, [], ◌∷◌, ◌++◌, length, Option, Some, None, refl, sym, subst, arith, slice_get}
 use Rattle.ground.specs.declared.place.Place.{Place}
-use Rattle.f66_tree.specs.Syntax.{Act, Assign, Goto, Computed, Sign, When, Loop, Stop, Return, Read, Write, Line}
+use Rattle.f66_tree.specs.Syntax.{Act, Loop, Line}
 use Rattle.f66_tree.specs.Units.{is_note}
 use Rattle.f66_tree.specs.Execution.{runnable, has_label, from_label, Closer, closer_of, closers, closers_at}
 use Rattle.stack_code.specs.Instructions as i
 use Rattle.stack_code.specs.Instructions.{Instruction}
-use Rattle.code_gen.specs.Expressions.{par_code, value_code, place_code}
-use Rattle.code_gen.specs.Statements.{Coding, act_size, act_code, ends_by, enders, turns_size, turns_code, turns_place, line_size, body_size, body_code, place_of}
-use Rattle.code_gen.specs.Behaves.{Coded, CodedAll, MayStand}
+use Rattle.code_gen.specs.Layout.{Layout}
+use Rattle.code_gen.specs.Statements.{act_size, act_code, ends_by, enders, turns_size, turns_code, turns_place, line_size, body_size, body_code, stop, place_of}
+use Rattle.code_gen.specs.Coded.{Coded, CodedAll, MayStand, act_room, HasRoom}
 use Rattle.code_gen.proofs.Steps.{HasAt, has_front, has_back, has_at}
+use Rattle.code_gen.proofs.Lengths.{act_length, turns_length}
 
-pub act_length : (c : Coding) (key next : ℕ) (place : Place) (a : Act) → length (act_code c key next place a) ≡ act_size c a
-act_length c key next place (Assign x e) = omega (arith, length-append (place_code c.linked c.unit x) (value_code c.linked c.unit e ++ i.Store ∷ []), length-append (value_code c.linked c.unit e) (i.Store ∷ []))
-act_length c key next place (Goto l) = refl
-act_length c key next place (Computed ls x) = refl
-act_length c key next place (Sign e n m k) = length-append (value_code c.linked c.unit e) _
-act_length c key next place (When e a) =
-    let inner = act_code c key next place a in
-    omega (arith, length-append (value_code c.linked c.unit e) (i.JumpFalse next ∷ i.Begin place ∷ inner), act_length c key next place a)
-act_length c key next place (Loop l x a b d) =
-    let last = i.LoopStart (Rattle.code_gen.specs.Statements.limit_unit c key) (Rattle.code_gen.specs.Statements.step_unit c key) ∷ [] in
-    omega (arith, length-append (par_code c.linked c.unit a) (par_code c.linked c.unit b ++ (par_code c.linked c.unit d ++ last)), length-append (par_code c.linked c.unit b) (par_code c.linked c.unit d ++ last), length-append (par_code c.linked c.unit d) last)
-act_length c key next place (Stop n) = refl
-act_length c key next place Return = refl
-act_length c key next place (Read a l es) = refl
-act_length c key next place (Write a l es) = refl
-act_length c key next place _ = refl
+abbrev pub line_code : Layout → ℕ → Line → List Line → List Instruction
+line_code y u s rest = i.Begin s.place ∷ (act_code y u (length rest) (turns_place y u s rest) s.place s.act ++ (turns_code y u (enders y u s) ++ body_code y u rest))
 
-pub turns_length : (c : Coding) (ks : List Closer) → length (turns_code c ks) ≡ turns_size ks
-turns_length c [] = refl
-turns_length c (k ∷ ks) = let ih = turns_length c ks in omega arith
-
-abbrev pub line_code : Coding → Line → List Line → List Instruction
-line_code c s rest = i.Begin s.place ∷ (act_code c (length rest) (turns_place c s rest) s.place s.act ++ (turns_code c (enders c s) ++ body_code c rest))
-
-module _ (code : List Instruction) (c : Coding) where
+module _ (code : List Instruction) (y : Layout) (u : ℕ) where
   pub record StandsAt (pc : ℕ) (rest : List Line) : Type 0 where
-    pub has : HasAt code pc (body_code c rest)
-    pub ends : pc + body_size c rest ≡ c.stop
-    pub coded : CodedAll (c.linked.context c.unit) rest
+    pub has : HasAt code pc (body_code y u rest)
+    pub ends : pc + body_size y u rest ≡ stop y u
+    pub coded : CodedAll y u rest
+    pub room : HasRoom y u rest
+    pub long : length rest ≤ length (y.lines u)
 
-  pub stands_place : (pc : ℕ) (rest : List Line) → StandsAt pc rest → place_of c rest ≡ pc
+  pub stands_place : (pc : ℕ) (rest : List Line) → StandsAt pc rest → place_of y u rest ≡ pc
   stands_place pc rest h = let e = h.ends in omega arith
+
+  -- the spare units of a statement lie below those of the DO statements
+  abbrev pub Fit : Act → Type 0
+  Fit a = y.spare u + act_room (y.linked.context u) a ≤ y.loops u
 
   -- a statement that is executed
   pub record StandsLine (pc : ℕ) (s : Line) (rest : List Line) : Type 0 where
     pub begins : slice_get code pc ≡ Some (i.Begin s.place)
-    pub coded : Coded (c.linked.context c.unit) s.act
-    pub acts : HasAt code (pc + 1) (act_code c (length rest) (turns_place c s rest) s.place s.act)
-    pub next : pc + 1 + act_size c s.act ≡ turns_place c s rest
-    pub turns : HasAt code (turns_place c s rest) (turns_code c (enders c s))
-    pub then : StandsAt (turns_place c s rest + turns_size (enders c s)) rest
+    pub coded : Coded y u s.act
+    pub room : Fit s.act
+    pub long : suc (length rest) ≤ length (y.lines u)
+    pub acts : HasAt code (pc + 1) (act_code y u (length rest) (turns_place y u s rest) s.place s.act)
+    pub next : pc + 1 + act_size y u s.act ≡ turns_place y u s rest
+    pub turns : HasAt code (turns_place y u s rest) (turns_code y u (enders y u s))
+    pub then : StandsAt (turns_place y u s rest + turns_size (enders y u s)) rest
 
   abbrev pub StandsBy : Bool → ℕ → Line → List Line → Type 0
   StandsBy true pc s rest = StandsAt pc rest
   StandsBy false pc s rest = StandsLine pc s rest
 
-  line_of : (pc : ℕ) (s : Line) (rest : List Line) → HasAt code pc (i.Begin s.place ∷ (act_code c (length rest) (turns_place c s rest) s.place s.act ++ (turns_code c (enders c s) ++ body_code c rest))) → pc + (line_size c s + body_size c rest) ≡ c.stop → CodedAll (c.linked.context c.unit) (s ∷ rest) → StandsLine pc s rest
-  line_of pc s rest has end coded =
-      let a = act_code c (length rest) (turns_place c s rest) s.place s.act in
-      let t = turns_code c (enders c s) in
-      let la : length a ≡ act_size c s.act = act_length c (length rest) (turns_place c s rest) s.place s.act in
-      let lt : length t ≡ turns_size (enders c s) = turns_length c (enders c s) in
-      let n : pc + 1 + act_size c s.act ≡ turns_place c s rest = omega arith in
-      let n1 : pc + 1 + length a ≡ turns_place c s rest = omega arith in
-      let h1 = has_at code _ _ (t ++ body_code c rest) n1 (has_back code (pc + 1) a (t ++ body_code c rest) has.1) in
-      let n2 : turns_place c s rest + length t ≡ turns_place c s rest + turns_size (enders c s) = omega arith in
+  line_of : (pc : ℕ) (s : Line) (rest : List Line) → HasAt code pc (i.Begin s.place ∷ (act_code y u (length rest) (turns_place y u s rest) s.place s.act ++ (turns_code y u (enders y u s) ++ body_code y u rest))) → pc + (line_size y u s + body_size y u rest) ≡ stop y u → CodedAll y u (s ∷ rest) → HasRoom y u (s ∷ rest) → suc (length rest) ≤ length (y.lines u) → StandsLine pc s rest
+  line_of pc s rest has end coded room long =
+      let a = act_code y u (length rest) (turns_place y u s rest) s.place s.act in
+      let t = turns_code y u (enders y u s) in
+      let la : length a ≡ act_size y u s.act = act_length y u (length rest) (turns_place y u s rest) s.place s.act in
+      let lt : length t ≡ turns_size (enders y u s) = turns_length y u (enders y u s) in
+      let n : pc + 1 + act_size y u s.act ≡ turns_place y u s rest = omega arith in
+      let n1 : pc + 1 + length a ≡ turns_place y u s rest = omega arith in
+      let h1 = has_at code _ _ (t ++ body_code y u rest) n1 (has_back code (pc + 1) a (t ++ body_code y u rest) has.1) in
+      let n2 : turns_place y u s rest + length t ≡ turns_place y u s rest + turns_size (enders y u s) = omega arith in
       record {
         begins = has.0;
         coded = coded.0;
+        room = room.0;
+        long = long;
         acts = has_front code (pc + 1) a _ has.1;
         next = n;
         turns = has_front code _ t _ h1;
-        then = record { has = has_at code _ _ (body_code c rest) n2 (has_back code _ t (body_code c rest) h1); ends = omega arith; coded = coded.1 };
+        then = record { has = has_at code _ _ (body_code y u rest) n2 (has_back code _ t (body_code y u rest) h1); ends = omega arith; coded = coded.1; room = room.1; long = omega arith };
       }
 
   stands_by : (b : Bool) (pc : ℕ) (s : Line) (rest : List Line) → is_note s.act ≡ b → StandsAt pc (s ∷ rest) → StandsBy b pc s rest
   stands_by true pc s rest is h =
-      record { has = subst (λ v. HasAt code pc (cond v (body_code c rest) (line_code c s rest))) is h.has; ends = subst (λ v. pc + cond v (body_size c rest) (line_size c s + body_size c rest) ≡ c.stop) is h.ends; coded = h.coded.1 }
+      record { has = subst (λ v. HasAt code pc (cond v (body_code y u rest) (line_code y u s rest))) is h.has; ends = subst (λ v. pc + cond v (body_size y u rest) (line_size y u s + body_size y u rest) ≡ stop y u) is h.ends; coded = h.coded.1; room = h.room.1; long = let le = h.long in omega arith }
   stands_by false pc s rest is h =
-      line_of pc s rest (subst (λ v. HasAt code pc (cond v (body_code c rest) (line_code c s rest))) is h.has) (subst (λ v. pc + cond v (body_size c rest) (line_size c s + body_size c rest) ≡ c.stop) is h.ends) h.coded
+      line_of pc s rest (subst (λ v. HasAt code pc (cond v (body_code y u rest) (line_code y u s rest))) is h.has) (subst (λ v. pc + cond v (body_size y u rest) (line_size y u s + body_size y u rest) ≡ stop y u) is h.ends) h.coded h.room h.long
 
   pub stands_line : (pc : ℕ) (s : Line) (rest : List Line) → is_note s.act ≡ false → StandsAt pc (s ∷ rest) → StandsLine pc s rest
   stands_line pc s rest is h = stands_by false pc s rest is h
@@ -152,21 +142,23 @@ module _ (code : List Instruction) (c : Coding) where
   has_join pc (x ∷ a) b h h1 = (h.0, has_join (pc + 1) a b h.1 (has_at code _ _ b (omega arith) h1))
 
   -- a line stands where its parts do
-  pub line_stands : (pc next : ℕ) (s : Line) (rest : List Line) → is_note s.act ≡ false → Coded (c.linked.context c.unit) s.act → slice_get code pc ≡ Some (i.Begin s.place) → HasAt code (pc + 1) (act_code c (length rest) next s.place s.act) → pc + 1 + act_size c s.act ≡ next → HasAt code next (turns_code c (enders c s)) → StandsAt (next + turns_size (enders c s)) rest → StandsAt pc (s ∷ rest)
-  line_stands pc next s rest note coded begins acts end turns more =
-      let a = act_code c (length rest) (turns_place c s rest) s.place s.act in
-      let t = turns_code c (enders c s) in
+  pub line_stands : (pc next : ℕ) (s : Line) (rest : List Line) → is_note s.act ≡ false → Coded y u s.act → Fit s.act → suc (length rest) ≤ length (y.lines u) → slice_get code pc ≡ Some (i.Begin s.place) → HasAt code (pc + 1) (act_code y u (length rest) next s.place s.act) → pc + 1 + act_size y u s.act ≡ next → HasAt code next (turns_code y u (enders y u s)) → StandsAt (next + turns_size (enders y u s)) rest → StandsAt pc (s ∷ rest)
+  line_stands pc next s rest note coded room long begins acts end turns more =
+      let a = act_code y u (length rest) (turns_place y u s rest) s.place s.act in
+      let t = turns_code y u (enders y u s) in
       let e = more.ends in
-      let here : next ≡ turns_place c s rest = omega arith in
-      let la : length a ≡ act_size c s.act = act_length c (length rest) (turns_place c s rest) s.place s.act in
-      let lt : length t ≡ turns_size (enders c s) = turns_length c (enders c s) in
-      let acts1 = subst (λ n. HasAt code (pc + 1) (act_code c (length rest) n s.place s.act)) here acts in
-      let tail = has_join next t (body_code c rest) turns (has_at code _ _ (body_code c rest) (omega arith) more.has) in
-      let all = has_join (pc + 1) a (t ++ body_code c rest) acts1 (has_at code _ _ (t ++ body_code c rest) (omega arith) tail) in
+      let here : next ≡ turns_place y u s rest = omega arith in
+      let la : length a ≡ act_size y u s.act = act_length y u (length rest) (turns_place y u s rest) s.place s.act in
+      let lt : length t ≡ turns_size (enders y u s) = turns_length y u (enders y u s) in
+      let acts1 = subst (λ n. HasAt code (pc + 1) (act_code y u (length rest) n s.place s.act)) here acts in
+      let tail = has_join next t (body_code y u rest) turns (has_at code _ _ (body_code y u rest) (omega arith) more.has) in
+      let all = has_join (pc + 1) a (t ++ body_code y u rest) acts1 (has_at code _ _ (t ++ body_code y u rest) (omega arith) tail) in
       record {
-        has = subst (λ v. HasAt code pc (cond v (body_code c rest) (line_code c s rest))) (sym note) (begins, all);
-        ends = subst (λ v. pc + cond v (body_size c rest) (line_size c s + body_size c rest) ≡ c.stop) (sym note) (omega arith);
+        has = subst (λ v. HasAt code pc (cond v (body_code y u rest) (line_code y u s rest))) (sym note) (begins, all);
+        ends = subst (λ v. pc + cond v (body_size y u rest) (line_size y u s + body_size y u rest) ≡ stop y u) (sym note) (omega arith);
         coded = (coded, more.coded);
+        room = (room, more.room);
+        long = long;
       }
 
   -- the statement of a logical IF, as a line
@@ -174,8 +166,8 @@ module _ (code : List Instruction) (c : Coding) where
   may_be (Loop m x a b d) h = absurd h
   may_be _ h = (h, λ ks. refl)
 
-  pub inner_stands : (pc next : ℕ) (label : Option ℕ) (place : Place) (a : Act) (rest : List Line) → MayStand a → Coded (c.linked.context c.unit) a → HasAt code pc (i.Begin place ∷ act_code c (length rest) next place a) → pc + 1 + act_size c a ≡ next → HasAt code next (turns_code c (closers_at label c.lines)) → StandsAt (next + turns_size (closers_at label c.lines)) rest → StandsAt pc (record { label = label; place = place; act = a } ∷ rest)
-  inner_stands pc next label place a rest may coded has end turns more =
+  pub inner_stands : (pc next : ℕ) (label : Option ℕ) (place : Place) (a : Act) (rest : List Line) → MayStand a → Coded y u a → Fit a → suc (length rest) ≤ length (y.lines u) → HasAt code pc (i.Begin place ∷ act_code y u (length rest) next place a) → pc + 1 + act_size y u a ≡ next → HasAt code next (turns_code y u (closers_at label (y.lines u))) → StandsAt (next + turns_size (closers_at label (y.lines u))) rest → StandsAt pc (record { label = label; place = place; act = a } ∷ rest)
+  inner_stands pc next label place a rest may coded room long has end turns more =
       let m = may_be a may in
-      let e = m.1 (closers_at label c.lines) in
-      line_stands pc next (record { label = label; place = place; act = a }) rest m.0 coded has.0 has.1 end (subst (λ ks. HasAt code next (turns_code c ks)) (sym e) turns) (subst (λ ks. StandsAt (next + turns_size ks) rest) (sym e) more)
+      let e = m.1 (closers_at label (y.lines u)) in
+      line_stands pc next (record { label = label; place = place; act = a }) rest m.0 coded room long has.0 has.1 end (subst (λ ks. HasAt code next (turns_code y u ks)) (sym e) turns) (subst (λ ks. StandsAt (next + turns_size ks) rest) (sym e) more)

@@ -1,89 +1,64 @@
 -- What the code of units does: what the units do.
-use Rattle.std.specs.Prelude.{◌≡◌, ℕ, ◌+◌, ◌<◌, true, List, [], ◌∷◌, Some, None, false, slice_get}
-use Rattle.f66_tree.specs.Syntax.{Text, Act, Assign, Sign, When, Loop, Invoke, Read, Write, One, Many, Entries, NoEntry, AndEntry, Line}
-use Rattle.f66_tree.specs.World.{Record, Ended, Wrong}
-use Rattle.f66_tree.specs.Units.{Context, Linkage, is_note, is_main, dummies_of, position, format_of}
+use Rattle.std.specs.Prelude.{◌≡◌, ℕ, ◌+◌, ◌<◌, ◌≤◌, ◌⊎◌, true, false, List, [], ◌∷◌, Some, slice_get}
+use Rattle.ground.specs.Content.{Content}
+use Rattle.f66_tree.specs.Syntax.{Text}
+use Rattle.f66_tree.specs.World.{Record, Ended, Wrong, Store, put_in}
+use Rattle.f66_tree.specs.Units.{is_main, format_of}
 use Rattle.f66_tree.specs.Fields.{Fields}
-use Rattle.ground.specs.Content.{Nothing}
 use Rattle.f66_tree.specs.Execution.{f66}
-use Rattle.f66_soundness.specs.SoundUnits.{main_context, IsSoundMain}
-use Rattle.stack_code.specs.StackMachine.{Program, Ends, start, first_world}
-use Rattle.code_gen.specs.Expressions.{size_in, Counted}
-use Rattle.code_gen.specs.Statements.{Coding, body_size, body_code}
-
--- the places of each name of a unit follow one another, below a bound
-pub record IsLaid (l : Linkage) (u bound : ℕ) : Type 0 where
-  pub runs : (x : Text) (o : ℕ) → o < size_in (l.context u) x → l.number u x o ≡ l.number u x 0 + o
-  pub below : (x : Text) (o : ℕ) → o < size_in (l.context u) x → l.number u x o < bound
-  pub has : (x : Text) → position x (dummies_of (l.context u).header) ≡ None → 0 < size_in (l.context u) x
-
--- what may stand under a logical IF: no DO, and nothing that isn't executed
-abbrev pub MayStand : Act → Type 0
-MayStand (Loop l x a b d) = ⊥
-MayStand a = is_note a ≡ false
-
-abbrev pub CodedAllItems : Context → Entries → Type 0
-CodedAllItems c NoEntry = Unit {0}
-CodedAllItems c (AndEntry (One e) es) = Counted c e × CodedAllItems c es
-CodedAllItems c (AndEntry (Many es x a b d) rest) = ⊥
-
--- statements that are coded so far, with as many subscripts as dimensions
-abbrev pub Coded : Context → Act → Type 0
-Coded c (Assign x e) = Counted c x × Counted c e
-Coded c (Sign e n m k) = Counted c e
-Coded c (When e a) = Counted c e × MayStand a × Coded c a
-Coded c (Invoke x es) = ⊥
-Coded c (Read u l es) = CodedAllItems c es × (f : Fields) × (format_of l c.notes ≡ Some f)
-Coded c (Write u l es) = CodedAllItems c es × (f : Fields) × (format_of l c.notes ≡ Some f)
-Coded c _ = Unit {0}
-
-abbrev pub CodedAll : Context → List Line → Type 0
-CodedAll c [] = Unit {0}
-CodedAll c (s ∷ rest) = Coded c s.act × CodedAll c rest
-
--- no list of a READ or WRITE has an implied DO
-abbrev pub ArePlain : Entries → Type 0
-ArePlain NoEntry = Unit {0}
-ArePlain (AndEntry (One e) es) = ArePlain es
-ArePlain (AndEntry (Many es x a b d) rest) = ⊥
-
-abbrev pub HasPlainList : Act → Type 0
-HasPlainList (Read u l es) = ArePlain es
-HasPlainList (Write u l es) = ArePlain es
-HasPlainList (When e a) = HasPlainList a
-HasPlainList _ = Unit {0}
-
-abbrev pub AllPlain : List Line → Type 0
-AllPlain [] = Unit {0}
-AllPlain (s ∷ rest) = HasPlainList s.act × AllPlain rest
-
--- a sound main unit whose lists have no implied DO is coded
-abbrev pub SoundIsCoded : Type 0
-SoundIsCoded = (code : List Line) → IsSoundMain (main_context code) code → AllPlain code → CodedAll (main_context code) code
-
--- the coding of a main unit that stands at the beginning of the code
-abbrev pub main_coding : Linkage → List Line → ℕ → (ℕ → ℕ) → Coding
-main_coding l lines bound plan =
-    let c : Coding = record { linked = l; unit = l.main; lines = lines; loop_units = bound; stop = 0; plan = plan } in
-    record { linked = l; unit = l.main; lines = lines; loop_units = bound; stop = body_size c lines; plan = plan }
-
-abbrev pub main_program : Linkage → List Line → ℕ → (ℕ → ℕ) → List Fields → Program
-main_program l lines bound plan plans = record { code = body_code (main_coding l lines bound plan) lines; plans = plans }
+use Rattle.stack_code.specs.StackMachine.{Program, Ends, empty, start, first_world}
+use Rattle.code_gen.specs.Layout.{Layout}
+use Rattle.code_gen.specs.Statements.{unit_size, units_code}
+use Rattle.code_gen.specs.Coded.{IsLaid, CodedAll, HasRoom}
 
 -- the format of each label is a plan
-pub record HavePlans (c : Context) (plan : ℕ → ℕ) (plans : List Fields) : Type 0 where
-  pub by : (l : ℕ) (f : Fields) → format_of l c.notes ≡ Some f → slice_get plans (plan l) ≡ Some f
+pub record HavePlans (y : Layout) (u : ℕ) (plans : List Fields) : Type 0 where
+  pub by : (l : ℕ) (f : Fields) → format_of l (y.linked.context u).notes ≡ Some f → slice_get plans (y.plan u l) ≡ Some f
 
--- a main unit that calls nothing, without initial values, with its formats as plans
-pub record IsMain (l : Linkage) (lines : List Line) (bound : ℕ) (plan : ℕ → ℕ) (plans : List Fields) : Type 0 where
-  pub main : is_main (l.context l.main).header ≡ true
-  pub nothing : (q : ℕ) → l.first q ≡ Nothing
-  pub calls : (x : Text) → l.find x ≡ None
-  pub laid : IsLaid l l.main bound
-  pub coded : CodedAll (l.context l.main) lines
-  pub planned : HavePlans (l.context l.main) plan plans
+-- A unit whose statements have code. Its names have their storage units below a bound, and above that it has what it needs.
+pub record IsUnit (y : Layout) (u bound : ℕ) (plans : List Fields) : Type 0 where
+  pub laid : IsLaid y.linked u bound
+  pub above : bound ≤ y.spare u
+  pub below : y.spare u ≤ y.loops u
+  pub coded : CodedAll y u (y.lines u)
+  pub room : HasRoom y u (y.lines u)
+  pub planned : HavePlans y u plans
 
--- for all input records and however many statements may begin, the code shows what the unit shows, unless that goes wrong
-abbrev pub CodeBehaves : Type 0
-CodeBehaves =
-    (l : Linkage) (codes : ℕ → List Line) (bound : ℕ) (plan : ℕ → ℕ) (plans : List Fields) → IsMain l (codes l.main) bound plan plans → (input : List Record) (n : ℕ) → ((f66 l codes input n).end ≡ Ended Wrong → ⊥) → Ends (main_program l (codes l.main) bound plan plans) start (first_world input n) (f66 l codes input n)
+abbrev pub AreUnits : Layout → ℕ → List Fields → List ℕ → Type 0
+AreUnits y bound plans [] = Unit {0}
+AreUnits y bound plans (u ∷ us) = IsUnit y u bound plans × AreUnits y bound plans us
+
+-- the code of each unit begins where that of the one before it ends
+abbrev pub AreEntered : Layout → ℕ → List ℕ → Type 0
+AreEntered y at [] = Unit {0}
+AreEntered y at (u ∷ us) = (y.entry u ≡ at) × AreEntered y (at + unit_size y u) us
+
+abbrev pub IsAmong : ℕ → List ℕ → Type 0
+IsAmong v [] = ⊥
+IsAmong v (u ∷ us) = (v ≡ u) ⊎ IsAmong v us
+
+-- a store with these initial values, one after the other
+abbrev pub filled : List (ℕ × Content) → Store → Store
+filled [] st = st
+filled (p ∷ ps) st = filled ps (put_in p.0 p.1 st)
+
+abbrev pub AreBelow : ℕ → List (ℕ × Content) → Type 0
+AreBelow bound [] = Unit {0}
+AreBelow bound (p ∷ ps) = (p.0 < bound) × AreBelow bound ps
+
+-- a program: its main, the other units behind it, among them each that is called, and the initial values
+pub record IsProgram (y : Layout) (others : List ℕ) (bound : ℕ) (plans : List Fields) : Type 0 where
+  pub main : is_main (y.linked.context y.linked.main).header ≡ true
+  pub entered : AreEntered y 0 (y.linked.main ∷ others)
+  pub units : AreUnits y bound plans (y.linked.main ∷ others)
+  pub found : (x : Text) (v : ℕ) → y.linked.find x ≡ Some v → IsAmong v others × (is_main (y.linked.context v).header ≡ false)
+  pub presets : AreBelow bound y.presets
+  pub initial : (q : ℕ) → q < bound → y.linked.first q ≡ filled y.presets empty q
+
+abbrev pub program : Layout → List ℕ → List Fields → Program
+program y others plans = record { code = units_code y (y.linked.main ∷ others); plans = plans }
+
+-- for all input records and however many statements may begin, the code shows what the units show, unless their run goes wrong
+abbrev pub ProgramBehaves : Type 0
+ProgramBehaves =
+    (y : Layout) (others : List ℕ) (bound : ℕ) (plans : List Fields) → IsProgram y others bound plans → (input : List Record) (n : ℕ) → ((f66 y.linked y.lines input n).end ≡ Ended Wrong → ⊥) → Ends (program y others plans) start (first_world input n) (f66 y.linked y.lines input n)

@@ -1,37 +1,38 @@
 -- The stack code of expressions and places.
-use Rattle.std.specs.Prelude.{◌≡◌, ℕ, suc, pos, Bool, true, false, List, [], ◌∷◌, ◌++◌, length, Option, Some, None}
+use Rattle.std.specs.Prelude.{ℕ, suc, ◌+◌, pos, Bool, true, false, List, [], ◌∷◌, ◌++◌, length, Option, Some, None}
 use Rattle.ground.specs.Content.{Whole, Truth}
 use Rattle.f66_tree.specs.declared.expression.Operator.{Operator}
 use Rattle.f66_tree.specs.declared.expression.Operator.TheVariants.{Lt, Le, Eq, Ne, Ge, Gt}
 use Rattle.f66_tree.specs.Syntax.{Text, Formula, Int, Letter, Ref, Item, Group, Plus, Minus, Not, Pair, Formulas, NoFormula, AndFormula, Par, Constant, Named}
 use Rattle.f66_tree.specs.Syntax as f66
-use Rattle.f66_tree.specs.Units.{Context, Linkage, dummies_of, position, sizes_of, kind_of, places_of}
-use Rattle.f66_tree.specs.Evaluation.{Sort, AnArray, AnIntrinsic, AFunction, sort_of, Intrinsic, Iabs, Mod, Isign, Idim, Max0, Min0}
+use Rattle.f66_tree.specs.Units.{Context, dummies_of, position, kind_of}
+use Rattle.f66_tree.specs.Evaluation.{Sort, AnArray, AnIntrinsic, AFunction, sort_of, names_place, Intrinsic, Iabs, Mod, Isign, Idim, Max0, Min0}
 use Rattle.stack_code.specs.Instructions as i
 use Rattle.stack_code.specs.Instructions.{Instruction}
+use Rattle.code_gen.specs.Layout.{Layout, size_in}
 
--- how many places a name has in its unit
-abbrev pub size_in : Context → Text → ℕ
-size_in c x = places_of (sizes_of x c.notes)
+-- the code that pushes the places of a name of a unit
+abbrev pub own_code : Layout → ℕ → Text → Instruction
+own_code y u x = i.PushSpot (y.linked.number u x 0) (size_in (y.linked.context u) x)
 
--- the code that pushes the places of a name: a dummy's are its actual's
-abbrev pub base_by : Linkage → ℕ → Text → Option ℕ → Instruction
-base_by l u x None = i.PushSpot (l.number u x 0) (size_in (l.context u) x)
-base_by l u x (Some n) = i.Dummy n
+-- a dummy's places are its actual's
+abbrev pub base_by : Layout → ℕ → Text → Option ℕ → Instruction
+base_by y u x None = own_code y u x
+base_by y u x (Some n) = i.Dummy n
 
-abbrev pub base_code : Linkage → ℕ → Text → Instruction
-base_code l u x = base_by l u x (position x (dummies_of (l.context u).header))
+abbrev pub base_code : Layout → ℕ → Text → Instruction
+base_code y u x = base_by y u x (position x (dummies_of (y.linked.context u).header))
 
-abbrev pub variable_code : Linkage → ℕ → Text → List Instruction
-variable_code l u x = base_code l u x ∷ i.Load (kind_of (l.context u) x) ∷ []
+abbrev pub variable_code : Layout → ℕ → Text → List Instruction
+variable_code y u x = base_code y u x ∷ i.Load (kind_of (y.linked.context u) x) ∷ []
 
-abbrev pub par_code : Linkage → ℕ → Par → List Instruction
-par_code l u (Constant z) = i.Push (Whole z) ∷ []
-par_code l u (Named x) = variable_code l u x
+abbrev pub par_code : Layout → ℕ → Par → List Instruction
+par_code y u (Constant z) = i.Push (Whole z) ∷ []
+par_code y u (Named x) = variable_code y u x
 
-abbrev pub pars_code : Linkage → ℕ → List Par → List Instruction
-pars_code l u [] = []
-pars_code l u (n ∷ ns) = par_code l u n ++ pars_code l u ns
+abbrev pub pars_code : Layout → ℕ → List Par → List Instruction
+pars_code y u [] = []
+pars_code y u (n ∷ ns) = par_code y u n ++ pars_code y u ns
 
 abbrev pub is_relation : Operator → Bool
 is_relation Lt = true
@@ -61,58 +62,94 @@ abbrev pub count : Formulas → ℕ
 count NoFormula = 0
 count (AndFormula e es) = suc (count es)
 
--- an element: its array's places, its subscripts, its dimensions
-abbrev pub element_code : Linkage → ℕ → Text → List Par → List Instruction → List Instruction
-element_code l u x ns subscripts = base_code l u x ∷ (subscripts ++ (pars_code l u ns ++ i.Element (length ns) ∷ []))
+-- ---- spare units ----
 
--- a name with arguments; calls are not built yet
-abbrev pub applied_code : Linkage → ℕ → Text → Sort → ℕ → List Instruction → List Instruction
-applied_code l u x (AnArray ns) n vals = element_code l u x ns vals ++ i.Load (kind_of (l.context u) x) ∷ []
-applied_code l u x (AnIntrinsic g) n vals = vals ++ i.Known (function_number g) n ∷ []
-applied_code l u x AFunction n vals = []
+abbrev pub applied_room : Sort → ℕ → ℕ → ℕ
+applied_room AFunction values actuals = actuals
+applied_room _ values actuals = values
 
+abbrev pub actual_room : Bool → ℕ → ℕ
+actual_room true n = n
+actual_room false n = suc n
+
+-- how many spare units an expression takes, several do, and actuals do: one for each value that is handed to a unit
 abbrev mutual
-  pub value_code : Linkage → ℕ → Formula → List Instruction
-  value_code l u (Int z) = i.Push (Whole z) ∷ []
-  value_code l u (f66.Truth b) = i.Push (Truth b) ∷ []
-  value_code l u (Letter c) = i.Push (Whole (pos c)) ∷ []
-  value_code l u (Ref x) = variable_code l u x
-  value_code l u (Item x es) = applied_code l u x (sort_of (l.context u) x) (count es) (values_code l u es)
-  value_code l u (Group a) = value_code l u a
-  value_code l u (Plus a) = value_code l u a
-  value_code l u (Minus a) = value_code l u a ++ i.Minus ∷ []
-  value_code l u (Not a) = value_code l u a ++ i.Not ∷ []
-  value_code l u (Pair op a b) = value_code l u a ++ (value_code l u b ++ operator_code op ∷ [])
+  pub room_of : Context → Formula → ℕ
+  room_of c (Item x es) = applied_room (sort_of c x) (rooms_of c es) (rooms_to_hand c es)
+  room_of c (Group a) = room_of c a
+  room_of c (Plus a) = room_of c a
+  room_of c (Minus a) = room_of c a
+  room_of c (Not a) = room_of c a
+  room_of c (Pair op a b) = room_of c a + room_of c b
+  room_of c _ = 0
 
-  pub values_code : Linkage → ℕ → Formulas → List Instruction
-  values_code l u NoFormula = []
-  values_code l u (AndFormula e es) = value_code l u e ++ values_code l u es
+  pub rooms_of : Context → Formulas → ℕ
+  rooms_of c NoFormula = 0
+  rooms_of c (AndFormula e es) = room_of c e + rooms_of c es
+
+  pub rooms_to_hand : Context → Formulas → ℕ
+  rooms_to_hand c NoFormula = 0
+  rooms_to_hand c (AndFormula e es) = actual_room (names_place c e) (room_of c e + rooms_to_hand c es)
+
+-- ---- names with arguments ----
+
+-- an element: its array's places, its subscripts, its dimensions
+abbrev pub element_code : Layout → ℕ → Text → List Par → List Instruction → List Instruction
+element_code y u x ns subscripts = base_code y u x ∷ (subscripts ++ (pars_code y u ns ++ i.Element (length ns) ∷ []))
+
+-- a function is called: its actuals, its own name undefined at first, the call, and the value of its name
+abbrev pub called_code : Layout → ℕ → Text → Option ℕ → ℕ → List Instruction → List Instruction
+called_code y u x None n actuals = []
+called_code y u x (Some v) n actuals =
+    actuals ++ (own_code y v x ∷ i.Forget ∷ i.Call (y.entry v) n ∷ own_code y v x ∷ i.Load (kind_of (y.linked.context u) x) ∷ [])
+
+abbrev pub applied_code : Layout → ℕ → Text → Sort → ℕ → List Instruction → List Instruction → List Instruction
+applied_code y u x (AnArray ns) n vals actuals = element_code y u x ns vals ++ i.Load (kind_of (y.linked.context u) x) ∷ []
+applied_code y u x (AnIntrinsic g) n vals actuals = vals ++ i.Known (function_number g) n ∷ []
+applied_code y u x AFunction n vals actuals = called_code y u x (y.linked.find x) n actuals
 
 -- the place that an expression names, where it names one
-abbrev pub place_by : Linkage → ℕ → Text → Sort → List Instruction → List Instruction
-place_by l u x (AnArray ns) vals = element_code l u x ns vals
-place_by l u x _ vals = []
+abbrev pub place_by : Layout → ℕ → Text → Sort → List Instruction → List Instruction
+place_by y u x (AnArray ns) vals = element_code y u x ns vals
+place_by y u x _ vals = []
 
-abbrev pub place_code : Linkage → ℕ → Formula → List Instruction
-place_code l u (Ref x) = base_code l u x ∷ []
-place_code l u (Item x es) = place_by l u x (sort_of (l.context u) x) (values_code l u es)
-place_code l u _ = []
+abbrev pub place_with : Layout → ℕ → Formula → List Instruction → List Instruction
+place_with y u (Ref x) vals = base_code y u x ∷ []
+place_with y u (Item x es) vals = place_by y u x (sort_of (y.linked.context u) x) vals
+place_with y u _ vals = []
 
--- each element has as many subscripts as its array has dimensions
-abbrev pub Fits : Sort → ℕ → Type 0
-Fits (AnArray ns) n = n ≡ length ns
-Fits _ n = Unit {0}
+-- an actual: a place, or a value, which is lent in a spare unit
+abbrev pub actual_code : Bool → ℕ → List Instruction → List Instruction → List Instruction
+actual_code true q place val = place
+actual_code false q place val = val ++ i.Lend q ∷ []
 
+-- the value of an expression; the values of several; the subscripts that an expression has; and actuals
 abbrev mutual
-  pub Counted : Context → Formula → Type 0
-  Counted c (Item x es) = Fits (sort_of c x) (count es) × CountedAll c es
-  Counted c (Group a) = Counted c a
-  Counted c (Plus a) = Counted c a
-  Counted c (Minus a) = Counted c a
-  Counted c (Not a) = Counted c a
-  Counted c (Pair op a b) = Counted c a × Counted c b
-  Counted c _ = Unit {0}
+  pub value_code : Layout → ℕ → Formula → List Instruction
+  value_code y u (Int z) = i.Push (Whole z) ∷ []
+  value_code y u (f66.Truth b) = i.Push (Truth b) ∷ []
+  value_code y u (Letter c) = i.Push (Whole (pos c)) ∷ []
+  value_code y u (Ref x) = variable_code y u x
+  value_code y u (Item x es) = applied_code y u x (sort_of (y.linked.context u) x) (count es) (values_code y u es) (actuals_code y u es)
+  value_code y u (Group a) = value_code y u a
+  value_code y u (Plus a) = value_code y u a
+  value_code y u (Minus a) = value_code y u a ++ i.Minus ∷ []
+  value_code y u (Not a) = value_code y u a ++ i.Not ∷ []
+  value_code y u (Pair op a b) = value_code y u a ++ (value_code y u b ++ operator_code op ∷ [])
 
-  pub CountedAll : Context → Formulas → Type 0
-  CountedAll c NoFormula = Unit {0}
-  CountedAll c (AndFormula e es) = Counted c e × CountedAll c es
+  pub values_code : Layout → ℕ → Formulas → List Instruction
+  values_code y u NoFormula = []
+  values_code y u (AndFormula e es) = value_code y u e ++ values_code y u es
+
+  pub subscripts_code : Layout → ℕ → Formula → List Instruction
+  subscripts_code y u (Item x es) = values_code y u es
+  subscripts_code y u _ = []
+
+  -- the unit of a value lies above those that its own code and that of the later ones use
+  pub actuals_code : Layout → ℕ → Formulas → List Instruction
+  actuals_code y u NoFormula = []
+  actuals_code y u (AndFormula e es) =
+      actual_code (names_place (y.linked.context u) e) (y.spare u + (room_of (y.linked.context u) e + rooms_to_hand (y.linked.context u) es)) (place_with y u e (subscripts_code y u e)) (value_code y u e) ++ actuals_code y u es
+
+abbrev pub place_code : Layout → ℕ → Formula → List Instruction
+place_code y u e = place_with y u e (subscripts_code y u e)
