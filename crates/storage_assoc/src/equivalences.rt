@@ -56,8 +56,9 @@ fn widened(step: i64, size: i64) -> Result<i64, AllocError>
     product(step, magnitude)
 }
 
-/// How far an element stands from the first one, its first subscript taking steps of this many places.
-fn shift(step: i64, sizes: &[Par], subscripts: &[Expr]) -> Result<i64, AllocError>
+/// How far an element stands from the first one, its first subscript taking steps of this many places (X3.9-1966, section
+/// 7.2.1.1.1). What does not fit counts as out of memory.
+pub fn shift(step: i64, sizes: &[Par], subscripts: &[Expr]) -> Result<i64, AllocError>
     ensures { IfOk result (λ r. (m : ℕ) → step ≡ pos m → r ≡ shift m (map par_of sizes.now) (chained (map formula_of subscripts.now))) }
 {
     let Some((Par::Number(size), sizes)) = sizes.split_first() else {

@@ -18,6 +18,7 @@ mod walk;
 pub use associating::{associate, limit_fault};
 pub use association::Association;
 pub use blocks::add_labels;
+pub use equivalences::shift;
 pub use laws::lists_serve;
 pub use listing::{Listing, no_names};
 pub use table::{Table, table_of};

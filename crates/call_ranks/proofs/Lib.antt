@@ -1,0 +1,4 @@
+-- The lemmas of call_ranks.
+pub mod WayLemmas
+pub mod CountLemmas
+pub mod RankLemmas
