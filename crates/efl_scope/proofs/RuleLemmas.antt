@@ -1,0 +1,27 @@
+-- The first fault of scopes is the first by the table: no part before it breaks a rule, and its part none of a smaller number.
+use Rattle.std.proofs.Common.{◌≡◌, ℕ, [], Some, refl, arith, inl, inr, MatchOption, rules as std_rules}
+use Rattle.std.specs.List.{slice_get}
+use Rattle.rule_table.specs.First.{IsClean, first_part, part_breaks}
+use Rattle.rule_table.proofs.FirstLemmas.{IsIn, IsRising, first_part-first}
+use Rattle.efl_tree.specs.Syntax.{EflProgram}
+use Rattle.efl_scope.specs.declared.rule.ScopeRule.{ScopeRule}
+use Rattle.efl_scope.specs.declared.rule.ScopeRule.TheVariants.{OutOfProfileType, DuplicateName, BadLabel, BadBreak, CommonMismatch}
+use Rattle.efl_scope.specs.Parts.{program_parts}
+use Rattle.efl_scope.specs.ScopeRules.{rule_number, scope_rules}
+use Rattle.efl_scope.specs.FirstFault.{with_earlier, breaks_with, IsFirstFault}
+
+-- each rule is in the list
+full : (r : ScopeRule) → IsIn r scope_rules
+full OutOfProfileType = inl refl
+full DuplicateName = inr (inl refl)
+full BadLabel = inr (inr (inl refl))
+full BadBreak = inr (inr (inr (inl refl)))
+full CommonMismatch = inr (inr (inr (inr (inl refl))))
+
+rise : IsRising rule_number scope_rules
+rise = search (std_rules, arith)
+
+pub first_fault-first : (p : EflProgram) → MatchOption (first_part (breaks_with p.procedures) scope_rules (with_earlier [] (program_parts p)))
+    (IsClean (part_breaks (breaks_with p.procedures) (with_earlier [] (program_parts p))))
+    (λ r. (i : ℕ) × (slice_get (with_earlier [] (program_parts p)) i ≡ Some r.0) × IsFirstFault p i r.1)
+first_fault-first p = first_part-first rule_number (breaks_with p.procedures) scope_rules rise full (with_earlier [] (program_parts p))

@@ -1,0 +1,9 @@
+-- The definitions that the contracts of efl_scope cite.
+pub mod DataTypes
+pub mod Scopes
+pub mod Parts
+pub mod Uses
+pub mod ScopeRules
+pub mod FirstFault
+pub mod Marks
+pub mod LoopViews

@@ -1,0 +1,5 @@
+-- The definitions of efl_typed.
+pub mod Typing
+pub mod Linking
+pub mod Layout
+pub mod Laws
