@@ -1,0 +1,5 @@
+-- The definitions that the contracts of renumbering cite.
+pub mod Bodies
+pub mod Numbered
+pub mod Laws
+pub mod Alone

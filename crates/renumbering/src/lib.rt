@@ -1,0 +1,9 @@
+//! The law that the numbers of storage units do not matter to a run.
+#![tactic(auto)]
+
+mod laws;
+
+pub use laws::{
+    numbering_links, numbers_alone, one_meaning_alone, one_unit_alone, one_unit_links,
+    own_are_named, ratfor_numbers_alone, whole_is_matched,
+};
