@@ -1,5 +1,5 @@
 -- One statement more gives its places.
-use Rattle.std.proofs.Common.{◌≡◌, ◌<◌, ◌+◌, ◌∙◌, ◌∷◌, ◌++◌, [], ℕ, zero, suc, List, length, map, drop, get_or, refl, sym, ap, append_assoc, arith}
+use Rattle.std.proofs.Common.{◌≡◌, ◌<◌, ◌+◌, ◌∙◌, ◌∷◌, ◌++◌, [], ℕ, zero, suc, List, length, map, drop, get_or, sym, ap, append_assoc, arith}
 use Rattle.f66_tree.specs.Syntax.{Line}
 use Rattle.f66_tree.specs.Units.{Context}
 use Rattle.f66_program.specs.Initial.{Preset, act_presets, line_presets}

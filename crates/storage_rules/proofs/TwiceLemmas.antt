@@ -1,5 +1,5 @@
 -- The first number that stands twice is that of the first place that is filled before.
-use Rattle.std.proofs.Common.{◌≡◌, ◌<◌, ◌≤◌, ◌∙◌, ◌∷◌, [], inl, inr, ℕ, zero, suc, List, length, map, slice_index, Option, None, Some, refl, sym, ap, subst, arith}
+use Rattle.std.proofs.Common.{◌≡◌, ◌<◌, ◌≤◌, ◌∙◌, ◌∷◌, [], inl, inr, ℕ, zero, suc, List, length, map, slice_index, Option, Some, refl, sym, ap, arith}
 use Rattle.std.proofs.lemmas.Bool.{cases_lt}
 use Rattle.std.specs.List.{slice_get}
 use Rattle.ground.specs.declared.fault.Fault.{Fault}
@@ -12,7 +12,7 @@ use Rattle.linker.specs.Rules.{IsFirstBroken, IsKept}
 use Rattle.storage_rules.specs.Repeats.{RepeatsAt, IsFirstRepeat, HasNoRepeat}
 use Rattle.storage_rules.proofs.PresetLemmas.{IsNotBefore, in_order}
 
-numbered : {X : Type 0} (f : X → Option ℕ) (xs : List X) (ns : List ℕ) (k : ℕ) (x : X) → map f xs ≡ map (λ n. Some n) ns → slice_get xs k ≡ Some x → (k < length ns) × (f x ≡ Some (slice_index ns k))
+pub numbered : {X : Type 0} (f : X → Option ℕ) (xs : List X) (ns : List ℕ) (k : ℕ) (x : X) → map f xs ≡ map (λ n. Some n) ns → slice_get xs k ≡ Some x → (k < length ns) × (f x ≡ Some (slice_index ns k))
 numbered f [] ns k x e h = absurd (cc)
 numbered f (y ∷ xs) [] k x e h = absurd (cc)
 numbered f (y ∷ xs) (n ∷ ns) zero x e h = (omega arith, (let same : y ≡ x = (let g : Some y ≡ Some x = h in cc) in let first : f y ≡ Some n = cc in ap f (sym same) ∙ first))
@@ -49,7 +49,7 @@ module _ (p : Program) (number : ℕ → Text → ℕ → Option ℕ) (total : �
         let same : Some (slice_index ns t.first) ≡ Some (slice_index ns t.second) = sym a.1 ∙ e ∙ b.1 in
         record { index = t.second; preset = t.other; here = t.other_is; inside = b.0; repeats = (t.first, t.order, cc); unit = t.in_unit; part = t.in_part }
 
-    repeats_twice : (k : ℕ) (q : Preset) → slice_get (presets_of p.units) k ≡ Some q → RepeatsAt ns k → FillsTwice p.units q.unit q.part
+    pub repeats_twice : (k : ℕ) (q : Preset) → slice_get (presets_of p.units) k ≡ Some q → RepeatsAt ns k → FillsTwice p.units q.unit q.part
     repeats_twice k q here r =
         let b = numbered number_of (presets_of p.units) ns k q are here in
         let j_in : r.0 < length ns = (let lt = r.1 in let l = b.0 in omega (arith, lt, l)) in

@@ -1,5 +1,5 @@
 -- The places that DATA gives values, in memory.
-use Rattle.std.specs.Prelude.{◌≡◌, ℕ, pos, unsigned_abs, List, Option, Some, None}
+use Rattle.std.specs.Prelude.{◌≡◌, ℕ, unsigned_abs, List, Option, Some, None}
 use Rattle.ground.specs.Content.{Content, Nothing, Whole, Truth}
 use Rattle.ground.specs.declared.value.Value.{Value}
 use Rattle.ground.specs.declared.value.Value.TheVariants.{Int, Log}

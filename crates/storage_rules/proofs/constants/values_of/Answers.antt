@@ -1,5 +1,5 @@
 -- One value more, as often as its count says and as there is room.
-use Rattle.std.proofs.Common.{◌≡◌, ◌-◌, ◌∙◌, ◌++◌, ℕ, min, List, length, map, take, replicate, ap, sym, arith}
+use Rattle.std.proofs.Common.{◌≡◌, ◌-◌, ◌∙◌, ◌++◌, min, length, map, take, replicate, ap, sym, arith}
 use Rattle.std.proofs.lemmas.List.{length-map}
 use Rattle.ground.specs.Content.{Content}
 use Rattle.f66_tree.specs.Views.{formula_of, initial_of}

@@ -1,5 +1,5 @@
 -- The values before are there, up to so many.
-use Rattle.std.proofs.Common.{◌≡◌, ◌≤◌, length, map, take}
+use Rattle.std.proofs.Common.{◌≡◌, map, take}
 use Rattle.f66_tree.specs.Views.{initial_of}
 use Rattle.f66_program.specs.Initial.{values_of}
 use Rattle.storage_rules.specs.Presets.{content_seen}

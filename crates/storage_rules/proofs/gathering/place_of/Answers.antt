@@ -1,9 +1,9 @@
 -- An element stands as far from the first place as its subscripts say.
-use Rattle.std.proofs.Common.{◌≡◌, ◌∙◌, ℕ, Some, ap, map, sym, refl, unsigned_abs, rules, w64}
+use Rattle.std.proofs.Common.{◌≡◌, ◌∙◌, Some, ap, map, sym, refl, unsigned_abs, rules, w64}
 use Rattle.std.proofs.lemmas.Int.{to_z-of_z}
 use Rattle.std.specs.Prelude.{FitsSigned}
 use Rattle.f66_tree.specs.Units.{sizes_of}
-use Rattle.f66_tree.specs.Views.{chained, formula_of, par_of}
+use Rattle.f66_tree.specs.Views.{chained, formula_of}
 use Rattle.f66_tree.proofs.Rows.{item_formula}
 use Rattle.f66_mentions.specs.UnitViews.{context_in}
 use Rattle.f66_program.specs.Association.{shift}

@@ -1,5 +1,5 @@
 -- The next number is seen before, or one more is seen.
-use Rattle.std.proofs.Common.{◌≡◌, ◌∙◌, true, false, eqb, slice_index, sym}
+use Rattle.std.proofs.Common.{◌∙◌, eqb, slice_index, sym}
 use Rattle.std.specs.HashSet.{contains}
 use Rattle.storage_rules.proofs.RepeatLemmas.{repeat_here, none_more, none_all, not_true, not_false, seen_more}
 use Rattle.storage_rules.proofs.repeats.first_repeat.Goals as goal

@@ -1,0 +1,2 @@
+-- The lemmas of associated_units.
+pub mod FitLemmas

@@ -1,0 +1,3 @@
+-- The definitions that the contracts of whole_program cite.
+pub mod Linked
+pub mod Linkage
