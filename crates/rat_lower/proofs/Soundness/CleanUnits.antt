@@ -12,7 +12,7 @@ use Rattle.rule_table.specs.declared.rule.Rule.TheVariants.{DuplicateName}
 use Rattle.f66_tree.specs.declared.declaration.TypeWord.{TypeWord}
 use Rattle.f66_tree.specs.declared.declaration.TypeWord.TheVariants.{Integer}
 use Rattle.f66_tree.specs.Syntax.{Text, Par, Declared, Act, Typed, Dimension, Common, MainUnit, Line}
-use Rattle.f66_tree.specs.Units.{is_note, Note, Context, notes_of, if_any, sizes_in, sizes_by, sizes_of, type_in, by_letter, kind_by}
+use Rattle.f66_tree.specs.Units.{name_of, is_note, Note, Context, notes_of, if_any, sizes_in, sizes_by, sizes_of, type_in, by_letter, kind_by}
 use Rattle.f66_tree.specs.Evaluation.{AnIntrinsic, Intrinsic, known, intrinsics, array_or}
 use Rattle.name_alloc.specs.Numbers.{next_number}
 use Rattle.name_alloc.specs.MadeNames.{made_name, unused, keeping_all}
@@ -31,9 +31,9 @@ use Rattle.f66_check.specs.Answers.{IsSound}
 use Rattle.rat_tree.specs.Syntax.{Commands}
 use Rattle.rat_check.specs.Parts.{Form, Bare, RepeatHead, Statement, Condition, Selector, CaseList, ForHead, DoHead, LoopExit, ReturnHead, Part, unit_parts}
 use Rattle.rat_check.specs.Said.{said_by, said_in, context_of_parts}
-use Rattle.rat_check.specs.Rules.{is_ratfor, nothing_before, UnitRules}
-use Rattle.rat_check.specs.FirstFault.{unit_whole, fault_of_parts}
-use Rattle.rat_check.proofs.CleanLemmas.{and_true}
+use Rattle.rat_check.specs.Rules.{is_ratfor, UnitRules}
+use Rattle.rat_check.specs.FirstFault.{unit_whole}
+use Rattle.rat_check.proofs.CleanLemmas.{and_true, Passed}
 use Rattle.rat_check.proofs.SaidLemmas.{AllClean, said_clean}
 use Rattle.rat_lower.specs.Code.{have_switch, all_code, ends_so, stop_unless, declared_if, unit_code}
 use Rattle.rat_lower.specs.Emitted.{names_of, spare_name}
@@ -48,7 +48,7 @@ use Rattle.rat_lower.proofs.Soundness.Alike.{classed, clean_alike, built_alike}
 use Rattle.rat_lower.proofs.Soundness.Classes.{Uses, uses_keep, uses_keep_values, uses_back, lines_used, used_lines, said_used, used_said, uses_more, use_there, Right, source_right, spare_right}
 use Rattle.rat_lower.proofs.Soundness.Redeclared.{redeclared, Anew, redeclares_at, anew_of, anew_at, declarations, declarations_anew, anew_declarations, of_declarations, declaration, anew_behind, never_itself}
 use Rattle.rat_lower.proofs.Soundness.Lines.{IsCleanAct, IsBuiltAct, unit_sound}
-use Rattle.rat_lower.proofs.Checks.{clean, fine, all_built, says, lacking}
+use Rattle.rat_lower.proofs.Checks.{fine, all_built, says, lacking}
 
 -- ---- the statements that are not executed ----
 
@@ -76,21 +76,21 @@ noted_act : (v : Bool) (l : Option ℕ) (a : Act) (more : List Act) (rest : List
 noted_act true l a more rest e = ap (λ ns. record { label = None; act = a } ∷ ns) e
 noted_act false l a more rest e = e
 
-noted_form : (l : Option ℕ) (form : Form) (more : List Act) (rest : List Note) → is_ratfor form ≡ true → noted more ≡ stripped rest → noted (said_by form ++ more) ≡ stripped (form_note l form rest)
+noted_form : (l : Option ℕ) (form : Form) (more : List Act) (rest : List Note) → is_ratfor form ≡ true → noted more ≡ stripped rest → noted (said_by MainUnit form ++ more) ≡ stripped (form_note l form rest)
 noted_form l Bare more rest is e = e
 noted_form l RepeatHead more rest is e = e
 noted_form l (Statement a) more rest is e = noted_act (is_note a) l a more rest e
 noted_form l (Condition f) more rest is e = e
 noted_form l (Selector f) more rest is e = e
-noted_form l (CaseList es second) more rest is e = noted_past (said_by (CaseList es second)) more (values_so Runs (λ f. refl) es) ∙ e
-noted_form l (ForHead a f b) more rest is e = noted_past (said_by (ForHead a f b)) more (prepared_so Runs (λ x g. refl) (λ g. refl) a f b is) ∙ e
+noted_form l (CaseList es second) more rest is e = noted_past (said_by MainUnit (CaseList es second)) more (values_so Runs (λ f. refl) es) ∙ e
+noted_form l (ForHead a f b) more rest is e = noted_past (said_by MainUnit (ForHead a f b)) more (prepared_so Runs (λ x g. refl) (λ g. refl) a f b is) ∙ e
 noted_form l (DoHead x a b c) more rest is e = e
 noted_form l (LoopExit n) more rest is e = e
-noted_form l ReturnHead more rest is e = e
+noted_form l (ReturnHead f) more rest is e = absurd (true≢false (sym is))
 
-noted_said : (u : UnitRules) (vs : List Part) → AllFine u vs → noted (said_in vs) ≡ stripped (part_notes vs [])
+noted_said : (u : UnitRules) (vs : List Part) → AllFine u vs → noted (said_in MainUnit vs) ≡ stripped (part_notes vs [])
 noted_said u [] h = refl
-noted_said u (v ∷ vs) h = noted_form v.label v.form (said_in vs) (part_notes vs []) h.0.ratfor (noted_said u vs h.1)
+noted_said u (v ∷ vs) h = noted_form v.label v.form (said_in MainUnit vs) (part_notes vs []) h.0.ratfor (noted_said u vs h.1)
 
 -- ---- the spare name ----
 
@@ -191,7 +191,7 @@ get_act (x ∷ rest) (suc i) s e = get_act rest i s e
 
 -- ---- the unit ----
 
-module _ (ss : Commands) (accepted : fault_of_parts (unit_parts ss) ≡ None) (few : length (names_of ss) < 99999) (made : ℕ → ℕ) (first last : Place) where
+module _ (ss : Commands) (accepted : Passed (unit_parts ss)) (few : length (names_of ss) < 99999) (made : ℕ → ℕ) (first last : Place) where
   abbrev q : Text
   q = spare_name ss
 
@@ -202,16 +202,16 @@ module _ (ss : Commands) (accepted : fault_of_parts (unit_parts ss) ≡ None) (f
   vs = unit_parts ss
 
   abbrev said : List Act
-  said = said_in vs
+  said = said_in MainUnit vs
 
   abbrev c : Context
-  c = context_of_parts vs
+  c = context_of_parts MainUnit vs
 
   abbrev added : Bool
-  added = ends_so false (all_code made q ss 0 [] [])
+  added = ends_so false (all_code made q (name_of MainUnit) ss 0 [] [])
 
   abbrev code1 : List Line
-  code1 = all_code made q ss 0 [] (stop_unless added last)
+  code1 = all_code made q (name_of MainUnit) ss 0 [] (stop_unless added last)
 
   abbrev lines_by : Bool → List Line
   lines_by v = declared_if v first q code1
@@ -232,13 +232,13 @@ module _ (ss : Commands) (accepted : fault_of_parts (unit_parts ss) ≡ None) (f
   used_others = of_weaker (λ a. AllUsed K (uses_in a)) (Lacking q) said (λ a h. (lacking_parts q a h).1) (lacking ss accepted few)
 
   said_is_clean : AllClean c said 0 said
-  said_is_clean = said_clean (unit_whole vs) nothing_before vs (clean ss accepted).keep
+  said_is_clean = said_clean vs accepted
 
   -- ---- names mean the same ----
 
   same_notes : noted (acts_in_unit code1) ≡ noted said
   same_notes =
-      noted_lines code1 ∙ ap stripped (notes_whole made q ss added last ∙ unit_notes (unit_whole vs) ss (fine ss accepted)) ∙ sym (noted_said (unit_whole vs) vs (fine ss accepted))
+      noted_lines code1 ∙ ap stripped (notes_whole made q (name_of MainUnit) ss added last ∙ unit_notes (unit_whole MainUnit vs) ss (fine ss accepted)) ∙ sym (noted_said (unit_whole MainUnit vs) vs (fine ss accepted))
 
   either_way : (w : Bool) (others : List Par) → (if w then others else others) ≡ others
   either_way true others = refl
@@ -275,7 +275,7 @@ module _ (ss : Commands) (accepted : fault_of_parts (unit_parts ss) ≡ None) (f
   code_right : AllUses (Right c said q) (flat_map uses_in (acts_in_unit code1))
   code_right =
       lines_used (Right c said q) code1
-      (good_unit (Uses (Right c said q)) made q (uses_keep (Right c said q)) ss added last (λ e. uses_keep_values (Right c said q) q (inl refl))
+      (good_unit (Uses (Right c said q)) made q (name_of MainUnit) (uses_keep (Right c said q)) ss added last (λ e. uses_keep_values (Right c said q) q (inl refl))
       (says ss accepted (Uses (Right c said q)) (used_said (Right c said q) said (uses_more (λ u. (u.name ≢ q) × (misuses c said u ≡ false)) (Right c said q) (flat_map uses_in said) (λ u i h. inr h) used_right))))
 
   acts_right : (v : Bool) → AllUses (Right c said q) (flat_map uses_in (acts_by v))
@@ -283,8 +283,8 @@ module _ (ss : Commands) (accepted : fault_of_parts (unit_parts ss) ≡ None) (f
   acts_right false = code_right
 
   back_said : (N : Usage → Type 0) (v : Bool) → AllUses N (flat_map uses_in (acts_by v)) → AllUses N (flat_map uses_in said)
-  back_said N true h = said_used N said (back_unit (Uses N) made q (uses_back N q) ss added last (used_lines N code1 h))
-  back_said N false h = said_used N said (back_unit (Uses N) made q (uses_back N q) ss added last (used_lines N code1 h))
+  back_said N true h = said_used N said (back_unit (Uses N) made q (name_of MainUnit) (uses_back N q) ss added last (used_lines N code1 h))
+  back_said N false h = said_used N said (back_unit (Uses N) made q (name_of MainUnit) (uses_back N q) ss added last (used_lines N code1 h))
 
   said_right : (v : Bool) → AllUses (λ u. misuses (d v) (acts_by v) u ≡ false) (flat_map uses_in said)
   said_right v =
@@ -353,7 +353,7 @@ module _ (ss : Commands) (accepted : fault_of_parts (unit_parts ss) ≡ None) (f
   typed_integer unsaid = ap (λ b. if b || false then Integer else type_in q (noted (acts_in_unit code1)) unsaid) itself
 
   spare_there : have_switch ss ≡ true → (N : Usage → Type 0) → AllUses N (flat_map uses_in (acts_by true)) → N (usage q Alone)
-  spare_there e N h = (store_in (Uses N) made q (uses_back N q) ss 0 [] (stop_unless added last) e (used_lines N code1 h)).1.0
+  spare_there e N h = (store_in (Uses N) made q (name_of MainUnit) (uses_back N q) ss 0 [] (stop_unless added last) e (used_lines N code1 h)).1.0
 
   scalar : have_switch ss ≡ true → IsScalar (d true) (acts_by true) q
   scalar e = record {
@@ -366,7 +366,7 @@ module _ (ss : Commands) (accepted : fault_of_parts (unit_parts ss) ≡ None) (f
     used = spare_right c (d true) said (acts_by true) q (classed c (d true) K (λ x k. same_forms true x) (same_types true) (same_foreign true) refl) (acts_right true) (plain true) (λ f none. spare_there e (λ w. f w ≡ None) none);
   }
 
-  pub unit_is_sound : (place : Place) → KeepsFlow (unit_code made q first last ss) → IsSound (record { header = MainUnit; lines = unit_code made q first last ss; place = place })
+  pub unit_is_sound : (place : Place) → KeepsFlow (unit_code made q MainUnit first last ss) → IsSound (record { header = MainUnit; lines = unit_code made q MainUnit first last ss; place = place })
   unit_is_sound place flow =
       let v = have_switch ss in
       unit_sound made q first last place ss flow (says ss accepted (IsBuiltAct (d v)) (built_said v)) (says ss accepted (IsCleanAct (d v) (acts_by v)) (clean_said v)) (lines_anew v)
