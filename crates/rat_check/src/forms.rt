@@ -26,7 +26,8 @@ pub enum Form<'a> {
     DoHead(&'a Name, &'a Par, &'a Par, &'a Par),
     /// `break` and `next`.
     LoopExit(u32),
-    ReturnHead,
+    /// `return`, and the value that it returns.
+    ReturnHead(&'a Option<Expr>),
 }
 
 /// The loops around a part.

@@ -1,4 +1,5 @@
-//! The checks of a Ratfor tree: what is not built yet, the rules of names, types, counts, constants and stores, and those of order, labels, loops and clauses.
+//! The checks of a Ratfor tree: what is not built yet, the rules of names, types, counts, constants and stores for units of every
+//! kind, and those of order, labels, loops and clauses.
 #![tactic(auto)]
 
 mod before;
@@ -15,7 +16,7 @@ mod unit_check;
 mod visit;
 
 use before::Before;
-use built::first_unbuilt;
+use built::unbuilt_place;
 use forms::{Around, Form};
 use labels::LabelSet;
 use parts::Part;

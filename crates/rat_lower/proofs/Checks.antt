@@ -1,7 +1,7 @@
 -- A main unit without a fault agrees with the unit that it becomes, which breaks no rule on order, labels and DO ranges.
-use Rattle.std.proofs.Common.{◌≡◌, ◌≢◌, ℕ, ◌+◌, ◌≤◌, ◌<◌, Bool, true, false, List, [], ◌∷◌, length, None, arith}
+use Rattle.std.proofs.Common.{◌≡◌, ◌≢◌, ℕ, ◌+◌, ◌≤◌, ◌<◌, Bool, true, false, List, [], ◌∷◌, length, arith}
 use Rattle.ground.specs.declared.place.Place.{Place}
-use Rattle.f66_tree.specs.Syntax.{Text, Act}
+use Rattle.f66_tree.specs.Syntax.{MainUnit, Text, Act}
 use Rattle.f66_tree.specs.World.{Record, Lost}
 use Rattle.f66_tree.specs.Uses.{NamesOfAct}
 use Rattle.f66_tree.specs.Agreement.{Agrees}
@@ -13,9 +13,9 @@ use Rattle.name_alloc.proofs.KeptNames.{next_apart}
 use Rattle.rat_check.specs.Parts.{no_label, Part, with_labels, unit_parts}
 use Rattle.rat_check.specs.Said.{said_in}
 use Rattle.rat_check.specs.Rules.{nothing_before, UnitRules}
-use Rattle.rat_check.specs.FirstFault.{with_own, unit_whole, fault_of_parts}
+use Rattle.rat_check.specs.FirstFault.{with_own, unit_whole}
 use Rattle.rat_check.specs.Survey.{is_among}
-use Rattle.rat_check.proofs.CleanLemmas.{Passed, passed}
+use Rattle.rat_check.proofs.CleanLemmas.{Passed}
 use Rattle.rat_check.proofs.SaidLemmas.{said_built}
 use Rattle.rat_lower.specs.OneUnit.{notes_of_unit, means}
 use Rattle.rat_lower.specs.Code.{all_labels, all_code, ends_so, stop_unless}
@@ -40,24 +40,21 @@ use Rattle.rat_lower.proofs.Soundness.FlowUnits.{unit_flow}
 sees_none : (m : ℕ) → no_label m ≡ true → false ≡ true
 sees_none m e = e
 
-module _ (ss : Commands) (accepted : fault_of_parts (unit_parts ss) ≡ None) where
+module _ (ss : Commands) (accepted : Passed (unit_parts ss)) where
   abbrev vs : List Part
   vs = unit_parts ss
 
   abbrev u : UnitRules
-  u = unit_whole vs
+  u = unit_whole MainUnit vs
 
   abbrev said : List Act
-  said = said_in vs
-
-  pub clean : Passed vs
-  clean = passed vs accepted
+  said = said_in MainUnit vs
 
   pub fine : AllFine u vs
-  fine = all_fine u nothing_before vs clean.keep
+  fine = all_fine u nothing_before vs accepted.keep accepted.built
 
   pub all_built : AllOf (λ a. is_built u.context a ≡ true) said
-  all_built = of_test (is_built u.context) said (said_built u nothing_before vs clean.keep)
+  all_built = of_test (is_built u.context) said (said_built u.context vs accepted.built)
 
   -- what holds of all that the parts say holds of all that the commands say
   pub says : (Good : Act → Type 0) → AllOf Good said → AllSayGood Good ss
@@ -99,7 +96,7 @@ module _ (ss : Commands) (accepted : fault_of_parts (unit_parts ss) ≡ None) wh
         built = clear.built;
         fits = clear.fits;
         lands = clear.lands;
-        once = given_once u ss clean.unbroken;
+        once = given_once u ss accepted.unbroken;
         rises = λ i j lt. made-rises 23000 taken i j lt;
         unused = λ i. not_given taken ss all (labels_past taken i) (made-free 23000 taken i);
         spared = λ there. lacks;
@@ -118,7 +115,7 @@ module _ (ss : Commands) (accepted : fault_of_parts (unit_parts ss) ≡ None) wh
         pub accepted_flow : length taken + all_labels ss ≤ 77000 → ends_so false (lowered taken first last ss) ≡ true → KeepsFlow (lowered taken first last ss)
         accepted_flow room finished =
             let made_range : (i : ℕ) → i < all_labels ss → (1 ≤ labels_past taken i) × (labels_past taken i ≤ 99999) = λ i lt. (labels_low taken i, omega (arith, made-low 23000 taken i, room, lt)) in
-            let ranged : (l : ℕ) → 1 ≤ all_given l ss → (1 ≤ l) × (l ≤ 99999) = given_range u ss clean.unbroken in
+            let ranged : (l : ℕ) → 1 ≤ all_given l ss → (1 ≤ l) × (l ≤ 99999) = given_range u ss accepted.unbroken in
             let early : (v : Bool) → Early false (all_code (labels_past taken) spare ss 0 [] (stop_unless v last)) =
-            λ v. early_unit u (labels_past taken) spare ss v last (with_labels ss no_label) fine (early_parts u nothing_before vs clean.keep) in
+            λ v. early_unit u (labels_past taken) spare ss v last (with_labels ss no_label) fine (early_parts u nothing_before vs accepted.keep) in
             unit_flow (labels_past taken) spare first last ss is_checked ranged made_range early formatted finished

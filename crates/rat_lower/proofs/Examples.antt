@@ -9,7 +9,7 @@ use Rattle.std.proofs.lemmas.Slice.Eq.{bytes_eq-Decides}
 use Rattle.rule_table.specs.FaultRules.{fault_of}
 use Rattle.rule_table.specs.declared.rule.Rule.TheVariants.{NameTooLong, OutOfProfileType, BadLabel, BadBreak, Unbuilt}
 use Rattle.f66_tree.specs.declared.expression.Operator.TheVariants.{Add, Lt, Eq}
-use Rattle.f66_tree.specs.Syntax.{Text, Pair, NoFormula, AndFormula, Constant, Act, Goto, Stop, Line}
+use Rattle.f66_tree.specs.Syntax.{Text, Pair, NoFormula, AndFormula, Constant, MainUnit, Act, Goto, Stop, Line}
 use Rattle.f66_tree.specs.World.{Record, Shown, Ended, Done, GoesOn}
 use Rattle.f66_tree.specs.Agreement.{Agrees}
 use Rattle.f66_tree.specs.OneUnit.{executed}
@@ -129,7 +129,7 @@ loops =
     Do (here 1) i (Constant (pos 1)) (Constant (pos 3)) (Constant (pos 1)) (block 1 (If (here 2) (Pair Eq (var i) (num (pos 2))) (Next (here 2) 1) ∷ plain 3 (write (i ∷ [])) ∷ []))
     ∷ plain 4 (set k (num (pos 0))) ∷ Plain (Some 20) (here 5) (set k (Pair Add (var k) (num (pos 1)))) ∷ If (here 6) (Pair Lt (var k) (num (pos 3))) (plain 6 (Goto 20)) ∷ plain 7 (write (k ∷ [])) ∷ plain 8 (Stop None) ∷ format ∷ []
 
-loops_accepted : fault_of_parts (unit_parts (all loops)) ≡ None
+loops_accepted : fault_of_parts MainUnit (here 0) (unit_parts (all loops)) ≡ None
 unfolding digits
 loops_accepted = refl
 
@@ -157,43 +157,43 @@ loops_go_on = refl
 abbrev too_far : Command
 too_far = Repeat (here 2) (block 2 (Break (here 3) 2 ∷ []))
 
-loop_refused : fault_of_parts (unit_parts (all (plain 1 (set i (num (pos 1))) ∷ too_far ∷ []))) ≡ Some (fault_of (here 3) BadBreak)
+loop_refused : fault_of_parts MainUnit (here 0) (unit_parts (all (plain 1 (set i (num (pos 1))) ∷ too_far ∷ []))) ≡ Some (fault_of (here 3) BadBreak)
 unfolding digits
 loop_refused = refl
 
 -- goto 10 to a label within braces
-label_refused : fault_of_parts (unit_parts (all (plain 1 (Goto 10) ∷ block 2 (Plain (Some 10) (here 2) (set i (num (pos 1))) ∷ []) ∷ []))) ≡ Some (fault_of (here 1) BadLabel)
+label_refused : fault_of_parts MainUnit (here 0) (unit_parts (all (plain 1 (Goto 10) ∷ block 2 (Plain (Some 10) (here 2) (set i (num (pos 1))) ∷ []) ∷ []))) ≡ Some (fault_of (here 1) BadLabel)
 unfolding digits
 label_refused = refl
 
 -- a label that stands twice
-second_refused : fault_of_parts (unit_parts (all (Plain (Some 10) (here 1) (set i (num (pos 1))) ∷ Plain (Some 10) (here 2) (set i (num (pos 1))) ∷ []))) ≡ Some (fault_of (here 2) BadLabel)
+second_refused : fault_of_parts MainUnit (here 0) (unit_parts (all (Plain (Some 10) (here 1) (set i (num (pos 1))) ∷ Plain (Some 10) (here 2) (set i (num (pos 1))) ∷ []))) ≡ Some (fault_of (here 2) BadLabel)
 unfolding digits
 second_refused = refl
 
 -- a name of seven letters that would be real, and one of one letter
-long_refused : fault_of_parts (unit_parts (all (plain 1 (set i (var (codes "ABCDEFG"))) ∷ []))) ≡ Some (fault_of (here 1) NameTooLong)
+long_refused : fault_of_parts MainUnit (here 0) (unit_parts (all (plain 1 (set i (var (codes "ABCDEFG"))) ∷ []))) ≡ Some (fault_of (here 1) NameTooLong)
 unfolding digits
 long_refused = refl
 
-real_refused : fault_of_parts (unit_parts (all (plain 1 (set i (var (codes "A"))) ∷ []))) ≡ Some (fault_of (here 1) OutOfProfileType)
+real_refused : fault_of_parts MainUnit (here 0) (unit_parts (all (plain 1 (set i (var (codes "A"))) ∷ []))) ≡ Some (fault_of (here 1) OutOfProfileType)
 unfolding digits
 real_refused = refl
 
 -- a WRITE whose format is missing, and the condition of until after the faults of its body
-format_refused : fault_of_parts (unit_parts (all (plain 1 (write (i ∷ [])) ∷ []))) ≡ Some (fault_of (here 1) BadLabel)
+format_refused : fault_of_parts MainUnit (here 0) (unit_parts (all (plain 1 (write (i ∷ [])) ∷ []))) ≡ Some (fault_of (here 1) BadLabel)
 unfolding digits
 format_refused = refl
 
-body_first : fault_of_parts (unit_parts (all (RepeatUntil (here 1) (block 1 (Break (here 2) 0 ∷ [])) (Pair Lt (var (codes "A")) (num (pos 3))) (here 3) ∷ []))) ≡ Some (fault_of (here 2) BadBreak)
+body_first : fault_of_parts MainUnit (here 0) (unit_parts (all (RepeatUntil (here 1) (block 1 (Break (here 2) 0 ∷ [])) (Pair Lt (var (codes "A")) (num (pos 3))) (here 3) ∷ []))) ≡ Some (fault_of (here 2) BadBreak)
 unfolding digits
 body_first = refl
 
 -- a return behind a fault: what is not built goes first
-unbuilt_refused : fault_of_parts (unit_parts (all (plain 1 (Goto 10) ∷ Return (here 2) None ∷ []))) ≡ Some (fault_of (here 2) Unbuilt)
+unbuilt_refused : fault_of_parts MainUnit (here 0) (unit_parts (all (plain 1 (Goto 10) ∷ Return (here 2) None ∷ []))) ≡ Some (fault_of (here 2) Unbuilt)
 unfolding digits
 unbuilt_refused = refl
 
-switch_accepted : fault_of_parts (unit_parts (all switch)) ≡ None
+switch_accepted : fault_of_parts MainUnit (here 0) (unit_parts (all switch)) ≡ None
 unfolding digits
 switch_accepted = refl

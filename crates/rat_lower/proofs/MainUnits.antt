@@ -1,14 +1,9 @@
 -- The statements of a main unit that the checks accept: they do what it means, are a sound unit, and fit their cards.
-use Rattle.std.proofs.Common.{◌≡◌, ◌≢◌, ℕ, ◌+◌, ◌≤◌, Bool, true, false, List, [], length, Some, None, sym, ap, ◌∙◌, subst, arith}
-use Rattle.std.specs.Prelude.{if◌then◌else◌}
+use Rattle.std.proofs.Common.{◌≡◌, ◌≢◌, ℕ, ◌+◌, ◌≤◌, true, false, List, [], length, None, sym, ap, ◌∙◌, subst, arith}
 use Rattle.std.specs.List.{AllByRecursion}
-use Rattle.std.proofs.lemmas.Option.{none-some}
 use Rattle.ground.specs.declared.place.Place.{Place}
-use Rattle.rule_table.specs.FaultRules.{fault_of}
-use Rattle.rule_table.specs.declared.rule.Rule.TheVariants.{Unbuilt}
 use Rattle.f66_tree.specs.declared.unit.Unit.{Unit as AUnit}
 use Rattle.f66_tree.specs.Syntax.{MainUnit, Line, Routine}
-use Rattle.f66_tree.specs.Units.{is_main}
 use Rattle.f66_tree.specs.Views.{routine_of}
 use Rattle.f66_tree.specs.World.{Record, Lost}
 use Rattle.f66_tree.specs.Agreement.{Agrees}
@@ -17,8 +12,9 @@ use Rattle.f66_check.specs.Answers.{IsSound}
 use Rattle.stmt_text.specs.Fitting.{FitsCards, IsPrintable}
 use Rattle.rat_tree.specs.Syntax.{RatRoutine}
 use Rattle.rat_check.specs.Parts.{no_label, unit_parts}
-use Rattle.rat_check.specs.FirstFault.{with_own, fault_of_parts, unit_fault}
+use Rattle.rat_check.specs.FirstFault.{with_own, unit_fault}
 use Rattle.rat_check.specs.Survey.{is_among, own_labels}
+use Rattle.rat_check.proofs.CleanLemmas.{Passed, passed}
 use Rattle.rat_check.proofs.SurveyLemmas.{own_among}
 use Rattle.rat_lower.specs.OneUnit.{means}
 use Rattle.rat_lower.specs.Code.{all_labels, ends_so}
@@ -31,12 +27,8 @@ use Rattle.rat_lower.proofs.Soundness.PrintedUnits.{unit_fits}
 
 module _ (u : RatRoutine) (taken given : List ℕ) (first last : Place) (code : List Line) (none_found : unit_fault u ≡ None) (own : taken ≡ own_labels (unit_parts u.body) []) (same : given ≡ taken)
     (room : HasRoom u) (made : code ≡ lowered given first last u.body) where
-  accepted : fault_of_parts (unit_parts u.body) ≡ None
-  accepted = by (is_main u.header) none_found
-    where
-      by : (v : Bool) → (if v then fault_of_parts (unit_parts u.body) else Some (fault_of u.place Unbuilt)) ≡ None → fault_of_parts (unit_parts u.body) ≡ None
-      by true e = e
-      by false e = absurd (none-some _ (sym e))
+  accepted : Passed (unit_parts u.body)
+  accepted = passed u.header u.place (unit_parts u.body) none_found
 
   all : is_among given ≡ with_own (unit_parts u.body) no_label
   all = ap is_among (same ∙ own) ∙ own_among (unit_parts u.body)

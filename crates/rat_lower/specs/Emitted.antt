@@ -7,7 +7,7 @@ use Rattle.f66_names.specs.Declaring.{declared_in}
 use Rattle.f66_names.specs.Uses.{uses_in}
 use Rattle.rat_check.specs.Parts.{unit_parts}
 use Rattle.rat_check.specs.Said.{said_in}
-use Rattle.f66_tree.specs.Syntax.{Text, Act, Line}
+use Rattle.f66_tree.specs.Syntax.{Text, MainUnit, Act, Line}
 use Rattle.rat_tree.specs.Syntax.{Command, Commands, Clauses}
 use Rattle.rat_lower.specs.Code.{Rings, labels, all_labels, clause_labels, code_of, all_code, tests, bodies}
 
@@ -27,7 +27,7 @@ named_in a = map (λ d. d.name) (declared_in a) ++ map (λ u. u.name) (uses_in a
 
 -- the names of the source, once more for each place where one stands
 abbrev pub names_of : Commands → List Text
-names_of ss = flat_map named_in (said_in (unit_parts ss))
+names_of ss = flat_map named_in (said_in MainUnit (unit_parts ss))
 
 -- the spare name of a unit: Z with the first number from 1 on that none of its names has there
 abbrev pub spare_name : Commands → Text

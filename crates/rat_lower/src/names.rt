@@ -10,20 +10,21 @@ ghost use Rattle.rat_tree.specs.Views.{commands};
 ghost use Rattle.rat_lower.specs.Emitted.{named_in, names_of};
 
 use f66_names::{Saying, Use, declared_in_saying, uses_of_saying};
-use f66_tree::Declared;
+use f66_tree::{Declared, Header};
 use name_alloc::Names;
 use rat_check::sayings;
 use rat_tree::RatUnit;
 use std::alloc::{AllocError, Global};
 
-/// The names of a unit are kept: those that it declares, and those that it uses.
+/// The names of a main unit are kept: those that it declares, and those that it uses.
 pub fn names_in(alloc: Global, unit: &RatUnit) -> Result<Names, AllocError>
     ensures kept { IfOk result (λ names. names ≡ keeping_all (names_of (commands unit.now.body.items)) unused) }
     ensures count { IfOk result (λ names. length names.kept ≡ length (names_of (commands unit.now.body.items))) }
     ensures made { IfOk result (λ names. names.numbers.made ≡ []) }
     ensures labels { IfOk result (λ names. names.labels ≡ starting 23000) }
 {
-    let sayings = sayings(alloc, unit)?;
+    let header = Header::Main;
+    let sayings = sayings(alloc, &header, &unit.body)?;
     let mut names = Names::new(alloc);
     keep_all(alloc, &mut names, &sayings)?;
     Ok(names)

@@ -4,11 +4,11 @@ use Rattle.std.proofs.lemmas.List.{length-map}
 use Rattle.std.specs.List.{flat_map}
 use Rattle.std.specs.Prelude.{◌||◌, if◌then◌else◌}
 use Rattle.ground.specs.declared.place.Place.{Place}
-use Rattle.f66_tree.specs.Syntax.{Text, Formula, Ref, Item, Group, Plus, Minus, Not, Pair, Formulas, NoFormula, AndFormula, Par, Constant, Named, Declared, Entry, One, Many, Entries, NoEntry, AndEntry, Act, Assign, Computed, Sign, When, Loop, Read, Write, Typed, Dimension}
+use Rattle.f66_tree.specs.Syntax.{MainUnit, Text, Formula, Ref, Item, Group, Plus, Minus, Not, Pair, Formulas, NoFormula, AndFormula, Par, Constant, Named, Declared, Entry, One, Many, Entries, NoEntry, AndEntry, Act, Assign, Computed, Sign, When, Loop, Read, Write, Typed, Dimension}
 use Rattle.f66_names.specs.Uses.{Usage, uses_of, uses_of_all, uses_of_target, uses_of_par, uses_of_counting, uses_of_entry, uses_of_entries, uses_of_sizes, uses_in}
 use Rattle.f66_names.specs.Declaring.{declared_in}
 use Rattle.rat_tree.specs.Syntax.{Command, Empty, Block, If, IfElse, While, For, Repeat, RepeatUntil, Do, Switch, Break, Next, Return, Plain, Labelled, Commands, NoCommand, AndCommand, Clauses, NoClause, AndClause}
-use Rattle.rat_check.specs.Parts.{Form, Statement, Condition, Selector, CaseList, ForHead, DoHead, Labels, Part, part, with_mark, with_labels, no_label, parts_of, parts_in, clause_parts, unit_parts}
+use Rattle.rat_check.specs.Parts.{Form, Statement, Condition, Selector, CaseList, ForHead, DoHead, ReturnHead, Labels, Part, part, with_mark, with_labels, no_label, parts_of, parts_in, clause_parts, unit_parts}
 use Rattle.rat_check.specs.Said.{said_by, said_in, said_if_any, condition_if_any, value_acts}
 use Rattle.rat_check.specs.Survey.{is_among, adding_if, own_labels}
 use Rattle.rat_lower.specs.Code.{labels, all_labels, clause_labels}
@@ -112,6 +112,7 @@ of_form (Selector e) = of_formula e
 of_form (CaseList es second) = of_formulas es
 of_form (ForHead a e b) = if_any of_act a + (if_any of_formula e + if_any of_act b)
 of_form (DoHead x a b c) = of_counting a b c
+of_form (ReturnHead e) = if_any of_formula e
 of_form _ = 0
 
 values_weigh : (es : Formulas) → total of_act (value_acts es) ≡ of_formulas es
@@ -126,7 +127,7 @@ condition_if_any_weighs : (e : Option Formula) → total of_act (condition_if_an
 condition_if_any_weighs None = refl
 condition_if_any_weighs (Some e) = omega arith
 
-form_weighs : (f : Form) → total of_act (said_by f) ≤ of_form f
+form_weighs : (f : Form) → total of_act (said_by MainUnit f) ≤ of_form f
 form_weighs (Statement a) = omega arith
 form_weighs (Condition e) = omega arith
 form_weighs (Selector e) = omega arith
@@ -134,11 +135,13 @@ form_weighs (CaseList es second) = omega (arith, values_weigh es)
 form_weighs (ForHead a e b) =
     omega (arith, total_append of_act (said_if_any a) (condition_if_any e ++ said_if_any b), total_append of_act (condition_if_any e) (said_if_any b), act_if_any_weighs a, condition_if_any_weighs e, act_if_any_weighs b)
 form_weighs (DoHead x a b c) = omega arith
+form_weighs (ReturnHead None) = omega arith
+form_weighs (ReturnHead (Some e)) = omega arith
 form_weighs _ = omega arith
 
-said_weighs : (vs : List Part) → total of_act (said_in vs) ≤ total (λ v. of_form v.form) vs
+said_weighs : (vs : List Part) → total of_act (said_in MainUnit vs) ≤ total (λ v. of_form v.form) vs
 said_weighs [] = omega arith
-said_weighs (v ∷ vs) = omega (arith, total_append of_act (said_by v.form) (said_in vs), form_weighs v.form, said_weighs vs)
+said_weighs (v ∷ vs) = omega (arith, total_append of_act (said_by MainUnit v.form) (said_in MainUnit vs), form_weighs v.form, said_weighs vs)
 
 -- ---- labels of parts ----
 
@@ -199,4 +202,4 @@ mutual
 pub unit_weighs : (ss : Commands) → label_count ss + length (names_of ss) ≤ of_commands ss
 unit_weighs ss =
     let vs : List Part = unit_parts ss in
-    omega (arith, own_labels_length vs [], length_flat_map named_in (said_in vs), total_more (λ a. length (named_in a)) of_act (said_in vs) act_names, said_weighs vs, both_weigh vs, commands_weigh 0 (with_labels ss no_label) ss)
+    omega (arith, own_labels_length vs [], length_flat_map named_in (said_in MainUnit vs), total_more (λ a. length (named_in a)) of_act (said_in MainUnit vs) act_names, said_weighs vs, both_weigh vs, commands_weigh 0 (with_labels ss no_label) ss)

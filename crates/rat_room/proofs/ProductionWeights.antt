@@ -82,6 +82,7 @@ weighs productions.RepeatStatement vs e = omega (arith, nine vs, parts.command_w
 weighs productions.DoStatement vs e = omega (arith, nine vs, parts.range_weighs (at 1 vs), parts.command_weighs (at 0 vs))
 weighs productions.SwitchStatement vs e = omega (arith, nine vs, parts.formula_weighs (at 5 vs), parts.clauses_weigh (at 1 vs))
 weighs productions.LeaveStatement vs e = omega (arith, nine vs, made.left_weighs (at 2 vs) (place_in (at 2 vs)) (count_or_one (at 1 vs)))
+weighs productions.ReturnStatement vs e = omega (arith, nine vs, parts.formula_if_any_weighs (at 1 vs))
 weighs productions.PlainStatement vs e = omega (arith, nine vs, parts.act_weighs (at 1 vs))
 weighs productions.UntilTest vs e = omega (arith, nine vs, parts.formula_weighs (at 1 vs))
 weighs productions.MoreClauses vs e = omega (arith, nine vs, parts.clauses_weigh (at 0 vs), parts.with_clause_weighs (at 1 vs) (as_clauses (at 0 vs)) (even_at 1 vs e))

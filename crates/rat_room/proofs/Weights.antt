@@ -85,7 +85,7 @@ abbrev mutual
   of_command (Switch p e cs) = 1 + (of_formula e + of_clauses cs)
   of_command (Break p n) = 0
   of_command (Next p n) = 0
-  of_command (Return p e) = 0
+  of_command (Return p e) = if_any of_formula e
   of_command (Plain l p a) = if_any one l + of_act a
   of_command (Labelled l p c) = 1 + of_command c
 

@@ -3,12 +3,12 @@ use Rattle.std.proofs.Common.{◌≡◌, ℕ, Bool, true, false, true≢false, L
 use Rattle.std.specs.Prelude.{◌&&◌, ◌||◌, ⊤}
 use Rattle.std.specs.List.{list_all}
 use Rattle.ground.specs.declared.place.Place.{Place}
-use Rattle.f66_tree.specs.Syntax.{Formula, Formulas, NoFormula, AndFormula, Act, Assign, Sign, When, Continue}
+use Rattle.f66_tree.specs.Syntax.{MainUnit, Formula, Formulas, NoFormula, AndFormula, Act, Assign, Sign, When, Continue}
 use Rattle.f66_names.specs.BuiltActs.{is_built}
 use Rattle.rat_check.specs.Parts.{Labels, Part, with_mark}
 use Rattle.rat_check.specs.Said.{said_by, said_in, value_acts, said_if_any, condition_if_any}
 use Rattle.rat_check.specs.Rules.{is_simple, is_ratfor, Before, behind, UnitRules, finds_labels}
-use Rattle.rat_check.proofs.CleanLemmas.{and_true, AllKeep}
+use Rattle.rat_check.proofs.CleanLemmas.{and_true, AllKeep, AllBuilt}
 
 pub both_false : (a b : Bool) → (a || b) ≡ false → (a ≡ false) × (b ≡ false)
 both_false true b e = absurd (true≢false e)
@@ -41,10 +41,10 @@ pub record Fine (u : UnitRules) (v : Part) : Type 0 where
 abbrev pub AllFine : UnitRules → List Part → Type 0
 AllFine u vs = AllParts (Fine u) vs
 
-pub all_fine : (u : UnitRules) (b : Before) (vs : List Part) → AllKeep u b vs → AllFine u vs
-all_fine u b [] h = tt
-all_fine u b (v ∷ vs) h =
-    (record { ratfor = (and_true (is_ratfor v.form) (list_all (is_built u.context) (said_by v.form)) h.0).0; found = h.1.found; inside = h.1.inside }, all_fine u (behind b v) vs h.2)
+pub all_fine : (u : UnitRules) (b : Before) (vs : List Part) → AllKeep u b vs → AllBuilt u.context vs → AllFine u vs
+all_fine u b [] h k = tt
+all_fine u b (v ∷ vs) h k =
+    (record { ratfor = (and_true (is_ratfor v.form) (list_all (is_built u.context) (said_by u.context.header v.form)) k.0).0; found = h.0.found; inside = h.0.inside }, all_fine u (behind u.context.header b v) vs h.1 k.1)
 
 -- ---- all that is said ----
 
@@ -54,7 +54,7 @@ AllOf Good (a ∷ more) = Good a × AllOf Good more
 
 -- all that a part says is so
 abbrev pub SaysSo : (Act → Type 0) → Part → Type 0
-SaysSo Good v = AllOf Good (said_by v.form)
+SaysSo Good v = AllOf Good (said_by MainUnit v.form)
 
 pub of_split : (Good : Act → Type 0) (xs ys : List Act) → AllOf Good (xs ++ ys) → AllOf Good xs × AllOf Good ys
 of_split Good [] ys h = (tt, h)
@@ -72,9 +72,9 @@ pub of_test : (test : Act → Bool) (xs : List Act) → list_all test xs ≡ tru
 of_test test [] e = tt
 of_test test (x ∷ xs) e = let h = and_true (test x) (list_all test xs) e in (h.0, of_test test xs h.1)
 
-pub said_so : (Good : Act → Type 0) (vs : List Part) → AllOf Good (said_in vs) → AllParts (SaysSo Good) vs
+pub said_so : (Good : Act → Type 0) (vs : List Part) → AllOf Good (said_in MainUnit vs) → AllParts (SaysSo Good) vs
 said_so Good [] h = tt
-said_so Good (v ∷ vs) h = let k = of_split Good (said_by v.form) (said_in vs) h in (k.0, said_so Good vs k.1)
+said_so Good (v ∷ vs) h = let k = of_split Good (said_by MainUnit v.form) (said_in MainUnit vs) h in (k.0, said_so Good vs k.1)
 
 -- ---- what conditions, values and the parts of a `for` say ----
 

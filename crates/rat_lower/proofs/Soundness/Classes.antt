@@ -37,7 +37,7 @@ module _ (P : Usage → Type 0) where
   uses_keep_values spare p = record { compared = λ e l h. (p, uses_join P (uses_of e) [] h tt); stored = λ e h. (p, h) }
 
   pub uses_back : (spare : Text) → KeepsBack Uses spare
-  uses_back spare = record { denied = λ e l h. h; counts = λ l x a b c h. h; compared = λ e l h. (uses_split P (uses_of e) [] h.1).0; stored = λ e h. h.1 }
+  uses_back spare = record { denied = λ e l h. h; counts = λ l x a b c h. h; compared = λ e l h. (uses_split P (uses_of e) [] h.1).0; stored = λ x e h. h.1 }
 
   pub lines_used : (lines : List Line) → AllSay Uses lines → AllUses P (flat_map uses_in (acts_in_unit lines))
   lines_used [] h = tt

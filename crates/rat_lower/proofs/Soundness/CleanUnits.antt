@@ -31,9 +31,9 @@ use Rattle.f66_check.specs.Answers.{IsSound}
 use Rattle.rat_tree.specs.Syntax.{Commands}
 use Rattle.rat_check.specs.Parts.{Form, Bare, RepeatHead, Statement, Condition, Selector, CaseList, ForHead, DoHead, LoopExit, ReturnHead, Part, unit_parts}
 use Rattle.rat_check.specs.Said.{said_by, said_in, context_of_parts}
-use Rattle.rat_check.specs.Rules.{is_ratfor, nothing_before, UnitRules}
-use Rattle.rat_check.specs.FirstFault.{unit_whole, fault_of_parts}
-use Rattle.rat_check.proofs.CleanLemmas.{and_true}
+use Rattle.rat_check.specs.Rules.{is_ratfor, UnitRules}
+use Rattle.rat_check.specs.FirstFault.{unit_whole}
+use Rattle.rat_check.proofs.CleanLemmas.{and_true, Passed}
 use Rattle.rat_check.proofs.SaidLemmas.{AllClean, said_clean}
 use Rattle.rat_lower.specs.Code.{have_switch, all_code, ends_so, stop_unless, declared_if, unit_code}
 use Rattle.rat_lower.specs.Emitted.{names_of, spare_name}
@@ -48,7 +48,7 @@ use Rattle.rat_lower.proofs.Soundness.Alike.{classed, clean_alike, built_alike}
 use Rattle.rat_lower.proofs.Soundness.Classes.{Uses, uses_keep, uses_keep_values, uses_back, lines_used, used_lines, said_used, used_said, uses_more, use_there, Right, source_right, spare_right}
 use Rattle.rat_lower.proofs.Soundness.Redeclared.{redeclared, Anew, redeclares_at, anew_of, anew_at, declarations, declarations_anew, anew_declarations, of_declarations, declaration, anew_behind, never_itself}
 use Rattle.rat_lower.proofs.Soundness.Lines.{IsCleanAct, IsBuiltAct, unit_sound}
-use Rattle.rat_lower.proofs.Checks.{clean, fine, all_built, says, lacking}
+use Rattle.rat_lower.proofs.Checks.{fine, all_built, says, lacking}
 
 -- ---- the statements that are not executed ----
 
@@ -76,21 +76,21 @@ noted_act : (v : Bool) (l : Option ℕ) (a : Act) (more : List Act) (rest : List
 noted_act true l a more rest e = ap (λ ns. record { label = None; act = a } ∷ ns) e
 noted_act false l a more rest e = e
 
-noted_form : (l : Option ℕ) (form : Form) (more : List Act) (rest : List Note) → is_ratfor form ≡ true → noted more ≡ stripped rest → noted (said_by form ++ more) ≡ stripped (form_note l form rest)
+noted_form : (l : Option ℕ) (form : Form) (more : List Act) (rest : List Note) → is_ratfor form ≡ true → noted more ≡ stripped rest → noted (said_by MainUnit form ++ more) ≡ stripped (form_note l form rest)
 noted_form l Bare more rest is e = e
 noted_form l RepeatHead more rest is e = e
 noted_form l (Statement a) more rest is e = noted_act (is_note a) l a more rest e
 noted_form l (Condition f) more rest is e = e
 noted_form l (Selector f) more rest is e = e
-noted_form l (CaseList es second) more rest is e = noted_past (said_by (CaseList es second)) more (values_so Runs (λ f. refl) es) ∙ e
-noted_form l (ForHead a f b) more rest is e = noted_past (said_by (ForHead a f b)) more (prepared_so Runs (λ x g. refl) (λ g. refl) a f b is) ∙ e
+noted_form l (CaseList es second) more rest is e = noted_past (said_by MainUnit (CaseList es second)) more (values_so Runs (λ f. refl) es) ∙ e
+noted_form l (ForHead a f b) more rest is e = noted_past (said_by MainUnit (ForHead a f b)) more (prepared_so Runs (λ x g. refl) (λ g. refl) a f b is) ∙ e
 noted_form l (DoHead x a b c) more rest is e = e
 noted_form l (LoopExit n) more rest is e = e
-noted_form l ReturnHead more rest is e = e
+noted_form l (ReturnHead f) more rest is e = absurd (true≢false (sym is))
 
-noted_said : (u : UnitRules) (vs : List Part) → AllFine u vs → noted (said_in vs) ≡ stripped (part_notes vs [])
+noted_said : (u : UnitRules) (vs : List Part) → AllFine u vs → noted (said_in MainUnit vs) ≡ stripped (part_notes vs [])
 noted_said u [] h = refl
-noted_said u (v ∷ vs) h = noted_form v.label v.form (said_in vs) (part_notes vs []) h.0.ratfor (noted_said u vs h.1)
+noted_said u (v ∷ vs) h = noted_form v.label v.form (said_in MainUnit vs) (part_notes vs []) h.0.ratfor (noted_said u vs h.1)
 
 -- ---- the spare name ----
 
@@ -191,7 +191,7 @@ get_act (x ∷ rest) (suc i) s e = get_act rest i s e
 
 -- ---- the unit ----
 
-module _ (ss : Commands) (accepted : fault_of_parts (unit_parts ss) ≡ None) (few : length (names_of ss) < 99999) (made : ℕ → ℕ) (first last : Place) where
+module _ (ss : Commands) (accepted : Passed (unit_parts ss)) (few : length (names_of ss) < 99999) (made : ℕ → ℕ) (first last : Place) where
   abbrev q : Text
   q = spare_name ss
 
@@ -202,10 +202,10 @@ module _ (ss : Commands) (accepted : fault_of_parts (unit_parts ss) ≡ None) (f
   vs = unit_parts ss
 
   abbrev said : List Act
-  said = said_in vs
+  said = said_in MainUnit vs
 
   abbrev c : Context
-  c = context_of_parts vs
+  c = context_of_parts MainUnit vs
 
   abbrev added : Bool
   added = ends_so false (all_code made q ss 0 [] [])
@@ -232,13 +232,13 @@ module _ (ss : Commands) (accepted : fault_of_parts (unit_parts ss) ≡ None) (f
   used_others = of_weaker (λ a. AllUsed K (uses_in a)) (Lacking q) said (λ a h. (lacking_parts q a h).1) (lacking ss accepted few)
 
   said_is_clean : AllClean c said 0 said
-  said_is_clean = said_clean (unit_whole vs) nothing_before vs (clean ss accepted).keep
+  said_is_clean = said_clean vs accepted
 
   -- ---- names mean the same ----
 
   same_notes : noted (acts_in_unit code1) ≡ noted said
   same_notes =
-      noted_lines code1 ∙ ap stripped (notes_whole made q ss added last ∙ unit_notes (unit_whole vs) ss (fine ss accepted)) ∙ sym (noted_said (unit_whole vs) vs (fine ss accepted))
+      noted_lines code1 ∙ ap stripped (notes_whole made q ss added last ∙ unit_notes (unit_whole MainUnit vs) ss (fine ss accepted)) ∙ sym (noted_said (unit_whole MainUnit vs) vs (fine ss accepted))
 
   either_way : (w : Bool) (others : List Par) → (if w then others else others) ≡ others
   either_way true others = refl

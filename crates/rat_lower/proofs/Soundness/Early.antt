@@ -6,7 +6,7 @@ use Rattle.std.proofs.lemmas.Bool.Decides.{nat_tests}
 use Rattle.std.proofs.lemmas.Bool.{or_parts, or_from, and_left, and_right, le-ltb}
 use Rattle.ground.specs.declared.place.Place.{Place}
 use Rattle.rule_table.specs.Words.{first_place, is_below}
-use Rattle.f66_tree.specs.Syntax.{Text, Act, Format, Typed, Dimension, Common, Equivalence, Line}
+use Rattle.f66_tree.specs.Syntax.{MainUnit, Text, Act, Format, Typed, Dimension, Common, Equivalence, Line}
 use Rattle.f66_flow.specs.Acts.{is_executable, is_specification, is_data, is_format}
 use Rattle.f66_flow.specs.FlowRules.{is_late as is_late_line}
 use Rattle.rat_tree.specs.Syntax.{Command, Empty, Block, If, IfElse, While, For, Repeat, RepeatUntil, Do, Switch, Break, Next, Return, Plain, Labelled, Commands, NoCommand, AndCommand}
@@ -122,7 +122,7 @@ or_turned false false = refl
 
 pub early_parts : (u : UnitRules) (b : Before) (vs : List Part) → AllKeep u b vs → EarlyParts b.begun vs
 early_parts u b [] h = tt
-early_parts u b (v ∷ vs) h = (h.1.early, subst (λ x. EarlyParts x vs) (or_turned b.begun (begins v.label v.form)) (early_parts u (behind b v) vs h.2))
+early_parts u b (v ∷ vs) h = (h.0.early, subst (λ x. EarlyParts x vs) (or_turned b.begun (begins v.label v.form)) (early_parts u (behind u.context.header b v) vs h.1))
 
 early_split : (begun : Bool) (xs ys : List Part) → EarlyParts begun (xs ++ ys) → EarlyParts begun xs × EarlyParts (after begun xs) ys
 early_split begun [] ys h = (tt, h)
@@ -152,7 +152,7 @@ and_one : (a : Bool) → (a && true) ≡ false → a ≡ false
 and_one true e = e
 and_one false e = refl
 
-quiet_so : (form : Form) → is_ratfor form ≡ true → is_late_form true form ≡ false → AllOf NotSpecial (said_by form)
+quiet_so : (form : Form) → is_ratfor form ≡ true → is_late_form true form ≡ false → AllOf NotSpecial (said_by MainUnit form)
 quiet_so Bare is h = tt
 quiet_so RepeatHead is h = tt
 quiet_so (Statement a) is h = (and_one (is_specification a) h, tt)
@@ -162,7 +162,7 @@ quiet_so (CaseList es second) is h = values_so NotSpecial (λ e. refl) es
 quiet_so (ForHead a e b) is h = prepared_so NotSpecial (λ x f. refl) (λ f. refl) a e b is
 quiet_so (DoHead x a b c) is h = (refl, tt)
 quiet_so (LoopExit n) is h = tt
-quiet_so ReturnHead is h = tt
+quiet_so (ReturnHead e) is h = absurd (true≢false (sym is))
 
 all_quiet_so : (u : UnitRules) (vs : List Part) → AllFine u vs → AllParts Quiet vs → AllParts (SaysSo NotSpecial) vs
 all_quiet_so u [] h q = tt
@@ -233,7 +233,7 @@ started (Do p x a b d c) k r l begun is h = behind_first begun (part k r l p (Do
 started (Switch p e cs) k r l begun is h = behind_first begun (part k r l p (Selector e)) (clause_parts k r false cs) (opened l (Selector e) refl) refl h
 started (Break p n) k r l begun is h = behind_first begun (part k r l p (LoopExit n)) [] (opened l (LoopExit n) refl) refl h
 started (Next p n) k r l begun is h = behind_first begun (part k r l p (LoopExit n)) [] (opened l (LoopExit n) refl) refl h
-started (Return p e) k r l begun is h = behind_first begun (part k r l p ReturnHead) [] (opened l ReturnHead refl) refl h
+started (Return p e) k r l begun is h = behind_first begun (part k r l p (ReturnHead e)) [] (opened l (ReturnHead e) refl) refl h
 started (Empty p) k r l begun is h = absurd (true≢false (sym is))
 started (Block p ss) k r l begun is h = absurd (true≢false (sym is))
 started (Plain m p a) k r l begun is h = absurd (true≢false (sym is))

@@ -5,7 +5,7 @@ use Rattle.std.specs.List.{slice_get, list_any, list_all}
 use Rattle.std.proofs.lemmas.Bool.{or_from}
 use Rattle.rule_table.specs.Words.{is_some_and}
 use Rattle.f66_tree.specs.Fields.{Fields}
-use Rattle.f66_tree.specs.Syntax.{Text, Act, When, Read, Write, Format, Line}
+use Rattle.f66_tree.specs.Syntax.{MainUnit, Text, Act, When, Read, Write, Format, Line}
 use Rattle.f66_tree.specs.Units.{is_note, Note, notes_of, format_by, format_of}
 use Rattle.f66_tree.specs.Execution.{has_label}
 use Rattle.f66_flow.specs.Acts.{is_format, formats_named}
@@ -101,7 +101,7 @@ module _ (u : UnitRules) (notes : List Note) (has : (m : ℕ) → u.formats m �
   act_formatted (When e a) reached plain found = absurd (true≢false (sym plain))
   act_formatted _ reached plain found = refl
 
-  form_formatted : (form : Form) (reached : Bool) → is_ratfor form ≡ true → finds_labels u.formats reached form ≡ true → AllOf (IsFormatted notes) (said_by form)
+  form_formatted : (form : Form) (reached : Bool) → is_ratfor form ≡ true → finds_labels u.formats reached form ≡ true → AllOf (IsFormatted notes) (said_by MainUnit form)
   form_formatted (Statement a) reached is found = (act_formatted a reached is found, tt)
   form_formatted Bare reached is found = tt
   form_formatted RepeatHead reached is found = tt
@@ -111,7 +111,7 @@ module _ (u : UnitRules) (notes : List Note) (has : (m : ℕ) → u.formats m �
   form_formatted (ForHead a e b) reached is found = prepared_so (IsFormatted notes) (λ x f. refl) (λ f. refl) a e b is
   form_formatted (DoHead x a b d) reached is found = (refl, tt)
   form_formatted (LoopExit n) reached is found = tt
-  form_formatted ReturnHead reached is found = tt
+  form_formatted (ReturnHead e) reached is found = absurd (true≢false (sym is))
 
   pub parts_formatted : (vs : List Part) → AllFine u vs → AllParts (SaysSo (IsFormatted notes)) vs
   parts_formatted [] h = tt

@@ -3,10 +3,10 @@
 use Rattle.std.proofs.Common.{◌≡◌, ℕ, suc, ◌+◌, Bool, true, false, true≢false, List, [], ◌∷◌, ◌++◌, Option, Some, None, sym}
 use Rattle.std.specs.Prelude.{◌||◌, ⊤}
 use Rattle.ground.specs.declared.place.Place.{Place}
-use Rattle.f66_tree.specs.Syntax.{Text, Formula, Ref, Group, Not, Formulas, NoFormula, AndFormula, Par, Act, Assign, Goto, Sign, When, Loop, Continue, Line}
+use Rattle.f66_tree.specs.Syntax.{MainUnit, Text, Formula, Ref, Group, Not, Formulas, NoFormula, AndFormula, Par, Act, Assign, Goto, Sign, When, Loop, Continue, Line}
 use Rattle.rat_tree.specs.Syntax.{Command, Empty, Block, If, IfElse, While, For, Repeat, RepeatUntil, Do, Switch, Break, Next, Return, Plain, Labelled, Commands, NoCommand, AndCommand, Clauses, NoClause, AndClause}
 use Rattle.rat_check.specs.Parts.{Statement, Condition, Labels, no_label, Part, part, with_mark, with_labels, parts_of, parts_in, clause_parts, unit_parts}
-use Rattle.rat_check.specs.Said.{said_by, said_in, value_acts, said_if_any, condition_if_any}
+use Rattle.rat_check.specs.Said.{said_by, said_in, value_acts, said_if_any, condition_if_any, returned_if_any}
 use Rattle.rat_lower.specs.Code.{case_test, each_test, tests, default_label, bodies, Rings, jump, unless, here, with_test, with_act, with_return, labels, all_labels, code_of, all_code, has_switch, have_switch, stop_unless}
 use Rattle.rat_lower.proofs.Accepted.NoFault.{AllParts, AllOf, SaysSo}
 use Rattle.rat_lower.proofs.Soundness.Kept.{AllSay}
@@ -16,7 +16,7 @@ pub record KeepsBack (Good : Act → Type 0) (spare : Text) : Type 0 where
   pub denied : (e : Formula) (l : ℕ) → Good (When (Not (Group e)) (Goto l)) → Good (When e Continue)
   pub counts : (l : ℕ) (x : Text) (a b c : Par) → Good (Loop l x a b c) → Good (Loop 0 x a b c)
   pub compared : (e : Formula) (l : ℕ) → Good (When (case_test spare e) (Goto l)) → Good (Sign e 0 0 0)
-  pub stored : (e : Formula) → Good (Assign (Ref spare) e) → Good (Sign e 0 0 0)
+  pub stored : (x : Text) (e : Formula) → Good (Assign (Ref x) e) → Good (Sign e 0 0 0)
 
 join : (P : Part → Type 0) (xs ys : List Part) → AllParts P xs → AllParts P ys → AllParts P (xs ++ ys)
 join P [] ys h k = k
@@ -26,9 +26,9 @@ pub of_join : (Good : Act → Type 0) (xs ys : List Act) → AllOf Good xs → A
 of_join Good [] ys h k = k
 of_join Good (x ∷ xs) ys h k = (h.0, of_join Good xs ys h.1 k)
 
-all_said : (Good : Act → Type 0) (vs : List Part) → AllParts (SaysSo Good) vs → AllOf Good (said_in vs)
+all_said : (Good : Act → Type 0) (vs : List Part) → AllParts (SaysSo Good) vs → AllOf Good (said_in MainUnit vs)
 all_said Good [] h = tt
-all_said Good (v ∷ vs) h = of_join Good (said_by v.form) (said_in vs) h.0 (all_said Good vs h.1)
+all_said Good (v ∷ vs) h = of_join Good (said_by MainUnit v.form) (said_in MainUnit vs) h.0 (all_said Good vs h.1)
 
 module _ (Good : Act → Type 0) (made : ℕ → ℕ) (spare : Text) (keeps : KeepsBack Good spare) where
   abbrev P : Part → Type 0
@@ -49,9 +49,9 @@ module _ (Good : Act → Type 0) (made : ℕ → ℕ) (spare : Text) (keeps : Ke
   test_back p None l next h = (tt, h)
   test_back p (Some e) l next h = ((keeps.denied e l h.0, tt), h.1)
 
-  return_back : (p : Place) (o : Option Formula) (next : List Line) → All (with_return p o next) → All next
-  return_back p None next h = h.1
-  return_back p (Some e) next h = h.1.1
+  return_back : (p : Place) (o : Option Formula) (next : List Line) → All (with_return p o next) → AllOf Good (returned_if_any MainUnit o) × All next
+  return_back p None next h = (tt, h.1)
+  return_back p (Some e) next h = ((keeps.stored _ e h.0, tt), h.1.1)
 
   each_back : (p : Place) (es : Formulas) (l : ℕ) (next : List Line) → All (each_test spare p es l next) → AllOf Good (value_acts es) × All next
   each_back p NoFormula l next h = (tt, h)
@@ -107,10 +107,10 @@ module _ (Good : Act → Type 0) (made : ℕ → ℕ) (spare : Text) (keeps : Ke
         let all : List Line = bodies made spare cs (n + 1) (made n) ls last in
         let t = tests_back cs (n + 1) (jump p (default_label made spare cs (n + 1) (made n)) ∷ all) h.1 in
         let b = bodies_back cs k r false (n + 1) (made n) ls last t.0 t.1.1 in
-        (((keeps.stored e h.0, tt), b.0), b.1.1)
+        (((keeps.stored spare e h.0, tt), b.0), b.1.1)
     back (Break p m) k r o n ls next h = ((tt, tt), h.1)
     back (Next p m) k r o n ls next h = ((tt, tt), h.1)
-    back (Return p e) k r o n ls next h = ((tt, tt), return_back p e next h)
+    back (Return p e) k r o n ls next h = let a = return_back p e next h in ((a.0, tt), a.1)
     back (Plain l p a) k r o n ls next h = (marked k r o p (part k r l p (Statement a) ∷ []) ((h.0, tt), tt), h.1)
     back (Labelled l p c) k r o n ls next h =
         let a = back c k r (Some l) n ls next h.1 in
@@ -131,7 +131,7 @@ module _ (Good : Act → Type 0) (made : ℕ → ℕ) (spare : Text) (keeps : Ke
         ((t.0, join P (parts_in k (with_labels ss r) ss) (clause_parts k r (seen || fallback) cs) a.0 b.0), b.1)
 
   -- all that the source says
-  pub back_unit : (ss : Commands) (v : Bool) (p : Place) → All (all_code made spare ss 0 [] (stop_unless v p)) → AllOf Good (said_in (unit_parts ss))
+  pub back_unit : (ss : Commands) (v : Bool) (p : Place) → All (all_code made spare ss 0 [] (stop_unless v p)) → AllOf Good (said_in MainUnit (unit_parts ss))
   back_unit ss v p h = all_said Good (unit_parts ss) (back_all ss 0 (with_labels ss no_label) 0 [] (stop_unless v p) h).0
 
   -- ---- a switch stores a value under the spare name ----

@@ -23,8 +23,9 @@ use Rattle.f66_names.proofs.JumpLemmas.{IsScalar, passes_clean, goes_clean, stop
 use Rattle.f66_flow.specs.FlowRules.{breaks_flow}
 use Rattle.f66_flow.specs.declared.scope.Scope.TheVariants.{Whole}
 use Rattle.f66_soundness.specs.SoundUnits.{acts_in_unit}
-use Rattle.f66_check.specs.CheckRules.{breaks_at, breaks_line, unbuilt_line}
+use Rattle.f66_check.specs.CheckRules.{unbuilt_line}
 use Rattle.f66_check.specs.Answers.{IsSound}
+use Rattle.f66_check.proofs.PlainLemmas.{breaks_at, breaks_line, by_plain}
 use Rattle.rat_tree.specs.Syntax.{Commands}
 use Rattle.rat_lower.specs.Code.{have_switch, all_code, ends_so, stop_unless, declared_if, unit_code}
 use Rattle.rat_lower.proofs.Soundness.FlowRules.{KeepsFlow}
@@ -153,7 +154,7 @@ module _ (made : ℕ → ℕ) (spare : Text) (first last place : Place) (ss : Co
     kept i (Some s) e k h = or_from (breaks_flow Whole MainUnit lines i s k) _ h (line_clean (have_switch ss) refl anew i s e k)
 
     pub unit_sound : IsSound unit
-    unit_sound = record { built = ap (option_map (λ i. i + 1)) (all_built means_here lines (lines_built (have_switch ss))); clean = part }
+    unit_sound = by_plain unit (ap (option_map (λ i. i + 1)) (all_built means_here lines (lines_built (have_switch ss)))) part
       where
         part : (n : ℕ) (k : Rule) → breaks_at Whole unit n k ≡ false
         part zero k = flow.header k

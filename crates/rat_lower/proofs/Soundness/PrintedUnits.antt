@@ -7,9 +7,10 @@ use Rattle.std.proofs.lemmas.List.{length-append}
 use Rattle.std.proofs.lemmas.List.Folds.{list_any-append}
 use Rattle.ground.specs.declared.place.Place.{Place}
 use Rattle.rule_table.specs.declared.rule.Rule.TheVariants.{NameTooLong}
-use Rattle.f66_tree.specs.Syntax.{Text, Formula, Formulas, NoFormula, AndFormula, Par, Constant, Named, Act, Assign, Sign, When, Loop, Line}
+use Rattle.f66_tree.specs.Syntax.{MainUnit, Text, Formula, Formulas, NoFormula, AndFormula, Par, Constant, Named, Act, Assign, Sign, When, Loop, Line}
 use Rattle.f66_names.specs.Uses.{Usage, uses_of_par}
 use Rattle.f66_names.specs.NameRules.{has_name, is_long}
+use Rattle.unit_rules.specs.UnitRules.{has_long_name}
 use Rattle.stmt_text.specs.Characters.{comma, equals}
 use Rattle.stmt_text.specs.Texts.{par_text, is_one, step_text, loop_text}
 use Rattle.stmt_text.specs.Fitting.{FitsCards}
@@ -19,12 +20,12 @@ use Rattle.rat_check.specs.Parts.{Form, Bare, RepeatHead, Statement, Condition, 
 use Rattle.rat_check.specs.Said.{said_by, said_in, value_acts, said_if_any, condition_if_any}
 use Rattle.rat_check.specs.LongTexts.{is_long_expression, are_some_long, is_long_if_any, is_long_test, is_long_form}
 use Rattle.rat_check.specs.Rules.{is_plain, is_simple, is_ratfor, Before, behind, nothing_before, UnitRules, break_names}
-use Rattle.rat_check.specs.FirstFault.{unit_whole, fault_of_parts}
-use Rattle.rat_check.proofs.CleanLemmas.{and_true, AllKeep}
+use Rattle.rat_check.specs.FirstFault.{unit_whole}
+use Rattle.rat_check.proofs.CleanLemmas.{and_true, AllKeep, AllBuilt, Passed}
 use Rattle.rat_lower.specs.Code.{have_switch, all_code, ends_so, stop_unless, declared_if, unit_code}
 use Rattle.rat_lower.specs.Emitted.{spare_name}
 use Rattle.rat_lower.proofs.Accepted.NoFault.{AllOf}
-use Rattle.rat_lower.proofs.Checks.{clean, says}
+use Rattle.rat_lower.proofs.Checks.{says}
 use Rattle.rat_lower.proofs.Soundness.Kept.{AllSay, good_unit}
 use Rattle.rat_lower.proofs.Soundness.Texts.{LeavesRoom, Fits, condition_fits, value_fits, loop_fits, fits_keep, fits_values, declaration_fits, fit_cards}
 
@@ -84,7 +85,7 @@ step_fits (Some (Assign x e)) simple short = ((ltb-false 1320 _ short, tt), tt)
 step_fits (Some _) simple short = absurd (true≢false (sym simple))
 
 module _ (u : UnitRules) where
-  form_fits : (form : Form) (n : ℕ) → is_ratfor form ≡ true → is_long_form form ≡ false → break_names u.context u.said n (said_by form) NameTooLong ≡ false → AllOf Fits (said_by form)
+  form_fits : (form : Form) (n : ℕ) → is_ratfor form ≡ true → is_long_form form ≡ false → break_names u.context u.said n (said_by u.context.header form) NameTooLong ≡ false → AllOf Fits (said_by u.context.header form)
   form_fits Bare n built short named = tt
   form_fits RepeatHead n built short named = tt
   form_fits (Statement a) n built short named = ((ltb-false 1320 _ short, plain_room a built), tt)
@@ -96,17 +97,19 @@ module _ (u : UnitRules) where
       let first = or_parts (is_long_if_any a) (is_long_test e || is_long_if_any b) short in
       let more = or_parts (is_long_test e) (is_long_if_any b) first.1 in
       of_append (said_if_any a) (condition_if_any e ++ said_if_any b) (step_fits a simple.0 first.0) (of_append (condition_if_any e) (said_if_any b) (test_fits e more.0) (step_fits b simple.1 more.1))
-  form_fits (DoHead x a b c) n built short named = (loop_fits 0 x a b c (words_length x a b c (or_parts (has_name is_long (Loop 0 x a b c)) false named).0), tt)
+  form_fits (DoHead x a b c) n built short named = (loop_fits 0 x a b c (words_length x a b c (or_parts (has_name is_long (Loop 0 x a b c)) false (or_parts (has_long_name (Loop 0 x a b c)) false named).0).0), tt)
   form_fits (LoopExit m) n built short named = tt
-  form_fits ReturnHead n built short named = tt
+  form_fits (ReturnHead e) n built short named = absurd (true≢false (sym built))
 
-  said_fits : (b : Before) (vs : List Part) → AllKeep u b vs → AllOf Fits (said_in vs)
-  said_fits b [] h = tt
-  said_fits b (v ∷ vs) h = of_append (said_by v.form) (said_in vs) (form_fits v.form b.said (and_true (is_ratfor v.form) _ h.0).0 h.1.fits (h.1.named NameTooLong)) (said_fits (behind b v) vs h.2)
+  said_fits : (b : Before) (vs : List Part) → AllKeep u b vs → AllBuilt u.context vs → AllOf Fits (said_in u.context.header vs)
+  said_fits b [] h k = tt
+  said_fits b (v ∷ vs) h k =
+      of_append (said_by u.context.header v.form) (said_in u.context.header vs) (form_fits v.form b.said (and_true (is_ratfor v.form) _ k.0).0 h.0.fits (h.0.named NameTooLong))
+      (said_fits (behind u.context.header b v) vs h.1 k.1)
 
 -- ---- the unit ----
 
-module _ (ss : Commands) (accepted : fault_of_parts (unit_parts ss) ≡ None) (made : ℕ → ℕ) (first last : Place) where
+module _ (ss : Commands) (accepted : Passed (unit_parts ss)) (made : ℕ → ℕ) (first last : Place) where
   abbrev spare : Text
   spare = spare_name ss
 
@@ -117,7 +120,7 @@ module _ (ss : Commands) (accepted : fault_of_parts (unit_parts ss) ≡ None) (m
   code1 = all_code made spare ss 0 [] (stop_unless added last)
 
   code1_fits : AllSay Fits code1
-  code1_fits = good_unit Fits made spare fits_keep ss added last (λ e. fits_values spare refl) (says ss accepted Fits (said_fits (unit_whole (unit_parts ss)) nothing_before (unit_parts ss) (clean ss accepted).keep))
+  code1_fits = good_unit Fits made spare fits_keep ss added last (λ e. fits_values spare refl) (says ss accepted Fits (said_fits (unit_whole MainUnit (unit_parts ss)) nothing_before (unit_parts ss) accepted.keep accepted.built))
 
   pub unit_fits : AllByRecursion FitsCards (unit_code made spare first last ss)
   unit_fits = by (have_switch ss)

@@ -7,4 +7,4 @@ use Rattle.f66_names.specs.DeclarationViews.{context_in}
 use Rattle.rat_check.proofs.built.are_built.Given as goal
 
 abbrev pub invariant-loop-saying : goal.invariant-loop-saying
-invariant-loop-saying l = list_all (is_built (context_in l.names.declarations)) (acts_of (drop l.saying-index l.sayings)) ≡ list_all (is_built (context_in l.names.declarations)) (acts_of l.sayings)
+invariant-loop-saying l = list_all (is_built (context_in l.declarations)) (acts_of (drop l.saying-index l.sayings)) ≡ list_all (is_built (context_in l.declarations)) (acts_of l.sayings)
