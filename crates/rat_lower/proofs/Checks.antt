@@ -1,7 +1,9 @@
 -- A main unit without a fault agrees with the unit that it becomes, which breaks no rule on order, labels and DO ranges.
-use Rattle.std.proofs.Common.{◌≡◌, ◌≢◌, ℕ, ◌+◌, ◌≤◌, ◌<◌, Bool, true, false, List, [], ◌∷◌, length, None, arith}
+use Rattle.std.proofs.Common.{◌≡◌, ◌≢◌, ℕ, ◌+◌, ◌≤◌, ◌<◌, Bool, true, false, List, [], ◌∷◌, length, None, refl, subst, arith}
+use Rattle.std.specs.Prelude.{⊤}
 use Rattle.ground.specs.declared.place.Place.{Place}
-use Rattle.f66_tree.specs.Syntax.{Text, Act}
+use Rattle.f66_tree.specs.Syntax.{Text, MainUnit, Act}
+use Rattle.f66_tree.specs.Units.{name_of}
 use Rattle.f66_tree.specs.World.{Record, Lost}
 use Rattle.f66_tree.specs.Uses.{NamesOfAct}
 use Rattle.f66_tree.specs.Agreement.{Agrees}
@@ -85,8 +87,18 @@ module _ (ss : Commands) (accepted : fault_of_parts (unit_parts ss) ≡ None) wh
     apart : AllOf (λ a. (is_built u.context a ≡ true) × Lacking spare a) said
     apart = of_both (λ a. is_built u.context a ≡ true) (Lacking spare) said all_built lacking
 
-    lacks : Lacks spare ss
+    -- a main has no name
+    nameless : name_of MainUnit ≢ spare
+    nameless e = subst IsEmpty e tt
+      where
+        IsEmpty : Text → Type 0
+        IsEmpty [] = ⊤
+        IsEmpty (c ∷ cs) = ⊥
+
+    lacks : Lacks spare MainUnit ss
     lacks = record {
+      own = nameless;
+      dummies = refl;
       statements = all_named (λ x. x ≢ spare) ss (says (NamesOfAct (λ x. x ≢ spare)) (of_weaker (NamesOfAct (λ x. x ≢ spare)) (λ a. (is_built u.context a ≡ true) × Lacking spare a) said (built_names u.context spare) apart));
       dimensions =
           names_of_notes (λ x. x ≢ spare) u ss fine
@@ -94,7 +106,7 @@ module _ (ss : Commands) (accepted : fault_of_parts (unit_parts ss) ≡ None) wh
     }
 
     module _ (taken : List ℕ) (all : is_among taken ≡ with_own vs no_label) where
-      pub is_checked : IsChecked (labels_past taken) spare ss
+      pub is_checked : IsChecked (labels_past taken) spare MainUnit ss
       is_checked = record {
         built = clear.built;
         fits = clear.fits;
@@ -119,6 +131,6 @@ module _ (ss : Commands) (accepted : fault_of_parts (unit_parts ss) ≡ None) wh
         accepted_flow room finished =
             let made_range : (i : ℕ) → i < all_labels ss → (1 ≤ labels_past taken i) × (labels_past taken i ≤ 99999) = λ i lt. (labels_low taken i, omega (arith, made-low 23000 taken i, room, lt)) in
             let ranged : (l : ℕ) → 1 ≤ all_given l ss → (1 ≤ l) × (l ≤ 99999) = given_range u ss clean.unbroken in
-            let early : (v : Bool) → Early false (all_code (labels_past taken) spare ss 0 [] (stop_unless v last)) =
-            λ v. early_unit u (labels_past taken) spare ss v last (with_labels ss no_label) fine (early_parts u nothing_before vs clean.keep) in
+            let early : (v : Bool) → Early false (all_code (labels_past taken) spare (name_of MainUnit) ss 0 [] (stop_unless v last)) =
+            λ v. early_unit u (labels_past taken) spare (name_of MainUnit) ss v last (with_labels ss no_label) fine (early_parts u nothing_before vs clean.keep) in
             unit_flow (labels_past taken) spare first last ss is_checked ranged made_range early formatted finished

@@ -9,7 +9,7 @@ use Rattle.std.proofs.lemmas.Slice.Eq.{bytes_eq-Decides}
 use Rattle.rule_table.specs.FaultRules.{fault_of}
 use Rattle.rule_table.specs.declared.rule.Rule.TheVariants.{NameTooLong, OutOfProfileType, BadLabel, BadBreak, Unbuilt}
 use Rattle.f66_tree.specs.declared.expression.Operator.TheVariants.{Add, Lt, Eq}
-use Rattle.f66_tree.specs.Syntax.{Text, Pair, NoFormula, AndFormula, Constant, Act, Goto, Stop, Line}
+use Rattle.f66_tree.specs.Syntax.{Text, Pair, NoFormula, AndFormula, Header, MainUnit, SubUnit, FuncUnit, Constant, Act, Goto, Stop, Line}
 use Rattle.f66_tree.specs.World.{Record, Shown, Ended, Done, GoesOn}
 use Rattle.f66_tree.specs.Agreement.{Agrees}
 use Rattle.f66_tree.specs.OneUnit.{executed}
@@ -18,7 +18,9 @@ use Rattle.f66_tree.proofs.ExampleParts.{here, i, k, num, var, set, write, i3}
 use Rattle.rat_tree.specs.Syntax.{Command, Block, If, Repeat, RepeatUntil, Do, Switch, Break, Next, Return, Plain, Commands, NoCommand, AndCommand, NoClause, AndClause}
 use Rattle.rat_check.specs.Parts.{unit_parts}
 use Rattle.rat_check.specs.FirstFault.{fault_of_parts}
+use Rattle.name_alloc.specs.MadeNames.{next_name, unused, keeping_all}
 use Rattle.rat_lower.specs.Code.{unit_code}
+use Rattle.rat_lower.specs.Emitted.{unit_names}
 use Rattle.rat_lower.specs.OneUnit.{means}
 use Rattle.rat_lower.specs.Checked.{bit, all_given, Lacks, IsChecked}
 use Rattle.rat_lower.specs.Lowered.{source_labels, lowered}
@@ -101,13 +103,15 @@ other_i = differs i z refl
 other_k : k ≢ z
 other_k = differs k z refl
 
-lacks_z : Lacks z (all switch)
+lacks_z : Lacks z MainUnit (all switch)
 lacks_z = record {
+  own = differs [] z refl;
+  dummies = refl;
   statements = ((other_i, tt), ((other_i, ((tt, tt), ((other_k, tt), tt), ((tt, (tt, tt)), ((other_k, tt), tt), (tt, ((other_k, tt), tt), tt)))), ((tt, (other_k, tt)), (tt, tt))));
   dimensions = (tt, tt);
 }
 
-switch_checked : IsChecked (λ j. 23000 + j) z (all switch)
+switch_checked : IsChecked (λ j. 23000 + j) z MainUnit (all switch)
 switch_checked = record {
   built = (tt, (((tt, tt), ((tt, tt), ((tt, tt), tt))), (tt, (tt, tt))));
   fits = (tt, (((tt, tt), ((tt, tt), ((tt, tt), tt))), (tt, (tt, tt))));
@@ -118,7 +122,7 @@ switch_checked = record {
   spared = λ there. lacks_z;
 }
 
-switch_agrees : (input : List Record) → Agrees (means (all switch) input) (executed (unit_code (λ j. 23000 + j) z (here 1) (here 99) (all switch)) input)
+switch_agrees : (input : List Record) → Agrees (means (all switch) input) (executed (unit_code (λ j. 23000 + j) z MainUnit (here 1) (here 99) (all switch)) input)
 switch_agrees input = unit_agrees (λ j. 23000 + j) z (here 1) (here 99) (all switch) switch_checked input
 
 -- ---- loops, labels and jumps ----
@@ -197,3 +201,18 @@ unbuilt_refused = refl
 switch_accepted : fault_of_parts (unit_parts (all switch)) ≡ None
 unfolding digits
 switch_accepted = refl
+
+-- ---- spare names ----
+
+abbrev spare_of : Header → Text
+spare_of h = next_name (keeping_all (unit_names (record { header = h; body = all switch; place = here 1 })) unused)
+
+-- a main has the first, unless the unit itself or a dummy is named so
+first_spare : spare_of MainUnit ≡ z
+first_spare = refl
+
+past_own : spare_of (FuncUnit None z []) ≡ codes "Z00002"
+past_own = refl
+
+past_dummies : spare_of (SubUnit (codes "S") (codes "Z00002" ∷ z ∷ [])) ≡ codes "Z00003"
+past_dummies = refl

@@ -1,5 +1,5 @@
 -- What is added to the statements of a unit.
-use Rattle.std.specs.Prelude.{◌≡◌, ℕ, ◌+◌, Bool, List, ◌++◌, map, Option, Some, None, if◌then◌else◌}
+use Rattle.std.specs.Prelude.{◌≡◌, ℕ, ◌+◌, Bool, List, [], ◌∷◌, ◌++◌, map, Option, Some, None, if◌then◌else◌}
 use Rattle.std.specs.List.{flat_map}
 use Rattle.name_alloc.specs.Numbers.{made_number}
 use Rattle.name_alloc.specs.MadeNames.{next_name, unused, keeping_all}
@@ -7,15 +7,16 @@ use Rattle.f66_names.specs.Declaring.{declared_in}
 use Rattle.f66_names.specs.Uses.{uses_in}
 use Rattle.rat_check.specs.Parts.{unit_parts}
 use Rattle.rat_check.specs.Said.{said_in}
-use Rattle.f66_tree.specs.Syntax.{Text, Act, Line}
-use Rattle.rat_tree.specs.Syntax.{Command, Commands, Clauses}
+use Rattle.f66_tree.specs.Syntax.{Text, Header, MainUnit, SubUnit, FuncUnit, DataUnit, Act, Line}
+use Rattle.rat_tree.specs.Syntax.{Command, Commands, Clauses, RatRoutine}
 use Rattle.rat_lower.specs.Code.{Rings, labels, all_labels, clause_labels, code_of, all_code, tests, bodies}
 
--- the labels of the source, how many labels were made, and the name that holds the values of switches
+-- the labels of the source, how many labels were made, the name that holds the values of switches, and the unit's own name
 pub record Making : Type 0 where
   pub taken : List ℕ
   pub made : ℕ
   pub spare : Text
+  pub own : Text
 
 -- the labels that are made, where these are taken
 abbrev pub labels_past : List ℕ → ℕ → ℕ
@@ -29,7 +30,18 @@ named_in a = map (λ d. d.name) (declared_in a) ++ map (λ u. u.name) (uses_in a
 abbrev pub names_of : Commands → List Text
 names_of ss = flat_map named_in (said_in (unit_parts ss))
 
--- the spare name of a unit: Z with the first number from 1 on that none of its names has there
+-- the names in a header: the unit's own, and its dummies
+abbrev pub header_names : Header → List Text
+header_names MainUnit = []
+header_names (SubUnit x ds) = x ∷ ds
+header_names (FuncUnit t x ds) = x ∷ ds
+header_names DataUnit = []
+
+-- the names of a whole unit
+abbrev pub unit_names : RatRoutine → List Text
+unit_names u = header_names u.header ++ names_of u.body
+
+-- the spare name of a main unit: Z with the first number from 1 on that none of its names has there
 abbrev pub spare_name : Commands → Text
 spare_name ss = next_name (keeping_all (names_of ss) unused)
 
@@ -41,22 +53,25 @@ pub record Adds (old new : List Line) (f : List Line → List Line) : Type 0 whe
 pub record Emitted (s : Command) (ls : Rings) (before after : Making) (old new : List Line) : Type 0 where
   pub taken : after.taken ≡ before.taken
   pub spare : after.spare ≡ before.spare
+  pub own : after.own ≡ before.own
   pub made : after.made ≡ before.made + labels s
-  pub added : Adds old new (code_of (labels_past before.taken) before.spare s before.made ls)
+  pub added : Adds old new (code_of (labels_past before.taken) before.spare before.own s before.made ls)
 
 pub record AllEmitted (ss : Commands) (ls : Rings) (before after : Making) (old new : List Line) : Type 0 where
   pub taken : after.taken ≡ before.taken
   pub spare : after.spare ≡ before.spare
+  pub own : after.own ≡ before.own
   pub made : after.made ≡ before.made + all_labels ss
-  pub added : Adds old new (all_code (labels_past before.taken) before.spare ss before.made ls)
+  pub added : Adds old new (all_code (labels_past before.taken) before.spare before.own ss before.made ls)
 
 -- the case expressions of clauses were added to some statements, and their bodies to others
 pub record ClausesEmitted (cs : Clauses) (out : ℕ) (ls : Rings) (before after : Making) (old new inner outer : List Line) : Type 0 where
   pub taken : after.taken ≡ before.taken
   pub spare : after.spare ≡ before.spare
+  pub own : after.own ≡ before.own
   pub made : after.made ≡ before.made + clause_labels cs
-  pub tested : Adds old new (tests (labels_past before.taken) before.spare cs before.made)
-  pub added : Adds inner outer (bodies (labels_past before.taken) before.spare cs before.made out ls)
+  pub tested : Adds old new (tests (labels_past before.taken) before.spare before.own cs before.made)
+  pub added : Adds inner outer (bodies (labels_past before.taken) before.spare before.own cs before.made out ls)
 
 -- the label of the first default, among one more clause
 abbrev pub first_default : Option ℕ → Bool → ℕ → Option ℕ

@@ -1,32 +1,61 @@
 // The names of a unit's source.
 ghost use Rattle.std.specs.Prelude.{◌≡◌, [], map, length, IfOk, OnOk};
 ghost use Rattle.std.specs.List.{flat_map};
-ghost use Rattle.f66_tree.specs.Views.{declared_of};
+ghost use Rattle.f66_tree.specs.Views.{declared_of, header_of};
 ghost use Rattle.f66_names.specs.ActViews.{act_said, acts_of};
 ghost use Rattle.f66_names.specs.UseViews.{use_of};
 ghost use Rattle.name_alloc.specs.Numbers.{starting};
 ghost use Rattle.name_alloc.specs.MadeNames.{unused, keeping_all};
-ghost use Rattle.rat_tree.specs.Views.{commands};
-ghost use Rattle.rat_lower.specs.Emitted.{named_in, names_of};
+ghost use Rattle.rat_tree.specs.Views.{rat_routine_of};
+ghost use Rattle.rat_lower.specs.Emitted.{header_names, named_in, unit_names};
 
 use f66_names::{Saying, Use, declared_in_saying, uses_of_saying};
-use f66_tree::Declared;
+use f66_tree::{Declared, Header, Name};
 use name_alloc::Names;
 use rat_check::sayings;
 use rat_tree::RatUnit;
 use std::alloc::{AllocError, Global};
 
-/// The names of a unit are kept: those that it declares, and those that it uses.
+/// The names of a unit are kept: those in its header, those that it declares, and those that it uses.
 pub fn names_in(alloc: Global, unit: &RatUnit) -> Result<Names, AllocError>
-    ensures kept { IfOk result (λ names. names ≡ keeping_all (names_of (commands unit.now.body.items)) unused) }
-    ensures count { IfOk result (λ names. length names.kept ≡ length (names_of (commands unit.now.body.items))) }
+    ensures kept { IfOk result (λ names. names ≡ keeping_all (unit_names (rat_routine_of unit.now)) unused) }
+    ensures count { IfOk result (λ names. length names.kept ≡ length (unit_names (rat_routine_of unit.now))) }
     ensures made { IfOk result (λ names. names.numbers.made ≡ []) }
     ensures labels { IfOk result (λ names. names.labels ≡ starting 23000) }
 {
-    let sayings = sayings(alloc, unit)?;
     let mut names = Names::new(alloc);
-    keep_all(alloc, &mut names, &sayings)?;
+    keep_unit(alloc, &mut names, unit)?;
     Ok(names)
+}
+
+fn keep_unit(alloc: Global, names: &mut Names, unit: &RatUnit) -> Result<(), AllocError>
+    ensures { OnOk result (names.new ≡ keeping_all (unit_names (rat_routine_of unit.now)) names.old) }
+{
+    keep_header(names, &unit.header)?;
+    let sayings = sayings(alloc, unit)?;
+    keep_all(alloc, names, &sayings)?;
+    Ok(())
+}
+
+fn keep_header(names: &mut Names, header: &Header) -> Result<(), AllocError>
+    ensures { OnOk result (names.new ≡ keeping_all (header_names (header_of header.now)) names.old) }
+{
+    match header {
+        Header::Sub(name, dummies) | Header::Func(_, name, dummies) => {
+            names.keep_name(name)?;
+            keep_names(names, dummies)
+        }
+        Header::Main | Header::Block => Ok(()),
+    }
+}
+
+fn keep_names(names: &mut Names, list: &[Name]) -> Result<(), AllocError>
+    ensures { OnOk result (names.new ≡ keeping_all list.now names.old) }
+{
+    for name in list {
+        names.keep_name(name)?;
+    }
+    Ok(())
 }
 
 #[tactic(auto, using(crate::proofs::Emitting::SpareNames::name_steps))]

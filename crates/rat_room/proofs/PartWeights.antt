@@ -1,13 +1,13 @@
 -- What is read off a part weighs no more than the part.
-use Rattle.std.proofs.Common.{◌≡◌, ◌≤◌, ℕ, ◌+◌, arith, List, [], ◌∷◌, refl}
+use Rattle.std.proofs.Common.{◌≡◌, ◌≤◌, ℕ, ◌+◌, arith, List, [], ◌∷◌, length, refl}
 use Rattle.f66_tree.specs.Syntax.{Formula}
 use Rattle.f66_tree.specs.Views.{chained, listed}
 use Rattle.rat_tree.specs.Syntax.{Clauses, NoClause}
 use Rattle.rat_parse_values.specs.Kinds as part
 use Rattle.rat_parse_values.specs.Values.{Val}
 use Rattle.rat_parse_values.specs.Values as val
-use Rattle.rat_parse_values.specs.Parts.{as_exprs, as_joins, as_pars, as_declareds, as_entries, as_statements, as_clauses, with_declared, with_entry, with_clause, as_formula, as_par, as_act, as_command, as_range, formula_part, act_part, step_or_one}
-use Rattle.rat_room.proofs.Weights.{total, if_any, of_formula, of_formulas, of_par, of_entry, of_entries, of_declared, of_act, of_command, of_commands, of_clauses, of_range, weight}
+use Rattle.rat_parse_values.specs.Parts.{as_exprs, as_joins, as_names, as_pars, as_declareds, as_entries, as_statements, as_clauses, with_declared, with_entry, with_clause, as_formula, as_par, as_act, as_command, as_header, as_range, formula_part, act_part, step_or_one}
+use Rattle.rat_room.proofs.Weights.{total, if_any, of_formula, of_formulas, of_par, of_entry, of_entries, of_declared, of_act, of_command, of_commands, of_clauses, of_header, of_range, weight}
 
 -- ---- lists ----
 
@@ -71,6 +71,10 @@ pub pars_weigh : (v : Val) → total of_par (as_pars v) ≤ weight v
 pars_weigh (val.parameter (part.pars ps)) = omega arith
 pars_weigh _ = omega arith
 
+pub names_weigh : (v : Val) → length (as_names v) ≤ weight v
+names_weigh (val.parameter (part.names xs)) = omega arith
+names_weigh _ = omega arith
+
 pub declareds_weigh : (v : Val) → total of_declared (as_declareds v) ≤ weight v
 declareds_weigh (val.declaration (part.declareds ds)) = omega arith
 declareds_weigh _ = omega arith
@@ -82,6 +86,10 @@ entries_weigh _ = omega arith
 pub statements_weigh : (v : Val) → of_commands (as_statements v) ≤ weight v
 statements_weigh (val.statement (part.commands ss)) = omega arith
 statements_weigh _ = omega arith
+
+pub header_weighs : (v : Val) → of_header (as_header v) ≤ weight v
+header_weighs (val.unit (part.heading p h)) = omega arith
+header_weighs _ = omega arith
 
 pub clauses_weigh : (v : Val) → of_clauses (as_clauses v) ≤ weight v
 clauses_weigh (val.statement (part.clauses cs)) = omega arith

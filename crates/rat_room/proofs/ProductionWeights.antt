@@ -63,11 +63,16 @@ joined vs = omega (arith, made.joined_weighs (as_formula (at 1 vs)) (as_joins (a
 
 weighs : (p : Production) (vs : List Val) → Each IsEven vs →
     weight (build p vs) + credit (Nonterminal (nonterminal_of p)) ≤ total weight vs + total credit (symbols p)
-weighs productions.HeadedUnit vs e = omega (arith, nine vs, parts.statements_weigh (at 0 vs))
+weighs productions.HeadedUnit vs e = omega (arith, nine vs, parts.header_weighs (at 2 vs), parts.statements_weigh (at 0 vs))
 weighs productions.TypedUnit vs e = omega (arith, nine vs, made.typed_unit_weighs (at 3 vs) (at 2 vs) (as_statements (at 0 vs)), parts.statements_weigh (at 0 vs))
 weighs productions.MarkedMain vs e =
     omega (arith, nine vs, made.labelled_weighs (number_in (at 2 vs)) (at 1 vs), parts.command_weighs (labelled_value (number_in (at 2 vs)) (at 1 vs)), parts.statements_weigh (at 0 vs))
 weighs productions.PlainMain vs e = omega (arith, nine vs, parts.command_weighs (at 1 vs), parts.statements_weigh (at 0 vs))
+weighs productions.SubroutineHeader vs e = omega (arith, nine vs, parts.names_weigh (at 0 vs))
+weighs productions.FunctionHeader vs e = omega (arith, nine vs, parts.names_weigh (at 0 vs))
+weighs productions.TypedFunction vs e = omega (arith, nine vs, parts.names_weigh (at 0 vs))
+weighs productions.FormalList vs e = omega (arith, nine vs, parts.names_weigh (at 1 vs))
+weighs productions.MoreFormal vs e = omega (arith, nine vs, parts.names_weigh (at 0 vs))
 weighs productions.BodyMore vs e = omega (arith, nine vs, parts.command_weighs (at 1 vs), parts.statements_weigh (at 0 vs))
 weighs productions.StatementsMore vs e = omega (arith, nine vs, parts.command_weighs (at 1 vs), parts.statements_weigh (at 0 vs))
 weighs productions.Marked vs e = omega (arith, nine vs, made.labelled_weighs (number_in (at 1 vs)) (at 0 vs))

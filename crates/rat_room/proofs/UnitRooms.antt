@@ -1,5 +1,5 @@
 -- Each unit of a text that passes no limit weighs at most three for each of 20,000 tokens.
-use Rattle.std.proofs.Common.{◌≡◌, ◌≤◌, arith, List, [], ◌∷◌, None, refl, sym, subst}
+use Rattle.std.proofs.Common.{◌≡◌, ◌≤◌, ◌+◌, arith, List, [], ◌∷◌, None, refl, sym, subst}
 use Rattle.ground.specs.declared.token.Token.{Token}
 use Rattle.grammar.specs.declared.language.Symbol.{Symbol}
 use Rattle.grammar.specs.declared.language.Symbol.TheVariants.{Terminal, Nonterminal}
@@ -22,14 +22,14 @@ use Rattle.rat_parse_values.specs.Values as val
 use Rattle.rat_parse_values.specs.Parts.{as_units, as_program, with_routine}
 use Rattle.rat_parse.specs.Build.{build}
 use Rattle.rat_parse.specs.Ratfor.{grammar}
-use Rattle.rat_room.proofs.Weights.{of_commands, weight}
+use Rattle.rat_room.proofs.Weights.{of_commands, of_header, weight}
 use Rattle.rat_room.proofs.TreeWeights.{Each, offered_by, node_balance, balance_all}
 use Rattle.rat_room.proofs.PartWeights.{IsEven}
 use Rattle.rat_room.proofs.ProductionWeights.{credit, token, pays}
 use Rattle.rat_room.proofs.UnitTokens.{all_quiet_before, unit_few}
 
 abbrev pub IsLight : RatRoutine → Type 0
-IsLight u = of_commands u.body ≤ 60000
+IsLight u = of_header u.header + of_commands u.body ≤ 60000
 
 -- the units that a symbol gives are light
 abbrev LightAt : Symbol ATerminal ANonterminal → Val → Type 0

@@ -1,12 +1,13 @@
 -- How many labels and names the parts of a text give at most: the labels that are made for a statement and those that stand
 -- before one, and the names that its parts declare or use, each once more for each place where it stands.
-use Rattle.std.specs.Prelude.{ℕ, ◌+◌, List, [], ◌∷◌, Option, Some, None}
-use Rattle.f66_tree.specs.Syntax.{Formula, Ref, Item, Group, Plus, Minus, Not, Pair, Formulas, NoFormula, AndFormula, Par, Constant, Named, Declared, Entry, One, Many, Entries, NoEntry, AndEntry, Act, Assign, Computed, Sign, When, Loop, Read, Write, Typed, Dimension}
+use Rattle.std.specs.Prelude.{ℕ, ◌+◌, List, [], ◌∷◌, length, Option, Some, None}
+use Rattle.f66_tree.specs.Syntax.{Header, Formula, Ref, Item, Group, Plus, Minus, Not, Pair, Formulas, NoFormula, AndFormula, Par, Constant, Named, Declared, Entry, One, Many, Entries, NoEntry, AndEntry, Act, Assign, Computed, Sign, When, Loop, Read, Write, Typed, Dimension}
 use Rattle.rat_tree.specs.Syntax.{Command, Empty, Block, If, IfElse, While, For, Repeat, RepeatUntil, Do, Switch, Break, Next, Return, Plain, Labelled, Commands, NoCommand, AndCommand, Clauses, NoClause, AndClause}
 use Rattle.rat_parse_values.specs.Kinds.{Range, LoopRest, ExpressionVal, ParameterVal, TransferVal, DeclarationVal, StatementVal, UnitVal}
 use Rattle.rat_parse_values.specs.Kinds as part
 use Rattle.rat_parse_values.specs.Values.{Val}
 use Rattle.rat_parse_values.specs.Values as val
+use Rattle.rat_lower.specs.Emitted.{header_names}
 
 abbrev pub total : {A : Type 0} → (A → ℕ) → List A → ℕ
 total f [] = 0
@@ -115,6 +116,7 @@ abbrev pub of_parameter : ParameterVal → ℕ
 of_parameter (part.par p) = of_par p
 of_parameter (part.pars ps) = total of_par ps
 of_parameter (part.range r) = of_range r
+of_parameter (part.names xs) = length xs
 of_parameter _ = 0
 
 abbrev pub of_declaration : DeclarationVal → ℕ
@@ -136,9 +138,13 @@ of_statement (part.commands ss) = of_commands ss
 of_statement (part.clause d) = of_clauses (d NoClause)
 of_statement (part.clauses cs) = of_clauses cs
 
+abbrev pub of_header : Header → ℕ
+of_header h = length (header_names h)
+
 -- what stands around a unit is not counted
 abbrev pub of_unit : UnitVal → ℕ
-of_unit (part.routine u) = of_commands u.body
+of_unit (part.heading p h) = of_header h
+of_unit (part.routine u) = of_header u.header + of_commands u.body
 of_unit _ = 0
 
 abbrev pub weight : Val → ℕ

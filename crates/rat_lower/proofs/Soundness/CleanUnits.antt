@@ -12,7 +12,7 @@ use Rattle.rule_table.specs.declared.rule.Rule.TheVariants.{DuplicateName}
 use Rattle.f66_tree.specs.declared.declaration.TypeWord.{TypeWord}
 use Rattle.f66_tree.specs.declared.declaration.TypeWord.TheVariants.{Integer}
 use Rattle.f66_tree.specs.Syntax.{Text, Par, Declared, Act, Typed, Dimension, Common, MainUnit, Line}
-use Rattle.f66_tree.specs.Units.{is_note, Note, Context, notes_of, if_any, sizes_in, sizes_by, sizes_of, type_in, by_letter, kind_by}
+use Rattle.f66_tree.specs.Units.{name_of, is_note, Note, Context, notes_of, if_any, sizes_in, sizes_by, sizes_of, type_in, by_letter, kind_by}
 use Rattle.f66_tree.specs.Evaluation.{AnIntrinsic, Intrinsic, known, intrinsics, array_or}
 use Rattle.name_alloc.specs.Numbers.{next_number}
 use Rattle.name_alloc.specs.MadeNames.{made_name, unused, keeping_all}
@@ -208,10 +208,10 @@ module _ (ss : Commands) (accepted : fault_of_parts (unit_parts ss) ≡ None) (f
   c = context_of_parts vs
 
   abbrev added : Bool
-  added = ends_so false (all_code made q ss 0 [] [])
+  added = ends_so false (all_code made q (name_of MainUnit) ss 0 [] [])
 
   abbrev code1 : List Line
-  code1 = all_code made q ss 0 [] (stop_unless added last)
+  code1 = all_code made q (name_of MainUnit) ss 0 [] (stop_unless added last)
 
   abbrev lines_by : Bool → List Line
   lines_by v = declared_if v first q code1
@@ -238,7 +238,7 @@ module _ (ss : Commands) (accepted : fault_of_parts (unit_parts ss) ≡ None) (f
 
   same_notes : noted (acts_in_unit code1) ≡ noted said
   same_notes =
-      noted_lines code1 ∙ ap stripped (notes_whole made q ss added last ∙ unit_notes (unit_whole vs) ss (fine ss accepted)) ∙ sym (noted_said (unit_whole vs) vs (fine ss accepted))
+      noted_lines code1 ∙ ap stripped (notes_whole made q (name_of MainUnit) ss added last ∙ unit_notes (unit_whole vs) ss (fine ss accepted)) ∙ sym (noted_said (unit_whole vs) vs (fine ss accepted))
 
   either_way : (w : Bool) (others : List Par) → (if w then others else others) ≡ others
   either_way true others = refl
@@ -275,7 +275,7 @@ module _ (ss : Commands) (accepted : fault_of_parts (unit_parts ss) ≡ None) (f
   code_right : AllUses (Right c said q) (flat_map uses_in (acts_in_unit code1))
   code_right =
       lines_used (Right c said q) code1
-      (good_unit (Uses (Right c said q)) made q (uses_keep (Right c said q)) ss added last (λ e. uses_keep_values (Right c said q) q (inl refl))
+      (good_unit (Uses (Right c said q)) made q (name_of MainUnit) (uses_keep (Right c said q)) ss added last (λ e. uses_keep_values (Right c said q) q (inl refl))
       (says ss accepted (Uses (Right c said q)) (used_said (Right c said q) said (uses_more (λ u. (u.name ≢ q) × (misuses c said u ≡ false)) (Right c said q) (flat_map uses_in said) (λ u i h. inr h) used_right))))
 
   acts_right : (v : Bool) → AllUses (Right c said q) (flat_map uses_in (acts_by v))
@@ -283,8 +283,8 @@ module _ (ss : Commands) (accepted : fault_of_parts (unit_parts ss) ≡ None) (f
   acts_right false = code_right
 
   back_said : (N : Usage → Type 0) (v : Bool) → AllUses N (flat_map uses_in (acts_by v)) → AllUses N (flat_map uses_in said)
-  back_said N true h = said_used N said (back_unit (Uses N) made q (uses_back N q) ss added last (used_lines N code1 h))
-  back_said N false h = said_used N said (back_unit (Uses N) made q (uses_back N q) ss added last (used_lines N code1 h))
+  back_said N true h = said_used N said (back_unit (Uses N) made q (name_of MainUnit) (uses_back N q) ss added last (used_lines N code1 h))
+  back_said N false h = said_used N said (back_unit (Uses N) made q (name_of MainUnit) (uses_back N q) ss added last (used_lines N code1 h))
 
   said_right : (v : Bool) → AllUses (λ u. misuses (d v) (acts_by v) u ≡ false) (flat_map uses_in said)
   said_right v =
@@ -353,7 +353,7 @@ module _ (ss : Commands) (accepted : fault_of_parts (unit_parts ss) ≡ None) (f
   typed_integer unsaid = ap (λ b. if b || false then Integer else type_in q (noted (acts_in_unit code1)) unsaid) itself
 
   spare_there : have_switch ss ≡ true → (N : Usage → Type 0) → AllUses N (flat_map uses_in (acts_by true)) → N (usage q Alone)
-  spare_there e N h = (store_in (Uses N) made q (uses_back N q) ss 0 [] (stop_unless added last) e (used_lines N code1 h)).1.0
+  spare_there e N h = (store_in (Uses N) made q (name_of MainUnit) (uses_back N q) ss 0 [] (stop_unless added last) e (used_lines N code1 h)).1.0
 
   scalar : have_switch ss ≡ true → IsScalar (d true) (acts_by true) q
   scalar e = record {
@@ -366,7 +366,7 @@ module _ (ss : Commands) (accepted : fault_of_parts (unit_parts ss) ≡ None) (f
     used = spare_right c (d true) said (acts_by true) q (classed c (d true) K (λ x k. same_forms true x) (same_types true) (same_foreign true) refl) (acts_right true) (plain true) (λ f none. spare_there e (λ w. f w ≡ None) none);
   }
 
-  pub unit_is_sound : (place : Place) → KeepsFlow (unit_code made q first last ss) → IsSound (record { header = MainUnit; lines = unit_code made q first last ss; place = place })
+  pub unit_is_sound : (place : Place) → KeepsFlow (unit_code made q MainUnit first last ss) → IsSound (record { header = MainUnit; lines = unit_code made q MainUnit first last ss; place = place })
   unit_is_sound place flow =
       let v = have_switch ss in
       unit_sound made q first last place ss flow (says ss accepted (IsBuiltAct (d v)) (built_said v)) (says ss accepted (IsCleanAct (d v) (acts_by v)) (clean_said v)) (lines_anew v)

@@ -263,21 +263,21 @@ labelled (Return p e) k r m begun h = started (Return p e) k r (Some m) begun re
 abbrev Within : Bool → Bool → Type 0
 Within inner outer = inner ≡ true → outer ≡ true
 
-module _ (u : UnitRules) (made : ℕ → ℕ) (spare : Text) where
+module _ (u : UnitRules) (made : ℕ → ℕ) (spare own : Text) where
   abbrev P : Part → Type 0
   P = Fine u
 
   -- a statement that has begun, before others
   quiet_code : (c : Command) (k : ℕ) (r : Labels) (l : Option ℕ) (begun inner : Bool) (n : ℕ) (ls : Rings) (next : List Line) →
-      AllFine u (parts_of k r l c) → Begun begun (parts_of k r l c) → ((d : Bool) → Within d (after begun (parts_of k r l c)) → Early d next) → Early inner (code_of made spare c n ls next)
+      AllFine u (parts_of k r l c) → Begun begun (parts_of k r l c) → ((d : Bool) → Within d (after begun (parts_of k r l c)) → Early d next) → Early inner (code_of made spare own c n ls next)
   quiet_code c k r l begun inner n ls next fine h rest =
       let says = good NotSpecial u c k r l (both_good NotSpecial u (parts_of k r l c) fine (all_quiet_so u (parts_of k r l c) fine h.quiet)) in
-      none_late inner (code_of made spare c n ls next)
-      (good_code NotSpecial made spare special_keeps c n ls next (λ e. special_values spare) says (all_begun true next refl (rest true (λ e. h.ends))))
+      none_late inner (code_of made spare own c n ls next)
+      (good_code NotSpecial made spare own special_keeps c n ls next (λ e. special_values spare) says (all_begun true next refl (rest true (λ e. h.ends))))
 
   mutual
     early_code : (c : Command) (k : ℕ) (r : Labels) (l : Option ℕ) (begun inner : Bool) (n : ℕ) (ls : Rings) (next : List Line) → Within inner begun →
-        AllFine u (parts_of k r l c) → EarlyParts begun (parts_of k r l c) → ((d : Bool) → Within d (after begun (parts_of k r l c)) → Early d next) → Early inner (code_of made spare c n ls next)
+        AllFine u (parts_of k r l c) → EarlyParts begun (parts_of k r l c) → ((d : Bool) → Within d (after begun (parts_of k r l c)) → Early d next) → Early inner (code_of made spare own c n ls next)
     early_code (Empty p) k r l begun inner n ls next may fine h rest = rest inner (λ e. right_is (begins l Bare) begun (may e))
     early_code (Block p ss) k r l begun inner n ls next may fine h rest =
         early_all ss k (with_labels ss r) (begins l Bare || begun) inner n ls next (λ e. right_is (begins l Bare) begun (may e)) fine.1 h.1 rest
@@ -295,7 +295,7 @@ module _ (u : UnitRules) (made : ℕ → ℕ) (spare : Text) where
     early_code (Labelled m p c) k r l begun inner n ls next may fine h rest = marked l fine h rest
       where
         marked : (o : Option ℕ) → AllFine u (with_mark k r o p (parts_of k r (Some m) c)) → EarlyParts begun (with_mark k r o p (parts_of k r (Some m) c)) →
-            ((d : Bool) → Within d (after begun (with_mark k r o p (parts_of k r (Some m) c))) → Early d next) → Early inner (here m p ∷ code_of made spare c n ls next)
+            ((d : Bool) → Within d (after begun (with_mark k r o p (parts_of k r (Some m) c))) → Early d next) → Early inner (here m p ∷ code_of made spare own c n ls next)
         marked None f g go = (refl, quiet_code c k r (Some m) begun true n ls next f (labelled c k r m begun g) go)
         marked (Some o) f g go = (refl, quiet_code c k r (Some m) true true n ls next f.1 (labelled c k r m true g.1) go)
     early_code (If p e c) k r l begun inner n ls next may fine h rest = quiet_code (If p e c) k r l begun inner n ls next fine (started (If p e c) k r l begun refl h) rest
@@ -311,20 +311,20 @@ module _ (u : UnitRules) (made : ℕ → ℕ) (spare : Text) where
     early_code (Return p e) k r l begun inner n ls next may fine h rest = quiet_code (Return p e) k r l begun inner n ls next fine (started (Return p e) k r l begun refl h) rest
 
     early_all : (ss : Commands) (k : ℕ) (r : Labels) (begun inner : Bool) (n : ℕ) (ls : Rings) (next : List Line) → Within inner begun →
-        AllFine u (parts_in k r ss) → EarlyParts begun (parts_in k r ss) → ((d : Bool) → Within d (after begun (parts_in k r ss)) → Early d next) → Early inner (all_code made spare ss n ls next)
+        AllFine u (parts_in k r ss) → EarlyParts begun (parts_in k r ss) → ((d : Bool) → Within d (after begun (parts_in k r ss)) → Early d next) → Early inner (all_code made spare own ss n ls next)
     early_all NoCommand k r begun inner n ls next may fine h rest = rest inner may
     early_all (AndCommand c ss) k r begun inner n ls next may fine h rest =
-        let own = parts_of k r None c in
+        let these = parts_of k r None c in
         let others = parts_in k r ss in
-        let f = split P own others fine in
-        let g = early_split begun own others h in
-        early_code c k r None begun inner n ls (all_code made spare ss (n + labels c) ls next) may f.0 g.0
-        (λ d w. early_all ss k r (after begun own) d (n + labels c) ls next w f.1 g.1 (λ d1 w1. rest d1 (λ e. after_append begun own others ∙ w1 e)))
+        let f = split P these others fine in
+        let g = early_split begun these others h in
+        early_code c k r None begun inner n ls (all_code made spare own ss (n + labels c) ls next) may f.0 g.0
+        (λ d w. early_all ss k r (after begun these) d (n + labels c) ls next w f.1 g.1 (λ d1 w1. rest d1 (λ e. after_append begun these others ∙ w1 e)))
 
   early_stop : (v d : Bool) (p : Place) → Early d (stop_unless v p)
   early_stop true d p = tt
   early_stop false d p = (refl, tt)
 
   -- the statements of a whole unit, without a declaration before them
-  pub early_unit : (ss : Commands) (v : Bool) (p : Place) (r : Labels) → AllFine u (parts_in 0 r ss) → EarlyParts false (parts_in 0 r ss) → Early false (all_code made spare ss 0 [] (stop_unless v p))
+  pub early_unit : (ss : Commands) (v : Bool) (p : Place) (r : Labels) → AllFine u (parts_in 0 r ss) → EarlyParts false (parts_in 0 r ss) → Early false (all_code made spare own ss 0 [] (stop_unless v p))
   early_unit ss v p r fine h = early_all ss 0 r false false 0 [] (stop_unless v p) (λ e. e) fine h (λ d w. early_stop v d p)

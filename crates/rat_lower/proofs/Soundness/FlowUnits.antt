@@ -1,14 +1,14 @@
 -- The unit that a main unit becomes breaks no rule on order, labels and DO ranges.
-use Rattle.std.proofs.Common.{◌≡◌, ℕ, zero, suc, ◌+◌, ◌≤◌, ◌<◌, Bool, true, false, true≢false, List, [], ◌∷◌, ◌++◌, Option, refl, sym, ap, ◌∙◌, subst, arith}
-use Rattle.std.specs.Prelude.{is_some, if◌then◌else◌}
+use Rattle.std.proofs.Common.{◌≡◌, ℕ, zero, suc, ◌+◌, ◌≤◌, ◌<◌, Bool, true, false, true≢false, List, [], ◌∷◌, Option, refl, sym, ap, ◌∙◌, subst, arith}
+use Rattle.std.specs.Prelude.{is_some}
 use Rattle.std.specs.List.{list_all}
 use Rattle.ground.specs.declared.place.Place.{Place}
 use Rattle.f66_tree.specs.Fields.{Fields}
-use Rattle.f66_tree.specs.Syntax.{Text, Act, Line}
-use Rattle.f66_tree.specs.Units.{is_note, Note, notes_of, format_of}
+use Rattle.f66_tree.specs.Syntax.{MainUnit, Text, Act, Line}
+use Rattle.f66_tree.specs.Units.{name_of, Note, notes_of, format_of}
 use Rattle.f66_flow.specs.Acts.{formats_named}
 use Rattle.rat_tree.specs.Syntax.{Commands}
-use Rattle.rat_lower.specs.Code.{have_switch, all_labels, all_code, is_transfer, ends_so, stop_unless, declared_if, unit_code}
+use Rattle.rat_lower.specs.Code.{have_switch, all_labels, all_code, ends_so, stop_unless, declared_if, unit_code}
 use Rattle.rat_lower.specs.OneUnit.{notes_of_unit}
 use Rattle.rat_lower.specs.Checked.{all_given, IsChecked}
 use Rattle.rat_lower.proofs.Simulation.Counts.{occurs, occurs-all, ends, ends-all, all_heads, all_dos}
@@ -20,21 +20,6 @@ use Rattle.rat_lower.proofs.Soundness.Kept.{AllSay, AllSayGood, good_unit}
 use Rattle.rat_lower.proofs.Soundness.FormatsNamed.{IsFormatted, formatted_keeps, formatted_values, formats_named_right}
 use Rattle.rat_lower.proofs.Soundness.Early.{Early, not_late}
 use Rattle.rat_lower.proofs.Soundness.FlowRules.{Orderly, KeepsFlow, flow_kept}
-
--- ---- how a unit ends ----
-
--- a STOP behind statements, unless they end with a transfer
-pub ends_with_stop : (p : Place) (code : List Line) (other : Bool) → ends_so other (code ++ stop_unless (ends_so other code) p) ≡ true
-ends_with_stop p [] true = refl
-ends_with_stop p [] false = refl
-ends_with_stop p (s ∷ rest) other = by (is_note s.act) (λ o. ends_with_stop p rest o)
-  where
-    by : (v : Bool) → ((o : Bool) → ends_so o (rest ++ stop_unless (ends_so o rest) p) ≡ true) →
-        (let b : Bool = if v then ends_so other rest else ends_so (is_transfer s.act) rest in
-        let code : List Line = rest ++ stop_unless b p in
-        (if v then ends_so other code else ends_so (is_transfer s.act) code) ≡ true)
-    by true ih = ih other
-    by false ih = ih (is_transfer s.act)
 
 -- ---- formats ----
 
@@ -53,19 +38,19 @@ declared_formats l false p spare code = refl
 
 -- ---- the unit ----
 
-module _ (made : ℕ → ℕ) (spare : Text) (first last : Place) (ss : Commands) (checked : IsChecked made spare ss) (given_ranged : (l : ℕ) → 1 ≤ all_given l ss → (1 ≤ l) × (l ≤ 99999)) (made_ranged : (i : ℕ) → i < all_labels ss → (1 ≤ made i) × (made i ≤ 99999))
-    (early1 : (v : Bool) → Early false (all_code made spare ss 0 [] (stop_unless v last))) (formatted : AllSayGood (IsFormatted (notes_of_unit ss)) ss) (finished : ends_so false (unit_code made spare first last ss) ≡ true) where
+module _ (made : ℕ → ℕ) (spare : Text) (first last : Place) (ss : Commands) (checked : IsChecked made spare MainUnit ss) (given_ranged : (l : ℕ) → 1 ≤ all_given l ss → (1 ≤ l) × (l ≤ 99999)) (made_ranged : (i : ℕ) → i < all_labels ss → (1 ≤ made i) × (made i ≤ 99999))
+    (early1 : (v : Bool) → Early false (all_code made spare (name_of MainUnit) ss 0 [] (stop_unless v last))) (formatted : AllSayGood (IsFormatted (notes_of_unit ss)) ss) (finished : ends_so false (unit_code made spare MainUnit first last ss) ≡ true) where
   abbrev added : Bool
-  added = ends_so false (all_code made spare ss 0 [] [])
+  added = ends_so false (all_code made spare (name_of MainUnit) ss 0 [] [])
 
   abbrev stop : List Line
   stop = stop_unless added last
 
   abbrev code1 : List Line
-  code1 = all_code made spare ss 0 [] stop
+  code1 = all_code made spare (name_of MainUnit) ss 0 [] stop
 
   abbrev code : List Line
-  code = unit_code made spare first last ss
+  code = unit_code made spare MainUnit first last ss
 
   -- the label of a DO's last statement
   abbrev IsEnd : ℕ → Type 0
@@ -84,10 +69,10 @@ module _ (made : ℕ → ℕ) (spare : Text) (first last : Place) (ss : Commands
   undeclared false l = (refl, refl)
 
   all_occur : (l : ℕ) → occurs l code ≡ all_heads made l ss 0 + all_dos made l ss 0
-  all_occur l = omega (arith, (undeclared (have_switch ss) l).0, occurs-all made spare l ss 0 [] stop checked.built, (no_stop added l).0)
+  all_occur l = omega (arith, (undeclared (have_switch ss) l).0, occurs-all made spare (name_of MainUnit) l ss 0 [] stop checked.built, (no_stop added l).0)
 
   all_end : (l : ℕ) → ends l code ≡ all_dos made l ss 0
-  all_end l = omega (arith, (undeclared (have_switch ss) l).1, ends-all made spare l ss 0 [] stop checked.built, (no_stop added l).1)
+  all_end l = omega (arith, (undeclared (have_switch ss) l).1, ends-all made spare (name_of MainUnit) l ss 0 [] stop checked.built, (no_stop added l).1)
 
   unique : AreUnique code
   unique l = omega (arith, all_occur l, once l)
@@ -100,14 +85,14 @@ module _ (made : ℕ → ℕ) (spare : Text) (first last : Place) (ss : Commands
   within false = within_self code1
 
   lists : ListsLead code unique IsEnd (ss ∷ []) stop
-  lists = lists_more code unique IsEnd made spare ss 0 [] stop [] checked.built (λ q h. h) (within (have_switch ss)) (λ m e. absurd (true≢false (sym e)))
+  lists = lists_more code unique IsEnd made spare (name_of MainUnit) ss 0 [] stop [] checked.built (λ q h. h) (within (have_switch ss)) (λ m e. absurd (true≢false (sym e)))
 
   stop_leads : (v : Bool) → AllLead code unique IsEnd (stop_unless v last)
   stop_leads true = tt
   stop_leads false = (record { targets = tt; ending = tt }, tt)
 
   code1_leads : AllLead code unique IsEnd code1
-  code1_leads = lead_all code unique IsEnd made spare ss 0 0 [] (ss ∷ []) stop checked.built checked.fits checked.lands (λ q h. h) (λ k lt. absurd (omega (arith, lt))) lists (within (have_switch ss)) (stop_leads added)
+  code1_leads = lead_all code unique IsEnd made spare (name_of MainUnit) ss 0 0 [] (ss ∷ []) stop checked.built checked.fits checked.lands (λ q h. h) (λ k lt. absurd (omega (arith, lt))) lists (within (have_switch ss)) (stop_leads added)
 
   code_leads : AllLead code unique IsEnd code
   code_leads = by (have_switch ss)
@@ -129,10 +114,10 @@ module _ (made : ℕ → ℕ) (spare : Text) (first last : Place) (ss : Commands
           subst (λ k. (1 ≤ k) × (k ≤ 99999)) m.is (made_ranged m.index (omega (arith, m.below)))
 
   same_formats : (l : ℕ) → format_of l (notes_of code) ≡ format_of l (notes_of_unit ss)
-  same_formats l = declared_formats l (have_switch ss) first spare code1 ∙ ap (format_of l) (notes_whole made spare ss added last)
+  same_formats l = declared_formats l (have_switch ss) first spare code1 ∙ ap (format_of l) (notes_whole made spare (name_of MainUnit) ss added last)
 
   code1_formatted : AllSay (IsFormatted (notes_of_unit ss)) code1
-  code1_formatted = good_unit (IsFormatted (notes_of_unit ss)) made spare (formatted_keeps (notes_of_unit ss)) ss added last (λ e. formatted_values (notes_of_unit ss) spare) formatted
+  code1_formatted = good_unit (IsFormatted (notes_of_unit ss)) made spare (name_of MainUnit) (formatted_keeps (notes_of_unit ss)) ss added last (λ e. formatted_values (notes_of_unit ss) spare) formatted
 
   code_formatted : AllSay (IsFormatted (notes_of code)) code
   code_formatted = say_more (IsFormatted (notes_of code)) (IsFormatted (notes_of_unit ss)) code (formatted_alike (notes_of_unit ss) (notes_of code) same_formats) (by (have_switch ss))

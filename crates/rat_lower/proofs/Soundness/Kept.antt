@@ -73,7 +73,7 @@ pub record KeepsValues (Good : Act → Type 0) (spare : Text) : Type 0 where
   pub compared : (e : Formula) (l : ℕ) → Good (Sign e 0 0 0) → Good (When (case_test spare e) (Goto l))
   pub stored : (e : Formula) → Good (Sign e 0 0 0) → Good (Assign (Ref spare) e)
 
-module _ (Good : Act → Type 0) (made : ℕ → ℕ) (spare : Text) (keeps : Keeps Good) where
+module _ (Good : Act → Type 0) (made : ℕ → ℕ) (spare own : Text) (keeps : Keeps Good) where
   abbrev All : List Line → Type 0
   All = AllSay Good
 
@@ -89,19 +89,19 @@ module _ (Good : Act → Type 0) (made : ℕ → ℕ) (spare : Text) (keeps : Ke
   good_each v p NoFormula l next h k = k
   good_each v p (AndFormula e es) l next h k = (v.compared e l h.0, good_each v p es l next h.1 k)
 
-  good_tests : KeepsValues Good spare → (cs : Clauses) (m : ℕ) (next : List Line) → ClausesSayGood Good cs → All next → All (tests made spare cs m next)
+  good_tests : KeepsValues Good spare → (cs : Clauses) (m : ℕ) (next : List Line) → ClausesSayGood Good cs → All next → All (tests made spare own cs m next)
   good_tests v NoClause m next h k = k
   good_tests v (AndClause es fallback ss p cs) m next h k =
-      good_each v p es (made m) (tests made spare cs (m + 1 + all_labels ss) next) h.0 (good_tests v cs (m + 1 + all_labels ss) next h.2 k)
+      good_each v p es (made m) (tests made spare own cs (m + 1 + all_labels ss) next) h.0 (good_tests v cs (m + 1 + all_labels ss) next h.2 k)
 
   mutual
-    pub good_code : (s : Command) (n : ℕ) (ls : Rings) (next : List Line) → (has_switch s ≡ true → KeepsValues Good spare) → SaysGood Good s → All next → All (code_of made spare s n ls next)
+    pub good_code : (s : Command) (n : ℕ) (ls : Rings) (next : List Line) → (has_switch s ≡ true → KeepsValues Good spare) → SaysGood Good s → All next → All (code_of made spare own s n ls next)
     good_code (Empty p) n ls next may h k = k
     good_code (Block p ss) n ls next may h k = good_all ss n ls next may h k
     good_code (If p e s) n ls next may h k = (keeps.denied e (made n) h.0, good_code s (n + 1) ls (here (made n) p ∷ next) may h.1 (keeps.passes, k))
     good_code (IfElse p e s t) n ls next may h k =
         let last : List Line = here (made (n + 1)) p ∷ next in
-        let second : List Line = code_of made spare t (n + 2 + labels s) ls last in
+        let second : List Line = code_of made spare own t (n + 2 + labels s) ls last in
         let k_second : All second = good_code t (n + 2 + labels s) ls last (λ e1. may (or_right (has_switch s) (has_switch t) e1)) h.2 (keeps.passes, k) in
         (keeps.denied e (made n) h.0, good_code s (n + 2) ls (jump p (made (n + 1)) ∷ here (made n) p ∷ second) (λ e1. may (or_left (has_switch s) (has_switch t) e1)) h.1 (keeps.goes (made (n + 1)), (keeps.passes, k_second)))
     good_code (While p e s) n ls next may h k =
@@ -110,7 +110,7 @@ module _ (Good : Act → Type 0) (made : ℕ → ℕ) (spare : Text) (keeps : Ke
     good_code (For p first e step s) n ls next may h k =
         let out : List Line = jump p (made n) ∷ here (made (n + 2)) p ∷ next in
         let mid : List Line = here (made (n + 1)) p ∷ with_act p step out in
-        let inner : List Line = code_of made spare s (n + 3) ((made (n + 2), made (n + 1)) ∷ ls) mid in
+        let inner : List Line = code_of made spare own s (n + 3) ((made (n + 2), made (n + 1)) ∷ ls) mid in
         let k_mid : All mid = (keeps.passes, good_act p step out h.2 (keeps.goes (made n), (keeps.passes, k))) in
         good_act p first (here (made n) p ∷ with_test p e (made (n + 2)) inner) h.0
         (keeps.passes, good_test p e (made (n + 2)) inner h.1 (good_code s (n + 3) ((made (n + 2), made (n + 1)) ∷ ls) mid may h.3 k_mid))
@@ -125,24 +125,24 @@ module _ (Good : Act → Type 0) (made : ℕ → ℕ) (spare : Text) (keeps : Ke
         (keeps.counts (made n) x a b c h.0, good_code s (n + 2) ((made (n + 1), made n) ∷ ls) mid may h.1 (keeps.passes, (keeps.passes, k)))
     good_code (Switch p e cs) n ls next may h k =
         let last : List Line = here (made n) p ∷ next in
-        let all : List Line = bodies made spare cs (n + 1) (made n) ls last in
+        let all : List Line = bodies made spare own cs (n + 1) (made n) ls last in
         let k_all : All all = good_bodies cs (n + 1) (made n) ls last (may refl) h.1 (keeps.passes, k) in
-        ((may refl).stored e h.0, good_tests (may refl) cs (n + 1) (jump p (default_label made spare cs (n + 1) (made n)) ∷ all) h.1 (keeps.goes _, k_all))
+        ((may refl).stored e h.0, good_tests (may refl) cs (n + 1) (jump p (default_label made spare own cs (n + 1) (made n)) ∷ all) h.1 (keeps.goes _, k_all))
     good_code (Break p m) n ls next may h k = (keeps.goes _, k)
     good_code (Next p m) n ls next may h k = (keeps.goes _, k)
     good_code (Return p e) n ls next may h k = absurd h
     good_code (Plain l p a) n ls next may h k = (h, k)
     good_code (Labelled l p s) n ls next may h k = (keeps.passes, good_code s n ls next may h k)
 
-    pub good_all : (ss : Commands) (n : ℕ) (ls : Rings) (next : List Line) → (have_switch ss ≡ true → KeepsValues Good spare) → AllSayGood Good ss → All next → All (all_code made spare ss n ls next)
+    pub good_all : (ss : Commands) (n : ℕ) (ls : Rings) (next : List Line) → (have_switch ss ≡ true → KeepsValues Good spare) → AllSayGood Good ss → All next → All (all_code made spare own ss n ls next)
     good_all NoCommand n ls next may h k = k
-    good_all (AndCommand s ss) n ls next may h k = good_code s n ls (all_code made spare ss (n + labels s) ls next) (λ e. may (or_left (has_switch s) (have_switch ss) e)) h.0
+    good_all (AndCommand s ss) n ls next may h k = good_code s n ls (all_code made spare own ss (n + labels s) ls next) (λ e. may (or_left (has_switch s) (have_switch ss) e)) h.0
         (good_all ss (n + labels s) ls next (λ e. may (or_right (has_switch s) (have_switch ss) e)) h.1 k)
 
-    good_bodies : (cs : Clauses) (m out : ℕ) (ls : Rings) (next : List Line) → KeepsValues Good spare → ClausesSayGood Good cs → All next → All (bodies made spare cs m out ls next)
+    good_bodies : (cs : Clauses) (m out : ℕ) (ls : Rings) (next : List Line) → KeepsValues Good spare → ClausesSayGood Good cs → All next → All (bodies made spare own cs m out ls next)
     good_bodies NoClause m out ls next v h k = k
     good_bodies (AndClause es fallback ss p cs) m out ls next v h k =
-        let rest : List Line = bodies made spare cs (m + 1 + all_labels ss) out ls next in
+        let rest : List Line = bodies made spare own cs (m + 1 + all_labels ss) out ls next in
         (keeps.passes, good_all ss (m + 1) ls (jump p out ∷ rest) (λ e. v) h.1 (keeps.goes out, good_bodies cs (m + 1 + all_labels ss) out ls next v h.2 k))
 
   good_stop : (v : Bool) (p : Place) → All (stop_unless v p)
@@ -150,5 +150,5 @@ module _ (Good : Act → Type 0) (made : ℕ → ℕ) (spare : Text) (keeps : Ke
   good_stop false p = (keeps.stops, tt)
 
   -- the statements of a whole unit, without a declaration before them
-  pub good_unit : (ss : Commands) (v : Bool) (p : Place) → (have_switch ss ≡ true → KeepsValues Good spare) → AllSayGood Good ss → All (all_code made spare ss 0 [] (stop_unless v p))
+  pub good_unit : (ss : Commands) (v : Bool) (p : Place) → (have_switch ss ≡ true → KeepsValues Good spare) → AllSayGood Good ss → All (all_code made spare own ss 0 [] (stop_unless v p))
   good_unit ss v p may h = good_all ss 0 [] (stop_unless v p) may h (good_stop v p)

@@ -30,7 +30,7 @@ all_said : (Good : Act → Type 0) (vs : List Part) → AllParts (SaysSo Good) v
 all_said Good [] h = tt
 all_said Good (v ∷ vs) h = of_join Good (said_by v.form) (said_in vs) h.0 (all_said Good vs h.1)
 
-module _ (Good : Act → Type 0) (made : ℕ → ℕ) (spare : Text) (keeps : KeepsBack Good spare) where
+module _ (Good : Act → Type 0) (made : ℕ → ℕ) (spare own : Text) (keeps : KeepsBack Good spare) where
   abbrev P : Part → Type 0
   P = SaysSo Good
 
@@ -49,7 +49,7 @@ module _ (Good : Act → Type 0) (made : ℕ → ℕ) (spare : Text) (keeps : Ke
   test_back p None l next h = (tt, h)
   test_back p (Some e) l next h = ((keeps.denied e l h.0, tt), h.1)
 
-  return_back : (p : Place) (o : Option Formula) (next : List Line) → All (with_return p o next) → All next
+  return_back : (p : Place) (o : Option Formula) (next : List Line) → All (with_return own p o next) → All next
   return_back p None next h = h.1
   return_back p (Some e) next h = h.1.1
 
@@ -62,22 +62,22 @@ module _ (Good : Act → Type 0) (made : ℕ → ℕ) (spare : Text) (keeps : Ke
   Tested NoClause = ⊤
   Tested (AndClause es fallback ss p cs) = AllOf Good (value_acts es) × Tested cs
 
-  tests_back : (cs : Clauses) (m : ℕ) (next : List Line) → All (tests made spare cs m next) → Tested cs × All next
+  tests_back : (cs : Clauses) (m : ℕ) (next : List Line) → All (tests made spare own cs m next) → Tested cs × All next
   tests_back NoClause m next h = (tt, h)
   tests_back (AndClause es fallback ss p cs) m next h =
-      let a = each_back p es (made m) (tests made spare cs (m + 1 + all_labels ss) next) h in
+      let a = each_back p es (made m) (tests made spare own cs (m + 1 + all_labels ss) next) h in
       let b = tests_back cs (m + 1 + all_labels ss) next a.1 in
       ((a.0, b.0), b.1)
 
   mutual
-    back : (c : Command) (k : ℕ) (r : Labels) (o : Option ℕ) (n : ℕ) (ls : Rings) (next : List Line) → All (code_of made spare c n ls next) → AllParts P (parts_of k r o c) × All next
+    back : (c : Command) (k : ℕ) (r : Labels) (o : Option ℕ) (n : ℕ) (ls : Rings) (next : List Line) → All (code_of made spare own c n ls next) → AllParts P (parts_of k r o c) × All next
     back (Empty p) k r o n ls next h = ((tt, tt), h)
     back (Block p ss) k r o n ls next h = let a = back_all ss k (with_labels ss r) n ls next h in ((tt, a.0), a.1)
     back (If p e c) k r o n ls next h =
         let a = back c k r None (n + 1) ls (here (made n) p ∷ next) h.1 in
         (((keeps.denied e (made n) h.0, tt), a.0), a.1.1)
     back (IfElse p e c d) k r o n ls next h =
-        let second : List Line = code_of made spare d (n + 2 + labels c) ls (here (made (n + 1)) p ∷ next) in
+        let second : List Line = code_of made spare own d (n + 2 + labels c) ls (here (made (n + 1)) p ∷ next) in
         let a = back c k r None (n + 2) ls (jump p (made (n + 1)) ∷ here (made n) p ∷ second) h.1 in
         let b = back d k r None (n + 2 + labels c) ls (here (made (n + 1)) p ∷ next) a.1.1.1 in
         (((keeps.denied e (made n) h.0, tt), join P (parts_of k r None c) (parts_of k r None d) a.0 b.0), b.1.1)
@@ -87,7 +87,7 @@ module _ (Good : Act → Type 0) (made : ℕ → ℕ) (spare : Text) (keeps : Ke
     back (For p first e step c) k r o n ls next h =
         let out : List Line = jump p (made n) ∷ here (made (n + 2)) p ∷ next in
         let mid : List Line = here (made (n + 1)) p ∷ with_act p step out in
-        let inner : List Line = code_of made spare c (n + 3) ((made (n + 2), made (n + 1)) ∷ ls) mid in
+        let inner : List Line = code_of made spare own c (n + 3) ((made (n + 2), made (n + 1)) ∷ ls) mid in
         let f = act_back p first (here (made n) p ∷ with_test p e (made (n + 2)) inner) h in
         let g = test_back p e (made (n + 2)) inner f.1.1 in
         let a = back c (suc k) r None (n + 3) ((made (n + 2), made (n + 1)) ∷ ls) mid g.1 in
@@ -104,8 +104,8 @@ module _ (Good : Act → Type 0) (made : ℕ → ℕ) (spare : Text) (keeps : Ke
         (((keeps.counts (made n) x i j m h.0, tt), a.0), a.1.1.1)
     back (Switch p e cs) k r o n ls next h =
         let last : List Line = here (made n) p ∷ next in
-        let all : List Line = bodies made spare cs (n + 1) (made n) ls last in
-        let t = tests_back cs (n + 1) (jump p (default_label made spare cs (n + 1) (made n)) ∷ all) h.1 in
+        let all : List Line = bodies made spare own cs (n + 1) (made n) ls last in
+        let t = tests_back cs (n + 1) (jump p (default_label made spare own cs (n + 1) (made n)) ∷ all) h.1 in
         let b = bodies_back cs k r false (n + 1) (made n) ls last t.0 t.1.1 in
         (((keeps.stored e h.0, tt), b.0), b.1.1)
     back (Break p m) k r o n ls next h = ((tt, tt), h.1)
@@ -116,22 +116,22 @@ module _ (Good : Act → Type 0) (made : ℕ → ℕ) (spare : Text) (keeps : Ke
         let a = back c k r (Some l) n ls next h.1 in
         (marked k r o p (parts_of k r (Some l) c) a.0, a.1)
 
-    pub back_all : (ss : Commands) (k : ℕ) (r : Labels) (n : ℕ) (ls : Rings) (next : List Line) → All (all_code made spare ss n ls next) → AllParts P (parts_in k r ss) × All next
+    pub back_all : (ss : Commands) (k : ℕ) (r : Labels) (n : ℕ) (ls : Rings) (next : List Line) → All (all_code made spare own ss n ls next) → AllParts P (parts_in k r ss) × All next
     back_all NoCommand k r n ls next h = (tt, h)
     back_all (AndCommand c ss) k r n ls next h =
-        let a = back c k r None n ls (all_code made spare ss (n + labels c) ls next) h in
+        let a = back c k r None n ls (all_code made spare own ss (n + labels c) ls next) h in
         let b = back_all ss k r (n + labels c) ls next a.1 in
         (join P (parts_of k r None c) (parts_in k r ss) a.0 b.0, b.1)
 
-    bodies_back : (cs : Clauses) (k : ℕ) (r : Labels) (seen : Bool) (m out : ℕ) (ls : Rings) (next : List Line) → Tested cs → All (bodies made spare cs m out ls next) → AllParts P (clause_parts k r seen cs) × All next
+    bodies_back : (cs : Clauses) (k : ℕ) (r : Labels) (seen : Bool) (m out : ℕ) (ls : Rings) (next : List Line) → Tested cs → All (bodies made spare own cs m out ls next) → AllParts P (clause_parts k r seen cs) × All next
     bodies_back NoClause k r seen m out ls next t h = (tt, h)
     bodies_back (AndClause es fallback ss p cs) k r seen m out ls next t h =
-        let a = back_all ss k (with_labels ss r) (m + 1) ls (jump p out ∷ bodies made spare cs (m + 1 + all_labels ss) out ls next) h.1 in
+        let a = back_all ss k (with_labels ss r) (m + 1) ls (jump p out ∷ bodies made spare own cs (m + 1 + all_labels ss) out ls next) h.1 in
         let b = bodies_back cs k r (seen || fallback) (m + 1 + all_labels ss) out ls next t.1 a.1.1 in
         ((t.0, join P (parts_in k (with_labels ss r) ss) (clause_parts k r (seen || fallback) cs) a.0 b.0), b.1)
 
   -- all that the source says
-  pub back_unit : (ss : Commands) (v : Bool) (p : Place) → All (all_code made spare ss 0 [] (stop_unless v p)) → AllOf Good (said_in (unit_parts ss))
+  pub back_unit : (ss : Commands) (v : Bool) (p : Place) → All (all_code made spare own ss 0 [] (stop_unless v p)) → AllOf Good (said_in (unit_parts ss))
   back_unit ss v p h = all_said Good (unit_parts ss) (back_all ss 0 (with_labels ss no_label) 0 [] (stop_unless v p) h).0
 
   -- ---- a switch stores a value under the spare name ----
@@ -144,21 +144,21 @@ module _ (Good : Act → Type 0) (made : ℕ → ℕ) (spare : Text) (keeps : Ke
   either false b e left right = right e
 
   -- what stands behind a command, and behind commands
-  past : (c : Command) (n : ℕ) (ls : Rings) (next : List Line) → All (code_of made spare c n ls next) → All next
+  past : (c : Command) (n : ℕ) (ls : Rings) (next : List Line) → All (code_of made spare own c n ls next) → All next
   past c n ls next h = (back c 0 no_label None n ls next h).1
 
   mutual
-    store_of : (c : Command) (n : ℕ) (ls : Rings) (next : List Line) → has_switch c ≡ true → All (code_of made spare c n ls next) → Store
+    store_of : (c : Command) (n : ℕ) (ls : Rings) (next : List Line) → has_switch c ≡ true → All (code_of made spare own c n ls next) → Store
     store_of (Block p ss) n ls next e h = store_in ss n ls next e h
     store_of (If p f c) n ls next e h = store_of c (n + 1) ls (here (made n) p ∷ next) e h.1
     store_of (IfElse p f c d) n ls next e h =
-        let second : List Line = code_of made spare d (n + 2 + labels c) ls (here (made (n + 1)) p ∷ next) in
+        let second : List Line = code_of made spare own d (n + 2 + labels c) ls (here (made (n + 1)) p ∷ next) in
         let rest : List Line = jump p (made (n + 1)) ∷ here (made n) p ∷ second in
         either (has_switch c) (has_switch d) e (λ t. store_of c (n + 2) ls rest t h.1) (λ t. store_of d (n + 2 + labels c) ls (here (made (n + 1)) p ∷ next) t (past c (n + 2) ls rest h.1).1.1)
     store_of (While p f c) n ls next e h = store_of c (n + 3) ((made (n + 2), made (n + 1)) ∷ ls) (here (made (n + 1)) p ∷ jump p (made n) ∷ here (made (n + 2)) p ∷ next) e h.1.1
     store_of (For p first f step c) n ls next e h =
         let mid : List Line = here (made (n + 1)) p ∷ with_act p step (jump p (made n) ∷ here (made (n + 2)) p ∷ next) in
-        let inner : List Line = code_of made spare c (n + 3) ((made (n + 2), made (n + 1)) ∷ ls) mid in
+        let inner : List Line = code_of made spare own c (n + 3) ((made (n + 2), made (n + 1)) ∷ ls) mid in
         store_of c (n + 3) ((made (n + 2), made (n + 1)) ∷ ls) mid e (test_back p f (made (n + 2)) inner (act_back p first (here (made n) p ∷ with_test p f (made (n + 2)) inner) h).1.1).1
     store_of (Repeat p c) n ls next e h = store_of c (n + 3) ((made (n + 2), made (n + 1)) ∷ ls) (here (made (n + 1)) p ∷ jump p (made n) ∷ here (made (n + 2)) p ∷ next) e h.1
     store_of (RepeatUntil p c f q) n ls next e h = store_of c (n + 3) ((made (n + 2), made (n + 1)) ∷ ls) (here (made (n + 1)) p ∷ unless q f (made n) ∷ here (made (n + 2)) p ∷ next) e h.1
@@ -171,8 +171,8 @@ module _ (Good : Act → Type 0) (made : ℕ → ℕ) (spare : Text) (keeps : Ke
     store_of (Return p f) n ls next e h = absurd (true≢false (sym e))
     store_of (Plain l p a) n ls next e h = absurd (true≢false (sym e))
 
-    pub store_in : (ss : Commands) (n : ℕ) (ls : Rings) (next : List Line) → have_switch ss ≡ true → All (all_code made spare ss n ls next) → Store
+    pub store_in : (ss : Commands) (n : ℕ) (ls : Rings) (next : List Line) → have_switch ss ≡ true → All (all_code made spare own ss n ls next) → Store
     store_in NoCommand n ls next e h = absurd (true≢false (sym e))
     store_in (AndCommand c ss) n ls next e h =
-        let rest : List Line = all_code made spare ss (n + labels c) ls next in
+        let rest : List Line = all_code made spare own ss (n + labels c) ls next in
         either (has_switch c) (have_switch ss) e (λ t. store_of c n ls rest t h) (λ t. store_in ss (n + labels c) ls next t (past c n ls rest h))

@@ -9,7 +9,7 @@ use Rattle.rule_table.specs.declared.rule.Rule.{Rule}
 use Rattle.rule_table.specs.declared.rule.Rule.TheVariants.{Syntax, NameTooLong, OutOfProfileType, TypeClash, WrongCount, DuplicateName, BadConstant, BadFormat, NotAssignable, LargeArray}
 use Rattle.rule_table.specs.Words.{first_place, is_some_and, is_below}
 use Rattle.f66_tree.specs.Syntax.{Text, MainUnit, Act, Line, Routine}
-use Rattle.f66_tree.specs.Units.{Context}
+use Rattle.f66_tree.specs.Units.{name_of, Context}
 use Rattle.f66_names.specs.declared.name_form.NameForm.{NameForm}
 use Rattle.f66_names.specs.declared.name_form.NameForm.TheVariants as forms
 use Rattle.f66_names.specs.declared.name_form.Manner.TheVariants.{Alone}
@@ -116,7 +116,7 @@ said_at Good (x ∷ rest) (suc i) s k e = said_at Good rest i s k.1 e
 
 module _ (made : ℕ → ℕ) (spare : Text) (first last place : Place) (ss : Commands) where
   abbrev lines : List Line
-  lines = unit_code made spare first last ss
+  lines = unit_code made spare MainUnit first last ss
 
   abbrev acts : List Act
   acts = acts_in_unit lines
@@ -128,15 +128,15 @@ module _ (made : ℕ → ℕ) (spare : Text) (first last place : Place) (ss : Co
   unit = record { header = MainUnit; lines = lines; place = place }
 
   abbrev code1 : List Line
-  code1 = all_code made spare ss 0 [] (stop_unless (ends_so false (all_code made spare ss 0 [] [])) last)
+  code1 = all_code made spare (name_of MainUnit) ss 0 [] (stop_unless (ends_so false (all_code made spare (name_of MainUnit) ss 0 [] [])) last)
 
   module _ (flow : KeepsFlow lines) (built : AllSayGood (IsBuiltAct means_here) ss) (clean : AllSayGood (IsCleanAct means_here acts) ss)
       (anew : (i : ℕ) (s : Line) → slice_get lines i ≡ Some s → redeclares acts i s.act ≡ false) (scalar : have_switch ss ≡ true → IsScalar means_here acts spare) where
     code1_built : AllSay (IsBuiltAct means_here) code1
-    code1_built = good_unit (IsBuiltAct means_here) made spare (built_keeps means_here) ss (ends_so false (all_code made spare ss 0 [] [])) last (λ e. built_values means_here spare) built
+    code1_built = good_unit (IsBuiltAct means_here) made spare (name_of MainUnit) (built_keeps means_here) ss (ends_so false (all_code made spare (name_of MainUnit) ss 0 [] [])) last (λ e. built_values means_here spare) built
 
     code1_clean : AllSay (IsCleanAct means_here acts) code1
-    code1_clean = good_unit (IsCleanAct means_here acts) made spare (clean_keeps means_here acts) ss (ends_so false (all_code made spare ss 0 [] [])) last (λ e. clean_values means_here acts spare (scalar e)) clean
+    code1_clean = good_unit (IsCleanAct means_here acts) made spare (name_of MainUnit) (clean_keeps means_here acts) ss (ends_so false (all_code made spare (name_of MainUnit) ss 0 [] [])) last (λ e. clean_values means_here acts spare (scalar e)) clean
 
     lines_built : (v : Bool) → AllSay (IsBuiltAct means_here) (declared_if v first spare code1)
     lines_built true = (refl, code1_built)

@@ -7,7 +7,8 @@ use Rattle.std.proofs.lemmas.List.{length-append}
 use Rattle.std.proofs.lemmas.List.Folds.{list_any-append}
 use Rattle.ground.specs.declared.place.Place.{Place}
 use Rattle.rule_table.specs.declared.rule.Rule.TheVariants.{NameTooLong}
-use Rattle.f66_tree.specs.Syntax.{Text, Formula, Formulas, NoFormula, AndFormula, Par, Constant, Named, Act, Assign, Sign, When, Loop, Line}
+use Rattle.f66_tree.specs.Units.{name_of}
+use Rattle.f66_tree.specs.Syntax.{MainUnit, Text, Formula, Formulas, NoFormula, AndFormula, Par, Constant, Named, Act, Assign, Sign, When, Loop, Line}
 use Rattle.f66_names.specs.Uses.{Usage, uses_of_par}
 use Rattle.f66_names.specs.NameRules.{has_name, is_long}
 use Rattle.stmt_text.specs.Characters.{comma, equals}
@@ -111,15 +112,15 @@ module _ (ss : Commands) (accepted : fault_of_parts (unit_parts ss) ≡ None) (m
   spare = spare_name ss
 
   abbrev added : Bool
-  added = ends_so false (all_code made spare ss 0 [] [])
+  added = ends_so false (all_code made spare (name_of MainUnit) ss 0 [] [])
 
   abbrev code1 : List Line
-  code1 = all_code made spare ss 0 [] (stop_unless added last)
+  code1 = all_code made spare (name_of MainUnit) ss 0 [] (stop_unless added last)
 
   code1_fits : AllSay Fits code1
-  code1_fits = good_unit Fits made spare fits_keep ss added last (λ e. fits_values spare refl) (says ss accepted Fits (said_fits (unit_whole (unit_parts ss)) nothing_before (unit_parts ss) (clean ss accepted).keep))
+  code1_fits = good_unit Fits made spare (name_of MainUnit) fits_keep ss added last (λ e. fits_values spare refl) (says ss accepted Fits (said_fits (unit_whole (unit_parts ss)) nothing_before (unit_parts ss) (clean ss accepted).keep))
 
-  pub unit_fits : AllByRecursion FitsCards (unit_code made spare first last ss)
+  pub unit_fits : AllByRecursion FitsCards (unit_code made spare MainUnit first last ss)
   unit_fits = by (have_switch ss)
     where
       by : (v : Bool) → AllByRecursion FitsCards (declared_if v first spare code1)

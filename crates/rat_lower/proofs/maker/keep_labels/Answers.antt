@@ -2,7 +2,7 @@
 use Rattle.std.proofs.Common.{◌+◌, drop, refl, sym, ap, subst}
 use Rattle.name_alloc.specs.MadeNames.{Used}
 use Rattle.rat_lower.proofs.Emitting.MadeLabels.{Kept, kept_next, kept_all, kept_labels}
-use Rattle.rat_lower.proofs.maker.Maker.new.Goals as goal
+use Rattle.rat_lower.proofs.maker.keep_labels.Goals as goal
 
 pub loop-label-preserved : goal.loop-label-preserved
 loop-label-preserved c =
