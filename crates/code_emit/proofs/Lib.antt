@@ -1,0 +1,4 @@
+-- The lemmas of code_emit.
+pub mod FormLemmas
+pub mod ListLemmas
+pub mod RecordLemmas

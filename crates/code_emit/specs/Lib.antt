@@ -1,0 +1,3 @@
+-- The definitions that the contracts of code_emit cite.
+pub mod Names
+pub mod Sorts
