@@ -1,0 +1,8 @@
+-- The lemmas of runner.
+pub mod Piles
+pub mod Tops
+pub mod Operators
+pub mod Pushes
+pub mod Cells
+pub mod PlaceArms
+pub mod LeapArms

@@ -1,0 +1,3 @@
+-- The definitions that the contracts of runner cite.
+pub mod Words
+pub mod Work
