@@ -1,0 +1,4 @@
+-- The definitions that the contracts of runner cite.
+pub mod Words
+pub mod Work
+pub mod Running
