@@ -7,8 +7,8 @@ use Rattle.std.specs.Str.{bytes_eq}
 use Rattle.rule_table.specs.Words.{is_some_and, first_place}
 use Rattle.ground.specs.declared.place.Place.{Place}
 use Rattle.ground.specs.declared.fault.Fault.{Fault}
-use Rattle.ground.specs.declared.fault.FaultKind.{FaultKind}
 use Rattle.ground.specs.declared.fault.FaultKind.TheVariants.{DuplicateUnit, MainCount, Recursion}
+use Rattle.ground.specs.Faults.{fault_at}
 use Rattle.call_cycles.specs.declared.edge.Edge.{Edge}
 use Rattle.call_cycles.specs.Cycles.{IsFirstOnCycle, HasNoCycle}
 use Rattle.efl_tree.specs.Syntax.{Text, Statement, EflStmts, NoStmt, AndStmt, EflProcedure, EflProgram}
@@ -18,9 +18,6 @@ use Rattle.efl_scope.specs.ScopeRules.{holds}
 use Rattle.efl_types.specs.Signatures.{Names, known, applied}
 use Rattle.efl_types.specs.Types.{calls}
 use Rattle.efl_types.specs.TypeRules.{names_of, of_unit}
-
-abbrev pub fault_at : FaultKind → Place → Fault
-fault_at k p = record { kind = k; place = p; number = 0 }
 
 -- ---- names ----
 
@@ -85,13 +82,13 @@ edges_of p = map (λ c. c.edge) (program_calls p)
 -- what is told before the calls are asked
 abbrev pub count_fault : EflProgram → Option Fault
 count_fault p =
-    option_or (option_map (fault_at DuplicateUnit) (first_taken [] p.procedures)) (option_map (fault_at MainCount) (main_fault p.finish (mains p.procedures)))
+    option_or (option_map (λ q. fault_at q DuplicateUnit) (first_taken [] p.procedures)) (option_map (λ q. fault_at q MainCount) (main_fault p.finish (mains p.procedures)))
 
 -- the first call that leads back to its own procedure
 pub record IsRecursion (p : EflProgram) (f : Fault) : Type 0 where
   pub number : ℕ
   pub first : IsFirstOnCycle (edges_of p) number
-  pub tells : option_map (λ c. fault_at Recursion c.place) (slice_get (program_calls p) number) ≡ Some f
+  pub tells : option_map (λ c. fault_at c.place Recursion) (slice_get (program_calls p) number) ≡ Some f
 
 abbrev pub TellsCalls : EflProgram → Option Fault → Type 0
 TellsCalls p None = HasNoCycle (edges_of p)
