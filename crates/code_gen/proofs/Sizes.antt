@@ -120,7 +120,7 @@ module _ (y : Layout) (entry : ℕ → ℕ) where
   invoked_size u None n a b e = refl
   invoked_size u (Some v) n a b e = joined a _ b _ e refl
 
-  statement_size : (u : ℕ) (a : Act) → act_size z u a ≡ act_size y u a
+  pub statement_size : (u : ℕ) (a : Act) → act_size z u a ≡ act_size y u a
   statement_size u (Assign x e) = omega (arith, place_size u x, value_size u e)
   statement_size u (Goto l) = refl
   statement_size u (Computed ls x) = refl
@@ -140,7 +140,7 @@ module _ (y : Layout) (entry : ℕ → ℕ) where
       let a = statement_size u s.act in
       omega arith
 
-  rest_size : (u : ℕ) (rest : List Line) → body_size z u rest ≡ body_size y u rest
+  pub rest_size : (u : ℕ) (rest : List Line) → body_size z u rest ≡ body_size y u rest
   rest_size u [] = refl
   rest_size u (s ∷ rest) = line_by (is_note s.act) u s rest (rest_size u rest)
 

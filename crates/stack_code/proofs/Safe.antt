@@ -26,8 +26,8 @@ use Rattle.stack_code.specs.StackMachine as sm
 use Rattle.stack_code.specs.StackMachine.{Entry, Val, At, Caller, Core, Program, act, step, exec, next, jump, dummy, store, load, nth, target_at}
 use Rattle.stack_code.specs.ValidCode.{Open, and_then, pop, pops, onto, entry_kind, effect, taken, reshaped, allows, after, ways, root, IsIn, IsReached, IsValid, is_none, is_in_range, takes}
 use Rattle.stack_code.specs.Bounds.{HasBounds}
-use Rattle.stack_code.specs.Safety.{IsRight, IsRightEnd, IsWithin, AllWithin, IsSafe, ValidIsSafe}
-use Rattle.stack_code.proofs.SafeLemmas.{some_then, behind, Suits, Matches, AllWhole, SpotsWithin, int_right, log_right, spot_right, value_right, values_right, spots_right, settle_right, bind_right, IsInt, IsLog, arithmetic_right, relation_right, logic_right}
+use Rattle.stack_code.specs.Safety.{IsRight, IsRightEnd, IsWithin, AllWithin, SpotsWithin, FrameWithin, CallersWithin, IsSafe, ValidIsSafe}
+use Rattle.stack_code.proofs.SafeLemmas.{some_then, behind, Suits, Matches, AllWhole, int_right, log_right, spot_right, value_right, values_right, spots_right, settle_right, bind_right, IsInt, IsLog, arithmetic_right, relation_right, logic_right}
 use Rattle.stack_code.proofs.SafeOps.{known_right, distance_right, element_right, extent_right, load_right, store_right}
 use Rattle.stack_code.proofs.SafeRecords.{moving_right, edited_right, row_right}
 
@@ -324,16 +324,31 @@ module _ (c : Program) (units top wide deep : ℕ) (v : IsValid c.code (length c
   deep_under [] below e u = let x = ap depth u.1 in let y = b.depth.main in omega arith
   deep_under (k ∷ ks) below e u = let x = deep_under ks u.3 u.0 u.9 in let y = u.8 in omega arith
 
-  safe : (s : Core) → Sound s → IsSafe c units top deep s
+  frame_within : (n k pc : ℕ) (f : Fact) → IsReached c.code n k pc f → (frame : sm.Frame) → SpotsWithin units frame.spots → length frame.spots ≡ f.count → FrameWithin units wide frame
+  frame_within n k pc f reached frame spots count = let z = b.dummies n k pc f reached in record { spots = spots; few = omega arith }
+
+  callers_within : (ks : List Caller) (below : List Entry) (e : ℕ) → Under ks below e → CallersWithin units wide ks
+  callers_within [] below e u = tt
+  callers_within (k ∷ ks) below e u = (frame_within u.0 u.1 k.back u.2 u.4 k.frame u.6 u.7, callers_within ks u.3 u.0 u.9)
+
+  dummy_there : (s : Core) → Sound s → (n : ℕ) → slice_get c.code s.pc ≡ Some (i.Dummy n) → n < length s.frame.spots
+  dummy_there s h n stands =
+      let found = v.finds h.entry h.steps s.pc h.fact h.reached in
+      let bh = behind found.instruction h.fact found.behind found.gives in
+      let count = h.count in
+      let lt = ltb-true n h.fact.count (subst (λ x. allows x h.fact ≡ true) (same_Some _ _ (sym found.stands ∙ stands)) bh.allowed) in
+      omega arith
+
+  safe : (s : Core) → Sound s → IsSafe c units top wide deep s
   safe s h =
       let found = v.finds h.entry h.steps s.pc h.fact h.reached in
       let x = long_stack s.stack h.fact.shape h.below h.stack in
       let y = long_under s.callers h.below h.entry h.under in
       let z = b.stack h.entry h.steps s.pc h.fact h.reached in
       let d = deep_under s.callers h.below h.entry h.under in
-      record { there = slice_get_within c.code s.pc found.instruction found.stands; spots = within_stack s.stack h.fact.shape h.below h.stack (within_under s.callers h.below h.entry h.under); stack = omega arith; callers = omega arith }
+      record { there = slice_get_within c.code s.pc found.instruction found.stands; spots = within_stack s.stack h.fact.shape h.below h.stack (within_under s.callers h.below h.entry h.under); stack = omega arith; callers = omega arith; frame = frame_within h.entry h.steps s.pc h.fact h.reached s.frame h.spots h.count; waiting = callers_within s.callers h.below h.entry h.under; finds = dummy_there s h }
 
-  safe_out : (o : Out Core) → IsRight Sound o → IsRight (IsSafe c units top deep) o
+  safe_out : (o : Out Core) → IsRight Sound o → IsRight (IsSafe c units top wide deep) o
   safe_out (Gives s w) h = safe s h
   safe_out (Halts e w) h = h
 

@@ -19,7 +19,7 @@ use Rattle.stack_code.specs.Instructions.{Instruction}
 use Rattle.stack_code.specs.StackMachine as sm
 use Rattle.stack_code.specs.StackMachine.{Entry, Val, At, Core, on_value, on_spot, take_values, take_spots}
 use Rattle.stack_code.specs.ValidCode.{Open, and_then, pops, pop_value, taken, effect, allows, opens, reshaped, after, is_logical, is_relation}
-use Rattle.stack_code.specs.Safety.{IsRight, IsWithin}
+use Rattle.stack_code.specs.Safety.{IsRight, IsWithin, SpotsWithin}
 
 -- ---- what comes before an instruction, from what comes behind it ----
 
@@ -65,10 +65,6 @@ module _ (units : ℕ) where
   AllWhole (Whole z ∷ vs) = AllWhole vs
   AllWhole (Truth b ∷ vs) = ⊥
   AllWhole (Nothing ∷ vs) = ⊥
-
-  abbrev pub SpotsWithin : List sm.Spot → Type 0
-  SpotsWithin [] = Unit {0}
-  SpotsWithin (p ∷ ps) = IsWithin units p × SpotsWithin ps
 
   module _ (below : List Entry) (Q : Core → Type 0) (w : World) where
     pub int_right : (n : ℕ) (shape rest : List EntryKind) (stack : List Entry) (f : Content → List Entry → Out Core) → Matches stack shape below → pops Int (suc n) shape ≡ Some rest → ((z : ℤ) (st : List Entry) (js : List EntryKind) → Matches st js below → pops Int n js ≡ Some rest → IsRight Q (f (Whole z) st)) → IsRight Q (on_value w stack f)
@@ -122,7 +118,7 @@ module _ (units : ℕ) where
     values_right (suc n) (Log ∷ js) rest stack got f m e all go = absurd (none-some rest e)
     values_right (suc n) (Spot ∷ js) rest stack got f m e all go = absurd (none-some rest e)
 
-    pub spots_right : (n : ℕ) (shape rest : List EntryKind) (stack : List Entry) (got : List sm.Spot) (f : List sm.Spot → List Entry → Out Core) → Matches stack shape below → pops Spot n shape ≡ Some rest → SpotsWithin got → ((ps : List sm.Spot) (st : List Entry) → SpotsWithin ps → length ps ≡ n + length got → Matches st rest below → IsRight Q (f ps st)) → IsRight Q (take_spots w n stack got f)
+    pub spots_right : (n : ℕ) (shape rest : List EntryKind) (stack : List Entry) (got : List sm.Spot) (f : List sm.Spot → List Entry → Out Core) → Matches stack shape below → pops Spot n shape ≡ Some rest → SpotsWithin units got → ((ps : List sm.Spot) (st : List Entry) → SpotsWithin units ps → length ps ≡ n + length got → Matches st rest below → IsRight Q (f ps st)) → IsRight Q (take_spots w n stack got f)
     spots_right zero shape rest stack got f m e all go = go got stack all (omega arith) (subst (λ ks. Matches stack ks below) (same_Some _ _ e) m)
     spots_right (suc n) [] rest stack got f m e all go = absurd (none-some rest e)
     spots_right (suc n) (Spot ∷ js) rest [] got f m e all go = absurd m

@@ -1,0 +1,7 @@
+-- The lemmas of code_emit.
+pub mod FormLemmas
+pub mod ListLemmas
+pub mod RecordLemmas
+pub mod BodyLemmas
+pub mod OpeningLemmas
+pub mod UnitLemmas

@@ -1,0 +1,5 @@
+-- The definitions that the contracts of code_emit cite.
+pub mod Names
+pub mod Sorts
+pub mod Turns
+pub mod Units

@@ -1,0 +1,21 @@
+//! The stack code of units of FORTRAN, made in memory.
+#![tactic(auto)]
+
+mod acts;
+mod body;
+mod coded_unit;
+mod counting;
+mod lists;
+mod operators;
+mod prologue;
+mod records;
+mod rooms;
+mod sorts;
+mod statements;
+mod turns;
+mod units;
+mod values;
+mod variables;
+
+pub use coded_unit::{Base, Callee, CodedUnit, NamedUnit, Turn};
+pub use units::{put_unit, put_units};

@@ -1,0 +1,19 @@
+-- The lemmas of runner.
+pub mod Piles
+pub mod Tops
+pub mod Operators
+pub mod Pushes
+pub mod Cells
+pub mod PlaceArms
+pub mod LeapArms
+pub mod LoopArms
+pub mod Takes
+pub mod Reached
+pub mod ElementArms
+pub mod FrameArms
+pub mod KnownArms
+pub mod Measure
+pub mod Roles
+pub mod Live
+pub mod Turn
+pub mod Calls

@@ -1,0 +1,116 @@
+-- Each instruction by itself.
+use Rattle.std.proofs.Common.{subst, sym, rules, w64}
+use Rattle.std.specs.Prelude.{Ok}
+use mir.Val.{SFits}
+use Rattle.std.proofs.lemmas.Int.{to_z-of_z}
+use Rattle.ground.specs.Arithmetic.{IsInRange}
+use Rattle.ground.specs.Content.{Whole}
+use Rattle.stack_code.specs.Instructions.{Push, Compare}
+use Rattle.stack_code.specs.Views.{instruction_of}
+use Rattle.runner.specs.Work.{MayWork, Works}
+use Rattle.runner.specs.Running.{HasRange}
+use Rattle.runner.proofs.run.work.Goals as goal
+
+pub push_integer-requires-clause-work : goal.push_integer-requires-clause-work
+push_integer-requires-clause-work c = let fits : SFits w64 c.in-PushInt.number = search rules in subst (λ n. MayWork (Push (Whole n)) c.args.stack.now c.args.top) (sym (to_z-of_z w64 c.in-PushInt.number fits)) (subst (λ op. MayWork (instruction_of op) c.args.stack.now c.args.top) c.in-PushInt.is c.requires.work)
+
+pub push_integer-requires-clause-small : goal.push_integer-requires-clause-small
+push_integer-requires-clause-small c = let fits : SFits w64 c.in-PushInt.number = search rules in subst IsInRange (sym (to_z-of_z w64 c.in-PushInt.number fits)) (subst (λ op. HasRange (instruction_of op)) c.in-PushInt.is c.requires.ranges)
+
+pub returns-in-PushInt-clause-works : goal.returns-in-PushInt-clause-works
+returns-in-PushInt-clause-works c = let fits : SFits w64 c.in-PushInt.number = search rules in subst (λ op. Works (instruction_of op) c.args.stack.now c.args.top c.push_integer.new.stack (Ok c.push_integer.result)) (sym c.in-PushInt.is) (subst (λ n. Works (Push (Whole n)) c.args.stack.now c.args.top c.push_integer.new.stack (Ok c.push_integer.result)) (to_z-of_z w64 c.in-PushInt.number fits) c.push_integer.ensures.works)
+
+pub push_truth-requires : goal.push_truth-requires
+push_truth-requires c = record { work = subst (λ op. MayWork (instruction_of op) c.args.stack.now c.args.top) c.in-PushLog.is c.requires.work }
+
+pub returns-in-PushLog-clause-works : goal.returns-in-PushLog-clause-works
+returns-in-PushLog-clause-works c = subst (λ op. Works (instruction_of op) c.args.stack.now c.args.top c.push_truth.new.stack (Ok c.push_truth.result)) (sym c.in-PushLog.is) c.push_truth.ensures.works
+
+pub push_spot-requires-clause-work : goal.push_spot-requires-clause-work
+push_spot-requires-clause-work c = subst (λ op. MayWork (instruction_of op) c.args.stack.now c.args.top) c.in-Spot.is c.requires.work
+
+pub push_spot-requires-clause-some : goal.push_spot-requires-clause-some
+push_spot-requires-clause-some c = (subst (λ op. HasRange (instruction_of op)) c.in-Spot.is c.requires.ranges).0
+
+pub push_spot-requires-clause-few : goal.push_spot-requires-clause-few
+push_spot-requires-clause-few c = (subst (λ op. HasRange (instruction_of op)) c.in-Spot.is c.requires.ranges).1
+
+pub returns-in-Spot-clause-works : goal.returns-in-Spot-clause-works
+returns-in-Spot-clause-works c = subst (λ op. Works (instruction_of op) c.args.stack.now c.args.top c.push_spot.new.stack (Ok c.push_spot.result)) (sym c.in-Spot.is) c.push_spot.ensures.works
+
+pub minus-requires : goal.minus-requires
+minus-requires c = subst (λ op. MayWork (instruction_of op) c.args.stack.now c.args.top) c.in-Minus.is c.requires.work
+
+pub returns-in-Minus-clause-works : goal.returns-in-Minus-clause-works
+returns-in-Minus-clause-works c = subst (λ op. Works (instruction_of op) c.args.stack.now c.args.top c.minus.new.stack (Ok c.minus.result)) (sym c.in-Minus.is) c.minus.ensures.works
+
+pub not-requires : goal.not-requires
+not-requires c = subst (λ op. MayWork (instruction_of op) c.args.stack.now c.args.top) c.in-Not.is c.requires.work
+
+pub returns-in-Not-clause-works : goal.returns-in-Not-clause-works
+returns-in-Not-clause-works c = subst (λ op. Works (instruction_of op) c.args.stack.now c.args.top c.not.new.stack (Ok c.not.result)) (sym c.in-Not.is) c.not.ensures.works
+
+pub both-requires : goal.both-requires
+both-requires c = subst (λ op. MayWork (instruction_of op) c.args.stack.now c.args.top) c.in-Add.is c.requires.work
+
+pub returns-in-Add-clause-works : goal.returns-in-Add-clause-works
+returns-in-Add-clause-works c = subst (λ op. Works (instruction_of op) c.args.stack.now c.args.top c.both.new.stack c.both.result) (sym c.in-Add.is) c.both.ensures.works
+
+pub both-requires-in-Sub : goal.both-requires-in-Sub
+both-requires-in-Sub c = subst (λ op. MayWork (instruction_of op) c.args.stack.now c.args.top) c.in-Sub.is c.requires.work
+
+pub returns-in-Sub-clause-works : goal.returns-in-Sub-clause-works
+returns-in-Sub-clause-works c = subst (λ op. Works (instruction_of op) c.args.stack.now c.args.top c.both-in-Sub.new.stack c.both-in-Sub.result) (sym c.in-Sub.is) c.both-in-Sub.ensures.works
+
+pub both-requires-in-Mul : goal.both-requires-in-Mul
+both-requires-in-Mul c = subst (λ op. MayWork (instruction_of op) c.args.stack.now c.args.top) c.in-Mul.is c.requires.work
+
+pub returns-in-Mul-clause-works : goal.returns-in-Mul-clause-works
+returns-in-Mul-clause-works c = subst (λ op. Works (instruction_of op) c.args.stack.now c.args.top c.both-in-Mul.new.stack c.both-in-Mul.result) (sym c.in-Mul.is) c.both-in-Mul.ensures.works
+
+pub both-requires-in-Div : goal.both-requires-in-Div
+both-requires-in-Div c = subst (λ op. MayWork (instruction_of op) c.args.stack.now c.args.top) c.in-Div.is c.requires.work
+
+pub returns-in-Div-clause-works : goal.returns-in-Div-clause-works
+returns-in-Div-clause-works c = subst (λ op. Works (instruction_of op) c.args.stack.now c.args.top c.both-in-Div.new.stack c.both-in-Div.result) (sym c.in-Div.is) c.both-in-Div.ensures.works
+
+pub both-requires-in-Pow : goal.both-requires-in-Pow
+both-requires-in-Pow c = subst (λ op. MayWork (instruction_of op) c.args.stack.now c.args.top) c.in-Pow.is c.requires.work
+
+pub returns-in-Pow-clause-works : goal.returns-in-Pow-clause-works
+returns-in-Pow-clause-works c = subst (λ op. Works (instruction_of op) c.args.stack.now c.args.top c.both-in-Pow.new.stack c.both-in-Pow.result) (sym c.in-Pow.is) c.both-in-Pow.ensures.works
+
+pub both-requires-in-And : goal.both-requires-in-And
+both-requires-in-And c = subst (λ op. MayWork (instruction_of op) c.args.stack.now c.args.top) c.in-And.is c.requires.work
+
+pub returns-in-And-clause-works : goal.returns-in-And-clause-works
+returns-in-And-clause-works c = subst (λ op. Works (instruction_of op) c.args.stack.now c.args.top c.both-in-And.new.stack c.both-in-And.result) (sym c.in-And.is) c.both-in-And.ensures.works
+
+pub both-requires-in-Or : goal.both-requires-in-Or
+both-requires-in-Or c = subst (λ op. MayWork (instruction_of op) c.args.stack.now c.args.top) c.in-Or.is c.requires.work
+
+pub returns-in-Or-clause-works : goal.returns-in-Or-clause-works
+returns-in-Or-clause-works c = subst (λ op. Works (instruction_of op) c.args.stack.now c.args.top c.both-in-Or.new.stack c.both-in-Or.result) (sym c.in-Or.is) c.both-in-Or.ensures.works
+
+pub both-requires-in-Compare : goal.both-requires-in-Compare
+both-requires-in-Compare c =
+    let m : MayWork (Compare c.in-Compare.op) c.args.stack.now c.args.top = subst (λ op. MayWork (instruction_of op) c.args.stack.now c.args.top) c.in-Compare.is c.requires.work in
+    record { plans = m.plans; core = m.core; world = m.world; stand = m.stand; within = m.within; right = m.right }
+
+pub returns-in-Compare-clause-works : goal.returns-in-Compare-clause-works
+returns-in-Compare-clause-works c = subst (λ op. Works (instruction_of op) c.args.stack.now c.args.top c.both-in-Compare.new.stack c.both-in-Compare.result) (sym c.in-Compare.is) c.both-in-Compare.ensures.works
+
+pub element-requires : goal.element-requires
+element-requires c = subst (λ op. MayWork (instruction_of op) c.args.stack.now c.args.top) c.in-Element.is c.requires.work
+
+pub returns-in-Element-clause-works : goal.returns-in-Element-clause-works
+returns-in-Element-clause-works c = subst (λ op. Works (instruction_of op) c.args.stack.now c.args.top c.element.new.stack c.element.result) (sym c.in-Element.is) c.element.ensures.works
+
+pub known-requires-clause-takes : goal.known-requires-clause-takes
+known-requires-clause-takes c = subst (λ op. HasRange (instruction_of op)) c.in-Known.is c.requires.ranges
+
+pub known-requires-clause-work : goal.known-requires-clause-work
+known-requires-clause-work c = subst (λ op. MayWork (instruction_of op) c.args.stack.now c.args.top) c.in-Known.is c.requires.work
+
+pub returns-in-Known-clause-works : goal.returns-in-Known-clause-works
+returns-in-Known-clause-works c = subst (λ op. Works (instruction_of op) c.args.stack.now c.args.top c.known.new.stack c.known.result) (sym c.in-Known.is) c.known.ensures.works

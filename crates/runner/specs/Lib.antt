@@ -1,0 +1,8 @@
+-- The definitions that the contracts of runner cite.
+pub mod Words
+pub mod Work
+pub mod Reaching
+pub mod Arguments
+pub mod Frames
+pub mod Running
+pub mod Runners

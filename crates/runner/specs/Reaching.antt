@@ -1,0 +1,43 @@
+-- How far the subscripts of an element reach, capped at more than the units of any store.
+use Rattle.std.specs.Prelude.{◌≡◌, ℕ, zero, suc, ◌+◌, ◌*◌, ◌^◌, ◌≤◌, ℤ, pos, ◌-ℤ◌, unsigned_abs, int_le, nat_lt, ◌&&◌, List, get_or, Option, Some, None, if◌then◌else◌}
+use Rattle.ground.specs.declared.trap.Trap.TheVariants.{Subscript}
+use Rattle.f66_tree.specs.World.{Try, Yields, Traps}
+use Rattle.stack_code.specs.StackMachine.{Spot, At}
+use Rattle.stack_code.specs.ValidCode.{and_then}
+use Rattle.runner.specs.declared.words.Word.{Word}
+use Rattle.runner.specs.declared.elements.Reach.{Reach}
+use Rattle.runner.specs.Words.{Shows, blank}
+
+abbrev pub capped : ℕ → ℕ
+capped n = if nat_lt n (2 ^ 31) then n else 2 ^ 31
+
+pub record IsCapped (r : Reach) : Type 0 where
+  pub far : r.far ≤ 2 ^ 31
+  pub step : r.step ≤ 2 ^ 31
+
+-- with one more subscript and its dimension
+abbrev pub advanced : Reach → ℤ → ℤ → Option Reach
+advanced r i d =
+    if int_le (pos 1) i && int_le i d then Some (record { far = capped (r.far + unsigned_abs (i -ℤ pos 1) * r.step); step = capped (r.step * unsigned_abs d) }) else None
+
+abbrev pub value_at : List Word → ℕ → ℤ
+value_at buffer at = (get_or buffer at blank).value
+
+-- with so many more subscripts and dimensions, which lie in a buffer
+abbrev pub reaches : Reach → List Word → ℕ → ℕ → ℕ → Option ℕ
+reaches r buffer subscripts sizes zero = Some r.far
+reaches r buffer subscripts sizes (suc n) = and_then (advanced r (value_at buffer subscripts) (value_at buffer sizes)) (λ r1. reaches r1 buffer (suc subscripts) (suc sizes) n)
+
+abbrev pub at_first : Reach
+at_first = record { far = 0; step = 1 }
+
+-- two numbers that are the same up to the cap
+pub data Alike (a b : ℕ) : Type 0 where
+  Same : a ≡ b → Alike a b
+  Many : 2 ^ 31 ≤ a → 2 ^ 31 ≤ b → Alike a b
+
+-- a word stands for the spot so many places on, or there is none
+abbrev pub IsShifted : Try Spot → Option Word → Type 0
+IsShifted (Yields q) (Some w) = Shows (At q) w
+IsShifted (Traps t) None = t ≡ Subscript
+IsShifted _ _ = ⊥

@@ -1,0 +1,136 @@
+// Elements of arrays.
+ghost use Rattle.std.specs.Prelude.{◌≡◌, ◌+◌, ◌<◌, ◌≤◌, ◌^◌, ℕ, pos, length, IfSome};
+ghost use Rattle.stack_code.specs.Instructions.{Element};
+ghost use Rattle.stack_code.specs.StackMachine.{Spot, At, shift};
+ghost use Rattle.runner.specs.Words.{Shows};
+ghost use Rattle.runner.specs.Work.{MayWork, Works, IsRoomFor};
+ghost use Rattle.runner.specs.Reaching.{IsCapped, Alike, IsShifted, advanced, reaches, at_first, value_at, capped as capped_at};
+
+use crate::places::unit_of;
+use crate::words::{Word, push, word_at};
+use ground::Trap;
+
+/// More than the units of any store.
+const MANY: u64 = 2_147_483_648;
+
+/// How far the subscripts so far reach, and how far one of the next subscript reaches, each at most `MANY`.
+#[derive(Clone, Copy)]
+pub(crate) struct Reach {
+    pub(crate) far: u64,
+    pub(crate) step: u64,
+}
+
+#[inline(always)]
+fn capped(number: u64) -> u64
+    ensures is { result ≡ capped_at number }
+    ensures small { result ≤ 2 ^ 31 }
+{
+    if number < MANY { number } else { MANY }
+}
+
+/// With one more subscript and its dimension.
+#[inline(always)]
+fn advance(reach: Reach, subscript: i32, size: i32) -> Option<Reach>
+    requires { IsCapped reach }
+    ensures is { result ≡ advanced reach subscript size }
+    ensures capped { IfSome result IsCapped }
+{
+    if 1 <= subscript && subscript <= size {
+        let far = capped(reach.far + u64::from((subscript - 1).unsigned_abs()) * reach.step);
+        let step = capped(reach.step * u64::from(size.unsigned_abs()));
+        Some(Reach { far, step })
+    } else {
+        None
+    }
+}
+
+#[inline(always)]
+fn value_of(stack: &[Word], at: usize) -> i32
+    requires { at < length stack.now }
+    ensures { result ≡ value_at stack.now at }
+{
+    stack[at].value
+}
+
+/// With the subscript and the dimension that lie there.
+#[inline(always)]
+fn advance_at(reach: Reach, stack: &[Word], subscript: usize, size: usize) -> Option<Reach>
+    requires capped { IsCapped reach }
+    requires subscript { subscript < length stack.now }
+    requires size { size < length stack.now }
+    ensures is { result ≡ advanced reach (value_at stack.now subscript) (value_at stack.now size) }
+    ensures capped { IfSome result IsCapped }
+{
+    advance(reach, value_of(stack, subscript), value_of(stack, size))
+}
+
+/// How far an element is from its array's first one, by so many subscripts and dimensions.
+#[inline(always)]
+fn far_of(stack: &[Word], subscripts: usize, sizes: usize, count: usize) -> Option<u64>
+    requires subscripts { subscripts + count ≤ length stack.now }
+    requires sizes { sizes + count ≤ length stack.now }
+    ensures is { result ≡ reaches at_first stack.now subscripts sizes count }
+    ensures small { IfSome result (λ far. far ≤ 2 ^ 31) }
+{
+    let mut reach = Reach { far: 0, step: 1 };
+    for index in 0..count {
+        match advance_at(reach, stack, subscripts + index, sizes + index) {
+            Some(next) => reach = next,
+            None => return None,
+        }
+    }
+    Some(reach.far)
+}
+
+/// A unit of a variable with this unit behind it.
+#[inline(always)]
+fn placed(unit: u64, behind: u32) -> Word
+    requires { unit < 2 ^ 31 }
+    ensures value { result.value ≡ pos unit }
+    ensures behind { result.behind ≡ behind }
+{
+    Word {
+        value: unit as i32,
+        behind,
+    }
+}
+
+/// The spot so many places on.
+#[inline(always)]
+fn shifted(word: Word, far: u64) -> Option<Word>
+    requires spot { (p : Spot) × Shows (At p) word }
+    requires few { far ≤ 2 ^ 31 }
+    ensures { (p : Spot) (n : ℕ) → Shows (At p) word → Alike far n → IsShifted (shift p n) result }
+{
+    if word.behind == 0 {
+        return if far == 0 { Some(word) } else { None };
+    }
+    let unit = unit_of(word) as u64 + far;
+    if unit < word.behind as u64 {
+        Some(placed(unit, word.behind))
+    } else {
+        None
+    }
+}
+
+/// Dimensions, subscripts and a spot are popped, and the spot of the element is pushed.
+#[inline(always)]
+pub(crate) fn element(count: u8, stack: &mut [Word], top: usize) -> Result<usize, Trap>
+    requires { MayWork (Element count) stack.old top }
+    ensures works { Works (Element count) stack.old top stack.new result }
+    ensures room { IsRoomFor stack.new result }
+{
+    let sizes = top - count as usize;
+    let subscripts = sizes - count as usize;
+    match far_of(stack, subscripts, sizes, count as usize) {
+        None => Err(Trap::Subscript),
+        Some(far) => match shifted(word_at(stack, subscripts), far) {
+            None => Err(Trap::Subscript),
+            Some(word) => {
+                let under = subscripts - 1;
+                push(stack, under, word);
+                Ok(under + 1)
+            }
+        },
+    }
+}

@@ -1,0 +1,18 @@
+//! Runs stack code over a stack, a store and counters that are taken before: a run itself takes no memory.
+#![tactic(auto)]
+
+mod branches;
+mod elements;
+mod frames;
+mod intrinsics;
+mod loops;
+mod places;
+mod run;
+mod runner;
+mod values;
+mod words;
+
+pub use frames::Resume;
+pub use run::{End, Ran};
+pub use runner::Runner;
+pub use words::{Cell, Word};

@@ -1,0 +1,311 @@
+// The loop that runs code, over a stack and a store that are given to it.
+ghost use Rattle.std.specs.Prelude.{◌≡◌, ◌+◌, ◌-◌, ◌<◌, ◌≤◌, ◌^◌, ℕ, length};
+ghost use Rattle.stack_code.specs.Views.{code_of, instruction_of};
+ghost use Rattle.runner.specs.Work.{MayWork, Works, MayHold, Holds, IsRoomFor};
+ghost use Rattle.runner.specs.Running.{IsReady, IsRunOf, HasRange, HasUnits, bounded, ran, role as role_for};
+ghost use Rattle.runner.specs.declared.run.Role.TheVariants.{Works as works, Holds as holds};
+
+use crate::branches::leap;
+use crate::elements::element;
+use crate::frames::{Resume, call, caller_below, dummy, keep_caller};
+use crate::intrinsics::known;
+use crate::loops::{loop_start, loop_turn};
+use crate::places::{forget, lend, load, store};
+use crate::values::{both, minus, not, push_integer, push_spot, push_truth};
+use crate::words::{Cell, Word};
+use f66_tree::Operator;
+use ground::{Kind, Place, Trap};
+use stack_code::{Code, Op, valid_is_safe};
+
+/// How a run ended.
+#[derive(Clone, Copy)]
+pub enum End {
+    /// At a STOP without a number, or past the main's last statement.
+    Done,
+    /// At a STOP with this number.
+    Stopped(u16),
+    /// In a trap, within the statement at this place.
+    Trapped(Trap, Place),
+    /// Where no further statement may begin.
+    StepLimit,
+}
+
+/// How a run went.
+#[derive(Clone, Copy)]
+pub struct Ran {
+    /// How it ended.
+    pub end: End,
+    /// How many statements may still begin.
+    pub left: u64,
+    /// How many instructions were executed, at most the greatest number of this type.
+    pub executed: u64,
+}
+
+/// What an instruction is to the loop.
+#[derive(Clone, Copy)]
+enum Role {
+    /// A statement begins at this place.
+    Begins(Place),
+    /// A turn of an implied DO begins.
+    Turns,
+    Halts,
+    Stops(u16),
+    /// It may go on elsewhere than at the next instruction.
+    Leaps,
+    /// It works on the stack alone.
+    Works,
+    /// It works on the stack and the store.
+    Holds,
+    /// A turn of a DO ends: the units of its limit and its step, and where the next turn begins.
+    Loops(u32, u32, u32),
+    /// It pushes a dummy's spot.
+    Dummies(u32),
+    /// It calls this entry with so many dummies.
+    Calls(u32, u32),
+    Returns,
+    /// It has to do with records.
+    Other,
+}
+
+#[inline(always)]
+fn role_of(op: &Op) -> Role
+    ensures { result ≡ role_for (instruction_of op.now) }
+{
+    match op {
+        Op::Begin(place) => Role::Begins(*place),
+        Op::Step => Role::Turns,
+        Op::PushInt(_) => Role::Works,
+        Op::PushLog(_) => Role::Works,
+        Op::Spot(_, _) => Role::Works,
+        Op::Dummy(number) => Role::Dummies(*number),
+        Op::Element(_) => Role::Works,
+        Op::LoadInt => Role::Holds,
+        Op::LoadLog => Role::Holds,
+        Op::Store => Role::Holds,
+        Op::Forget => Role::Holds,
+        Op::Lend(_) => Role::Holds,
+        Op::Add => Role::Works,
+        Op::Sub => Role::Works,
+        Op::Mul => Role::Works,
+        Op::Div => Role::Works,
+        Op::Pow => Role::Works,
+        Op::Minus => Role::Works,
+        Op::Not => Role::Works,
+        Op::And => Role::Works,
+        Op::Or => Role::Works,
+        Op::Compare(_) => Role::Works,
+        Op::Known(_, _) => Role::Works,
+        Op::Jump(_) => Role::Leaps,
+        Op::JumpFalse(_) => Role::Leaps,
+        Op::JumpSign(_, _, _) => Role::Leaps,
+        Op::JumpTable(_) => Role::Leaps,
+        Op::LoopStart(_, _) => Role::Holds,
+        Op::LoopTurn(limit, step, to) => Role::Loops(*limit, *step, *to),
+        Op::Call(to, count) => Role::Calls(*to, *count),
+        Op::Return => Role::Returns,
+        Op::WriteStart(_) => Role::Other,
+        Op::ReadStart(_) => Role::Other,
+        Op::PutItem(_) => Role::Other,
+        Op::TakeItem(_) => Role::Other,
+        Op::PutRow(_, _) => Role::Other,
+        Op::TakeRow(_, _) => Role::Other,
+        Op::Finish => Role::Other,
+        Op::Halt => Role::Halts,
+        Op::HaltWith(number) => Role::Stops(*number),
+    }
+}
+
+/// An instruction that works on the stack alone.
+#[inline(always)]
+fn work(op: &Op, stack: &mut [Word], top: usize) -> Result<usize, Trap>
+    requires role { role_for (instruction_of op.now) ≡ works }
+    requires ranges { HasRange (instruction_of op.now) }
+    requires work { MayWork (instruction_of op.now) stack.old top }
+    ensures works { Works (instruction_of op.now) stack.old top stack.new result }
+    ensures room { IsRoomFor stack.new result }
+{
+    match op {
+        Op::PushInt(number) => Ok(push_integer(*number, stack, top)),
+        Op::PushLog(value) => Ok(push_truth(*value, stack, top)),
+        Op::Spot(first, size) => Ok(push_spot(*first, *size, stack, top)),
+        Op::Add => both(Operator::Add, stack, top),
+        Op::Sub => both(Operator::Sub, stack, top),
+        Op::Mul => both(Operator::Mul, stack, top),
+        Op::Div => both(Operator::Div, stack, top),
+        Op::Pow => both(Operator::Power, stack, top),
+        Op::And => both(Operator::And, stack, top),
+        Op::Or => both(Operator::Or, stack, top),
+        Op::Compare(op) => both(*op, stack, top),
+        Op::Minus => Ok(minus(stack, top)),
+        Op::Not => Ok(not(stack, top)),
+        Op::Element(count) => element(*count, stack, top),
+        Op::Known(function, count) => known(*function, *count, stack, top),
+        _ => unreachable!(),
+    }
+}
+
+/// An instruction that works on the stack and the store.
+#[inline(always)]
+fn hold(op: &Op, stack: &mut [Word], top: usize, cells: &mut [Cell]) -> Result<usize, Trap>
+    requires role { role_for (instruction_of op.now) ≡ holds }
+    requires ranges { HasUnits (instruction_of op.now) (length cells.old) }
+    requires few { length cells.old < 2 ^ 31 }
+    requires hold { MayHold (instruction_of op.now) stack.old top cells.old }
+    ensures works { Holds (instruction_of op.now) stack.old top cells.old stack.new cells.new result }
+    ensures room { IsRoomFor stack.new result }
+{
+    match op {
+        Op::LoadInt => load(Kind::Integer, stack, top, cells),
+        Op::LoadLog => load(Kind::Logical, stack, top, cells),
+        Op::Store => store(stack, top, cells),
+        Op::Forget => forget(stack, top, cells),
+        Op::Lend(unit) => Ok(lend(*unit, stack, top, cells)),
+        Op::LoopStart(limit, step) => loop_start(*limit, *step, stack, top, cells),
+        _ => unreachable!(),
+    }
+}
+
+/// So many instructions more, and the one at `pc`.
+#[inline(always)]
+fn counted(executed: u64, from: usize, pc: usize) -> u64
+    requires order { from ≤ pc }
+    requires few { pc < 2 ^ 63 }
+    ensures { (base : ℕ) → executed ≡ bounded base → result ≡ bounded (base + (pc - from) + 1) }
+{
+    executed.saturating_add((pc - from) as u64 + 1)
+}
+
+/// Runs the code, and takes no memory.
+pub(crate) fn run_code(
+    code: &Code,
+    stack: &mut [Word],
+    cells: &mut [Cell],
+    spots: &mut [Word],
+    resumes: &mut [Resume],
+    steps: u64,
+) -> Ran
+    requires { IsReady code.now stack.old cells.old spots.old resumes.old }
+    ensures { IsRunOf code.now steps result }
+{
+    valid_is_safe();
+    let ops: &[Op] = &code.ops;
+    let mut pc = 0;
+    let mut top = 0;
+    let mut left = steps;
+    let mut place = Place { file: 0, line: 0 };
+    let mut executed = 0;
+    let mut from = 0;
+    let mut level = 0;
+    let mut base = 0;
+    'turn: loop {
+        prove!(pc < ops.len());
+        let op = &ops[pc];
+        match role_of(op) {
+            Role::Begins(begun) => {
+                if left == 0 {
+                    return over(End::StepLimit, left, counted(executed, from, pc));
+                }
+                left -= 1;
+                place = begun;
+                pc += 1;
+            }
+            Role::Turns => {
+                if left == 0 {
+                    return over(End::StepLimit, left, counted(executed, from, pc));
+                }
+                left -= 1;
+                pc += 1;
+            }
+            Role::Halts => return over(End::Done, left, counted(executed, from, pc)),
+            Role::Stops(number) => return over(
+                End::Stopped(number),
+                left,
+                counted(executed, from, pc),
+            ),
+            Role::Leaps => match leap(op, pc, stack, top) {
+                Ok((to, rest)) => {
+                    executed = counted(executed, from, pc);
+                    pc = to;
+                    from = to;
+                    top = rest;
+                }
+                Err(trap) => return over(
+                    End::Trapped(trap, place),
+                    left,
+                    counted(executed, from, pc),
+                ),
+            },
+            Role::Works => match work(op, stack, top) {
+                Ok(rest) => {
+                    top = rest;
+                    pc += 1;
+                }
+                Err(trap) => return over(
+                    End::Trapped(trap, place),
+                    left,
+                    counted(executed, from, pc),
+                ),
+            },
+            Role::Holds => match hold(op, stack, top, cells) {
+                Ok(rest) => {
+                    top = rest;
+                    pc += 1;
+                }
+                Err(trap) => return over(
+                    End::Trapped(trap, place),
+                    left,
+                    counted(executed, from, pc),
+                ),
+            },
+            Role::Loops(limit, step, to) => {
+                match loop_turn(limit, step, to, pc, stack, top, cells) {
+                    Ok((next, rest)) => {
+                        executed = counted(executed, from, pc);
+                        pc = next;
+                        from = next;
+                        top = rest;
+                    }
+                    Err(trap) => {
+                        return over(End::Trapped(trap, place), left, counted(executed, from, pc));
+                    }
+                }
+            }
+            Role::Dummies(number) => {
+                top = dummy(number, spots, base, stack, top);
+                pc += 1;
+            }
+            Role::Calls(to, count) => {
+                let above = base + code.dummies as usize;
+                top = call(count, stack, top, spots, above);
+                keep_caller(resumes, level, Resume { at: pc + 1, place });
+                executed = counted(executed, from, pc);
+                pc = to as usize;
+                from = to as usize;
+                level += 1;
+                base = above;
+            }
+            Role::Returns => {
+                let resume = caller_below(resumes, level);
+                executed = counted(executed, from, pc);
+                pc = resume.at;
+                from = resume.at;
+                place = resume.place;
+                level -= 1;
+                base -= code.dummies as usize;
+            }
+            Role::Other => unreachable!(),
+        }
+    }
+}
+
+/// How a run went.
+#[inline(always)]
+fn over(end: End, left: u64, executed: u64) -> Ran
+    ensures { result ≡ ran end left executed }
+{
+    Ran {
+        end,
+        left,
+        executed,
+    }
+}
