@@ -15,7 +15,7 @@ pub use checks::{checked, fault_in, to_run};
 pub use edits::{end, integer_in, letter_out, plan_of, turn};
 pub use flow::{header_breaks, line_breaks};
 pub use made_names::{kept_or_made, made_label};
-pub use names::{built, condition_breaks, counting_breaks, names_in, saying_breaks};
+pub use names::{built, names_in, saying_breaks};
 pub use ratfor::labels_of;
 pub use trees::{constant_of, copied, copied_expression};
 pub use units::{head_breaks, statement_breaks};

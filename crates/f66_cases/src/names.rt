@@ -1,7 +1,7 @@
 // The rules of names for one statement, also where it has a form that is not built, and names that no source has.
 
 use crate::reading::statements;
-use f66_names::{Saying, broken_rule, names_of};
+use f66_names::Saying;
 use f66_tree::{Header, Stmt};
 use ground::Text;
 use name_alloc::Names;
@@ -9,6 +9,7 @@ use rule_table::Rule;
 use std::alloc::{AllocError, Global};
 use std::process::Abort;
 use std::test::Fail;
+use unit_rules::{broken_rule, unit_names_of};
 
 /// The rule that the last of some statements breaks.
 fn rule_of_last(alloc: Global, statements: &[Stmt]) -> Result<Option<Rule>, AllocError> {
@@ -17,7 +18,7 @@ fn rule_of_last(alloc: Global, statements: &[Stmt]) -> Result<Option<Rule>, Allo
     for statement in statements {
         sayings.push(Saying::Act(&statement.kind))?;
     }
-    let names = names_of(alloc, &header, &sayings)?;
+    let names = unit_names_of(alloc, &header, &sayings)?;
     match statements.split_last() {
         Some((last, before)) => broken_rule(alloc, &names, before.len(), &last.kind),
         None => Ok(None),

@@ -1,5 +1,5 @@
 -- A sound unit is what the law of sound main units asks for: its statements are built and clean, and its formats are there.
-use Rattle.std.proofs.Common.{◌≡◌, ◌+◌, ℕ, zero, suc, Bool, true, false, true≢false, cond, Option, Some, None, List, [], ◌∷◌, option_map, ◌||◌, refl, ap, sym, ◌∙◌, subst}
+use Rattle.std.proofs.Common.{◌≡◌, ℕ, suc, Bool, true, false, true≢false, cond, Option, Some, None, List, [], ◌∷◌, option_map, ◌||◌, refl, ap, sym, ◌∙◌, subst}
 use Rattle.std.specs.Prelude.{is_some, not, if◌then◌else◌}
 use Rattle.std.specs.List.{slice_get, list_any}
 use Rattle.std.proofs.lemmas.Option.{slice_get-map}
@@ -7,12 +7,11 @@ use Rattle.std.proofs.lemmas.Bool.{or_parts}
 use Rattle.rule_table.specs.declared.rule.Rule.{Rule}
 use Rattle.rule_table.specs.declared.rule.Rule.TheVariants.{BadLabel}
 use Rattle.rule_table.specs.Words.{is_some_and}
-use Rattle.f66_tree.specs.Syntax.{Header, MainUnit, SubUnit, FuncUnit, DataUnit, Act, When, Read, Write, Format, Line, Routine}
-use Rattle.f66_tree.specs.Units.{Note, Context, is_main, is_note, notes_of, format_of}
+use Rattle.f66_tree.specs.Syntax.{Header, MainUnit, Act, When, Read, Write, Format, Line, Routine}
+use Rattle.f66_tree.specs.Units.{Note, is_main, is_note, notes_of, format_of}
 use Rattle.f66_tree.specs.Execution.{has_label}
 use Rattle.f66_tree.proofs.Tries.{if_both}
 use Rattle.f66_names.specs.Rules.{breaks_name}
-use Rattle.f66_names.specs.BuiltActs.{is_built}
 use Rattle.f66_names.specs.Declaring.{context_by}
 use Rattle.f66_flow.specs.Acts.{is_format, formats_named, branches}
 use Rattle.f66_flow.specs.Ranges.{named}
@@ -23,34 +22,8 @@ use Rattle.f66_soundness.proofs.SoundLemmas.{never_wrong_by_acts}
 use Rattle.f66_check.specs.CheckRules.{context_of, unbuilt_line}
 use Rattle.f66_check.specs.Answers.{IsSound}
 use Rattle.f66_check.specs.SoundRuns.{SoundRunsRightly}
-
--- ---- what is built ----
-
-pub main_only : (h : Header) → is_main h ≡ true → h ≡ MainUnit
-main_only MainUnit e = refl
-main_only (SubUnit x ds) e = absurd (true≢false (sym e))
-main_only (FuncUnit t x ds) e = absurd (true≢false (sym e))
-main_only DataUnit e = absurd (true≢false (sym e))
-
-pub built_parts : (b : Bool) (o : Option ℕ) → (if b then option_map (λ i. i + 1) o else Some 0) ≡ None → (b ≡ true) × (o ≡ None)
-built_parts true None e = (refl, refl)
-built_parts true (Some i) e = absurd (true≢false (ap is_some e))
-built_parts false o e = absurd (true≢false (ap is_some e))
-
-none_parts : (b : Bool) (o : Option ℕ) → cond b (Some 0) (option_map (λ n. n + 1) o) ≡ None → (b ≡ false) × (o ≡ None)
-none_parts true o e = absurd (true≢false (ap is_some e))
-none_parts false None e = (refl, refl)
-none_parts false (Some i) e = absurd (true≢false (ap is_some e))
-
-not_false : (b : Bool) → not b ≡ false → b ≡ true
-not_false true e = refl
-not_false false e = absurd (true≢false e)
-
-pub each_built : (c : Context) (lines : List Line) → unbuilt_line c lines ≡ None → (i : ℕ) (a : Act) → slice_get (acts_in_unit lines) i ≡ Some a → is_built c a ≡ true
-each_built c [] none i a e = absurd (true≢false (sym (ap is_some e)))
-each_built c (s ∷ rest) none zero a e =
-    not_false (is_built c a) (subst (λ o. is_some_and (λ b. not (is_built c b)) o ≡ false) e (none_parts (not (is_built c s.act)) (unbuilt_line c rest) none).0)
-each_built c (s ∷ rest) none (suc i) a e = each_built c rest (none_parts (not (is_built c s.act)) (unbuilt_line c rest) none).1 i a e
+use Rattle.f66_check.proofs.BuiltLemmas.{main_only, built_parts, each_built}
+use Rattle.f66_check.proofs.PlainLemmas.{plainly}
 
 -- ---- what is clean ----
 
@@ -66,7 +39,7 @@ pub clean_line : (u : Routine) → IsSound u → (i : ℕ) (s : Line) (k : Rule)
     (breaks_flow Whole u.header u.lines i s k ≡ false) × (breaks_name (context_of u) (acts_in_unit u.lines) i s.act k ≡ false)
 clean_line u sound i s k is =
     or_parts (breaks_flow Whole u.header u.lines i s k) _
-    (subst (λ o. is_some_and (λ t. breaks_flow Whole u.header u.lines i t k || breaks_name (context_of u) (acts_in_unit u.lines) i t.act k) o ≡ false) is (sound.clean (suc i) k))
+    (subst (λ o. is_some_and (λ t. breaks_flow Whole u.header u.lines i t k || breaks_name (context_of u) (acts_in_unit u.lines) i t.act k) o ≡ false) is (plainly u sound (suc i) k))
 
 -- ---- formats ----
 

@@ -12,7 +12,7 @@ use Rattle.rule_table.specs.FaultRules.{fault_of}
 use Rattle.f66_tree.specs.Syntax.{Routine}
 use Rattle.f66_flow.specs.declared.scope.Scope.{Scope}
 use Rattle.f66_flow.specs.declared.scope.Scope.TheVariants.{Whole}
-use Rattle.f66_check.specs.CheckRules.{breaks_at, first_unbuilt}
+use Rattle.f66_check.specs.CheckRules.{first_unbuilt}
 use Rattle.f66_check.specs.UnitChecks.{breaks_unit}
 
 -- the place of a unit's header, or of a statement
@@ -31,7 +31,7 @@ IsSoundUnit u = IsFaultless Whole u
 -- a sound main unit all of whose statements are built, which is what is compiled and run so far
 pub record IsSound (u : Routine) : Type 0 where
   pub built : first_unbuilt u ≡ None
-  pub clean : IsClean (breaks_at Whole u)
+  pub sound : IsSoundUnit u
 
 -- f is the first fault, and stands at the part with the number n
 pub record IsFirstFault (w : Scope) (u : Routine) (n : ℕ) (f : Fault) : Type 0 where

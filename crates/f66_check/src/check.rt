@@ -6,7 +6,7 @@ ghost use Rattle.f66_check.specs.Answers.{IsSound};
 
 use crate::SoundUnit;
 use crate::unbuilt::{is_main, sayings_of, unbuilt_statement};
-use f66_names::names_of;
+use f66_names::declarations_of;
 use f66_tree::Unit;
 use std::alloc::{AllocError, Global};
 use std::marker::Model;
@@ -70,8 +70,8 @@ fn is_built_main(alloc: Global, unit: &Unit) -> Result<bool, AllocError>
     ensures { IfOk result (λ b. b ≡ is_none (first_unbuilt (routine_of unit.now))) }
 {
     let sayings = sayings_of(alloc, &unit.statements)?;
-    let names = names_of(alloc, &unit.header, &sayings)?;
-    let unbuilt = unbuilt_statement(alloc, &names, &unit.statements)?;
+    let declarations = declarations_of(alloc, &unit.header, &sayings)?;
+    let unbuilt = unbuilt_statement(alloc, &declarations, &unit.statements)?;
     let main = is_main(&unit.header);
     Ok(is_runnable(main, unbuilt))
 }

@@ -7,7 +7,7 @@ ghost use Rattle.f66_names.specs.BuiltActs.{is_built as is_built_act};
 ghost use Rattle.f66_names.specs.ActViews.{acts_of};
 ghost use Rattle.f66_names.specs.DeclarationViews.{context_in};
 
-use f66_names::{Names, Saying, is_built};
+use f66_names::{Declarations, Saying, is_built};
 use f66_tree::{Header, Stmt};
 use std::alloc::{AllocError, Global};
 
@@ -33,15 +33,15 @@ pub fn sayings_of(alloc: Global, statements: &[Stmt]) -> Result<Vec<Saying>, All
 #[tactic(auto, using(rule_table::proofs::WordLemmas::place_steps))]
 pub fn unbuilt_statement(
     alloc: Global,
-    names: &Names,
+    declarations: &Declarations,
     statements: &[Stmt],
 ) -> Result<Option<usize>, AllocError>
     ensures within { IfOk result (λ o. IfSome o (λ i. i < length statements.now)) }
     ensures first { IfOk result
-        (λ o. o ≡ first_place (λ s. not (is_built_act (context_in names.now.declarations) (act_of s.kind))) statements.now) }
+        (λ o. o ≡ first_place (λ s. not (is_built_act (context_in declarations.now) (act_of s.kind))) statements.now) }
 {
     for (i, statement) in statements.iter().enumerate() {
-        let built = is_built(alloc, names, &statement.kind)?;
+        let built = is_built(alloc, declarations, &statement.kind)?;
         if !built {
             return Ok(Some(i));
         }

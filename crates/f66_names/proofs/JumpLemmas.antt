@@ -1,5 +1,5 @@
 -- What a compiler's own statements break: jumps, tests of a condition or of a scalar, and stores into a scalar.
-use Rattle.std.proofs.Common.{◌≡◌, ◌&&◌, ◌||◌, ℕ, Bool, true, false, not, Option, Some, None, List, [], ◌++◌, refl, ap, ◌∙◌}
+use Rattle.std.proofs.Common.{◌≡◌, ◌&&◌, ◌||◌, ℕ, Bool, true, false, not, None, List, [], ◌++◌, refl, ap, ◌∙◌}
 use Rattle.std.specs.List.{list_any}
 use Rattle.std.proofs.lemmas.List.{append-nil}
 use Rattle.ground.specs.declared.value.Kind.{Kind}
@@ -16,7 +16,14 @@ use Rattle.f66_names.specs.Uses.{Usage, usage, uses_of}
 use Rattle.f66_names.specs.Kinds.{same_kind, may_be, fits, assigns}
 use Rattle.f66_names.specs.NameRules.{is_long, miscounts, misuses}
 use Rattle.f66_names.specs.Rules.{breaks_name}
-use Rattle.f66_names.proofs.ConditionLemmas.{and_true, or_false}
+
+pub and_true : (a : Bool) → (a && true) ≡ a
+and_true true = refl
+and_true false = refl
+
+pub or_false : (a : Bool) → (a || false) ≡ a
+or_false true = refl
+or_false false = refl
 
 -- an integer variable whose name is fit
 pub record IsScalar (c : Context) (acts : List Act) (x : Text) : Type 0 where

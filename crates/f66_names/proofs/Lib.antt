@@ -7,6 +7,4 @@ pub mod SizeLemmas
 pub mod DeclaredLemmas
 pub mod EntryLemmas
 pub mod FormatLemmas
-pub mod ConditionLemmas
 pub mod JumpLemmas
-pub mod ExpressionLemmas

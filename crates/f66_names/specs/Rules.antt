@@ -2,14 +2,11 @@
 use Rattle.std.specs.Prelude.{ℕ, Bool, false, not, List}
 use Rattle.rule_table.specs.declared.rule.Rule.{Rule}
 use Rattle.rule_table.specs.declared.rule.Rule.TheVariants.{Syntax, NameTooLong, OutOfProfileType, TypeClash, WrongCount, DuplicateName, BadConstant, BadFormat, NotAssignable, LargeArray}
-use Rattle.std.specs.List.{list_any}
-use Rattle.f66_tree.specs.Syntax.{Act, Formula}
+use Rattle.f66_tree.specs.Syntax.{Act}
 use Rattle.f66_tree.specs.Units.{Context}
-use Rattle.f66_names.specs.Shapes.{has_shape, stands}
-use Rattle.f66_names.specs.Sorts.{is_real_by_letter}
-use Rattle.f66_names.specs.Uses.{uses_of}
+use Rattle.f66_names.specs.Shapes.{has_shape}
 use Rattle.f66_names.specs.Kinds.{clashes}
-use Rattle.f66_names.specs.NameRules.{has_name, is_long, has_other_type, miscounts, has_wrong_count, misuses, is_duplicate}
+use Rattle.f66_names.specs.NameRules.{has_name, is_long, has_other_type, has_wrong_count, is_duplicate}
 use Rattle.f66_names.specs.StoreRules.{has_bad_constant, has_bad_format, stores_wrong, has_large_array}
 
 -- what the statement a with the number i breaks, of a unit with these statements
@@ -25,13 +22,3 @@ breaks_name c acts i a BadFormat = has_bad_format a
 breaks_name c acts i a NotAssignable = stores_wrong c a
 breaks_name c acts i a LargeArray = has_large_array a
 breaks_name c acts i a _ = false
-
--- what an expression breaks of which a type is asked, as a condition or a value: the clash is that it has another
-abbrev pub breaks_expression : Context → List Act → Bool → Formula → Rule → Bool
-breaks_expression c acts clash e Syntax = not (stands 0 e)
-breaks_expression c acts clash e NameTooLong = list_any (λ u. is_long u.name) (uses_of e)
-breaks_expression c acts clash e OutOfProfileType = list_any (λ u. is_real_by_letter c u.name) (uses_of e)
-breaks_expression c acts clash e TypeClash = clash
-breaks_expression c acts clash e WrongCount = list_any (miscounts c) (uses_of e)
-breaks_expression c acts clash e DuplicateName = list_any (misuses c acts) (uses_of e)
-breaks_expression c acts clash e _ = false

@@ -1,5 +1,5 @@
 -- What a name is in a unit: an array, an intrinsic function, or something else (X3.9-1966, sections 5.1.3, 7.2.1.1 and 8.2).
-use Rattle.std.specs.Prelude.{ℕ, Bool, true, false, not, ◌&&◌, ◌==◌, nat_le, length, Option, Some, if◌then◌else◌}
+use Rattle.std.specs.Prelude.{ℕ, Bool, true, false, not, ◌&&◌, ◌==◌, nat_le, length, Some, if◌then◌else◌}
 use Rattle.std.specs.List.{list_any}
 use Rattle.std.specs.Str.{bytes_eq}
 use Rattle.ground.specs.declared.value.Kind.{Kind}

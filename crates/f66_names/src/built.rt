@@ -8,7 +8,6 @@ ghost use Rattle.f66_names.specs.BuiltActs.{is_function_by, is_function, is_buil
 ghost use Rattle.f66_names.specs.DeclarationViews.{context_in};
 
 use crate::declarations::Declarations;
-use crate::names::Names;
 use crate::sorts::form_of;
 use crate::uses::{Use, uses_of_saying, uses_of_statement};
 use crate::{Manner, NameForm, Saying};
@@ -16,20 +15,26 @@ use f66_tree::StmtKind;
 use std::alloc::{AllocError, Global};
 
 /// Whether a statement is built so far.
-pub fn is_built(alloc: Global, names: &Names, kind: &StmtKind) -> Result<bool, AllocError>
-    ensures { IfOk result (λ b. b ≡ is_built (context_in names.now.declarations) (act_of kind.now)) }
+pub fn is_built(
+    alloc: Global,
+    declarations: &Declarations,
+    kind: &StmtKind,
+) -> Result<bool, AllocError>
+    ensures { IfOk result (λ b. b ≡ is_built (context_in declarations.now) (act_of kind.now)) }
 {
     let uses = uses_of_statement(alloc, kind)?;
-    let declarations = &names.declarations;
     Ok(is_built_form(kind) && !has_function(declarations, &uses))
 }
 
 /// Whether a statement or a part of one is built so far.
-pub fn is_built_saying(alloc: Global, names: &Names, saying: &Saying) -> Result<bool, AllocError>
-    ensures { IfOk result (λ b. b ≡ is_built (context_in names.now.declarations) (act_said saying.now)) }
+pub fn is_built_saying(
+    alloc: Global,
+    declarations: &Declarations,
+    saying: &Saying,
+) -> Result<bool, AllocError>
+    ensures { IfOk result (λ b. b ≡ is_built (context_in declarations.now) (act_said saying.now)) }
 {
     let uses = uses_of_saying(alloc, saying)?;
-    let declarations = &names.declarations;
     Ok(has_built_form(saying) && !has_function(declarations, &uses))
 }
 
@@ -38,7 +43,10 @@ fn has_built_form(saying: &Saying) -> bool
 {
     match *saying {
         Saying::Act(kind) => is_built_form(kind),
-        Saying::Condition(_) | Saying::Value(_) | Saying::Counting(_, _, _, _) => true,
+        Saying::Condition(_)
+        | Saying::Value(_)
+        | Saying::Counting(_, _, _, _)
+        | Saying::Returned(_, _) => true,
     }
 }
 

@@ -1,42 +1,15 @@
-// The types of expressions, and where statements have others than they ask for.
-ghost use Rattle.std.specs.Prelude.{◌≡◌, ◌||◌};
-ghost use Rattle.ground.specs.declared.value.Kind.TheVariants.{Integer, Logical};
-ghost use Rattle.f66_tree.specs.Views.{formula_of, formulas_of, par_of, entry_of, entries_of, act_of};
+// The types of names, subscripts, targets and the items of lists.
+ghost use Rattle.std.specs.Prelude.{◌≡◌};
+ghost use Rattle.f66_tree.specs.Views.{formula_of, formulas_of, par_of, entry_of, entries_of};
 ghost use Rattle.f66_tree.specs.Syntax.{Item, Many};
 ghost use Rattle.f66_tree.specs.Built.{is_arithmetic};
-ghost use Rattle.f66_names.specs.Kinds.{is_number, is_index, is_times, is_plus_or_minus, is_multiple, is_shifted, is_subscript, are_subscripts, same_kind, may_be, is_connective, operand, outcome, applied, fits, are_integers, takes_kind, assigns, is_counting, is_listed, counts, is_entry, are_entries, clashes};
+ghost use Rattle.f66_names.specs.Kinds.{is_number, is_index, is_times, is_plus_or_minus, is_multiple, is_shifted, is_subscript, are_subscripts, same_kind, may_be, is_connective, operand, outcome, takes_kind, is_counting, is_listed, counts, is_entry, are_entries};
 ghost use Rattle.f66_names.specs.DeclarationViews.{context_in};
 
-use crate::NameForm;
 use crate::declarations::Declarations;
-use crate::sorts::{form_of, is_array, is_counter, is_foreign, is_integer, kind_of};
-use f66_tree::{Entry, Expr, Name, Operator, Par, StmtKind, Way};
+use crate::sorts::{is_array, is_counter, is_foreign, is_integer, kind_of};
+use f66_tree::{Entry, Expr, Name, Operator, Par, Way};
 use ground::Kind;
-
-/// Whether a statement has an operand, a subscript, an argument or a value of another type than it asks for
-/// (X3.9-1966, sections 5.1.3.3, 6, 7.1 and 8.2).
-pub fn clashes(declarations: &Declarations, kind: &StmtKind) -> bool
-    ensures { result ≡ clashes (context_in declarations.now) (act_of kind.now) }
-{
-    match kind {
-        StmtKind::Assign(target, value) => !takes_value(declarations, target, value),
-        StmtKind::Computed(_, index) => !is_counter(declarations, index),
-        StmtKind::Sign(e, _, _, _) => !fits(declarations, e, Kind::Integer),
-        StmtKind::When(test, inner) => {
-            !fits(declarations, test, Kind::Logical) || clashes(declarations, inner)
-        }
-        StmtKind::Loop(_, variable, first, last, step) => {
-            !counts(declarations, variable, first, last, step)
-        }
-        StmtKind::Read(unit, _, list) => {
-            !(is_counting(declarations, unit) && are_entries(Way::Reading, declarations, list))
-        }
-        StmtKind::Write(unit, _, list) => {
-            !(is_counting(declarations, unit) && are_entries(Way::Writing, declarations, list))
-        }
-        _ => false,
-    }
-}
 
 /// Whether the variable and the parameters of a DO are integers (section 7.1.2.8).
 pub fn counts(
@@ -51,58 +24,6 @@ pub fn counts(
     is_integer(kind_of(declarations, variable))
         && (is_counting(declarations, first)
             && (is_counting(declarations, last) && is_counting(declarations, step)))
-}
-
-/// Whether an expression may have a type (sections 6 and 8.2).
-#[cycle(fits)]
-pub fn fits(declarations: &Declarations, e: &Expr, kind: Kind) -> bool
-    ensures { result ≡ fits (context_in declarations.now) (formula_of e.now) kind }
-{
-    match e {
-        Expr::Int(_) => same_kind(Kind::Integer, kind),
-        Expr::Truth(_) => same_kind(Kind::Logical, kind),
-        Expr::Letter(_) => false,
-        Expr::Ref(name) => !is_array(declarations, name) && may_be(declarations, name, kind),
-        Expr::Item(name, list) => fits_item(declarations, name, list, kind),
-        Expr::Group(a) => fits(declarations, a, kind),
-        Expr::Plus(a) => same_kind(Kind::Integer, kind) && fits(declarations, a, Kind::Integer),
-        Expr::Minus(a) => same_kind(Kind::Integer, kind) && fits(declarations, a, Kind::Integer),
-        Expr::Not(a) => same_kind(Kind::Logical, kind) && fits(declarations, a, Kind::Logical),
-        Expr::Pair(operator, a, b) => {
-            let asked = operand(*operator);
-            same_kind(outcome(*operator), kind)
-                && (fits(declarations, a, asked) && fits(declarations, b, asked))
-        }
-    }
-}
-
-/// Whether an element, or a value of an intrinsic function, may have a type.
-#[cycle(fits)]
-fn fits_item(declarations: &Declarations, name: &Name, list: &[Expr], kind: Kind) -> bool
-    ensures { result ≡ fits (context_in declarations.now) (Item name.now (formulas_of list.now)) kind }
-{
-    match form_of(declarations, name) {
-        NameForm::Array(_) => are_subscripts(declarations, list)
-            && may_be(declarations, name, kind),
-        NameForm::Intrinsic(_) => {
-            is_integer(kind_of(declarations, name))
-                && are_integers(declarations, list)
-                && same_kind(Kind::Integer, kind)
-        }
-        NameForm::Plain => false,
-    }
-}
-
-#[cycle(fits)]
-fn are_integers(declarations: &Declarations, list: &[Expr]) -> bool
-    ensures { result ≡ are_integers (context_in declarations.now) (formulas_of list.now) }
-{
-    for e in list {
-        if !fits(declarations, e, Kind::Integer) {
-            return false;
-        }
-    }
-    true
 }
 
 /// Whether a name may have values of a type.
@@ -231,21 +152,6 @@ pub fn are_subscripts(declarations: &Declarations, list: &[Expr]) -> bool
     true
 }
 
-fn takes_value(declarations: &Declarations, target: &Expr, value: &Expr) -> bool
-    ensures { result
-        ≡ (assigns (context_in declarations.now) (formula_of target.now) (formula_of value.now) Integer
-        || assigns (context_in declarations.now) (formula_of target.now) (formula_of value.now) Logical) }
-{
-    assigns(declarations, target, value, Kind::Integer)
-        || assigns(declarations, target, value, Kind::Logical)
-}
-
-fn assigns(declarations: &Declarations, target: &Expr, value: &Expr, kind: Kind) -> bool
-    ensures { result ≡ assigns (context_in declarations.now) (formula_of target.now) (formula_of value.now) kind }
-{
-    takes_kind(declarations, target, kind) && fits(declarations, value, kind)
-}
-
 /// Whether a target takes a value of this type, or is none.
 pub fn takes_kind(declarations: &Declarations, target: &Expr, kind: Kind) -> bool
     ensures { result ≡ takes_kind (context_in declarations.now) (formula_of target.now) kind }
@@ -264,7 +170,8 @@ fn takes_element(declarations: &Declarations, name: &Name, list: &[Expr], kind: 
         || (are_subscripts(declarations, list) && may_be(declarations, name, kind))
 }
 
-fn is_counting(declarations: &Declarations, par: &Par) -> bool
+/// Whether a parameter of a DO, or the unit of a READ or WRITE, is an integer (sections 7.1.2.8 and 7.1.3.2).
+pub fn is_counting(declarations: &Declarations, par: &Par) -> bool
     ensures { result ≡ is_counting (context_in declarations.now) (par_of par.now) }
 {
     match par {
@@ -323,7 +230,7 @@ fn are_counted(
 
 /// Whether the items of a READ or WRITE have the types that they are to have (section 7.1.3).
 #[cycle(are_entries)]
-fn are_entries(way: Way, declarations: &Declarations, list: &[Entry]) -> bool
+pub fn are_entries(way: Way, declarations: &Declarations, list: &[Entry]) -> bool
     ensures { result ≡ are_entries way (context_in declarations.now) (entries_of list.now) }
 {
     for entry in list {

@@ -1,16 +1,13 @@
-//! The rules of names, types, counts, constants and stores in one unit of FORTRAN 66, statement by statement.
+//! What the names of a unit of FORTRAN 66 are, and the tests that its rules of names, types, counts, constants and stores are made of.
 #![tactic(auto)]
 
 mod built;
-mod classes;
 mod declarations;
 mod formats;
 mod kinds;
 mod name_form;
 mod name_rules;
-mod names;
 mod repeats;
-mod rules;
 mod saying;
 mod shapes;
 mod sorts;
@@ -19,21 +16,22 @@ mod tables;
 mod uses;
 
 pub use built::{is_built, is_built_saying};
-pub use declarations::Declarations;
+pub use declarations::{Declarations, declarations_of};
 pub use formats::has_bad_format;
 pub use kinds::{
-    are_subscripts, clashes, counts, is_number, may_be, operand, outcome, same_kind, takes_kind,
+    are_entries, are_subscripts, counts, is_counting, is_number, may_be, operand, outcome,
+    same_kind, takes_kind,
 };
 pub use name_form::{Arity, Class, Manner, NameForm};
 pub use name_rules::{
     has_long_name, has_long_use, has_many_sizes, has_other_type, has_other_use, has_wrong_count,
     has_wrong_use, is_long,
 };
-pub use names::{Names, names_of};
 pub use repeats::{note_repeat, redeclares};
-pub use rules::{broken_rule, condition_rule, counting_rule, saying_rule, value_rule};
 pub use saying::{Saying, declared_in_saying};
-pub use shapes::{are_declared, has_shape, is_name, is_place, is_printed, stands};
+pub use shapes::{
+    are_declared, has_shape, is_counting_form, is_name, is_place, is_printed, stands,
+};
 pub use sorts::{
     form_of, is_array, is_counter, is_foreign, is_integer, is_other, is_real_by_letter, kind_of,
     takes,

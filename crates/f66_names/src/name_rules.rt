@@ -1,4 +1,4 @@
-// The rules of names: their lengths, types, counts and classes.
+// The rules of names: their lengths, types and counts.
 ghost use Rattle.std.specs.Prelude.{◌≡◌, ◌||◌, not, map};
 ghost use Rattle.std.specs.List.{list_any};
 ghost use Rattle.f66_tree.specs.Views.{declared_of, act_of};
@@ -6,12 +6,10 @@ ghost use Rattle.f66_names.specs.Declaring.{is_sized};
 ghost use Rattle.f66_names.specs.Uses.{uses_in};
 ghost use Rattle.f66_names.specs.UseViews.{use_of};
 ghost use Rattle.f66_names.specs.Sorts.{is_real_by_letter};
-ghost use Rattle.f66_names.specs.NameRules.{has_name, is_long, gives_other, has_other_type, has_many_sizes, has_wrong_sizes, miscounts_by, miscounts, has_wrong_count, misuses};
-ghost use Rattle.f66_names.specs.DeclarationViews.{context_in, acts_in};
+ghost use Rattle.f66_names.specs.NameRules.{has_name, is_long, gives_other, has_other_type, has_many_sizes, has_wrong_sizes, miscounts_by, miscounts, has_wrong_count};
+ghost use Rattle.f66_names.specs.DeclarationViews.{context_in};
 
-use crate::classes::{class_used, has_other_class};
 use crate::declarations::Declarations;
-use crate::names::Names;
 use crate::sorts::{form_of, is_other, is_real_by_letter, takes};
 use crate::tables::declared_in;
 use crate::uses::Use;
@@ -171,25 +169,4 @@ fn are_some_wrong(declarations: &Declarations, uses: &[Use]) -> bool
     ensures { result ≡ list_any (λ u. miscounts (context_in declarations.now) (use_of u)) uses.now }
 {
     uses.iter().any(|u| miscounts(declarations, u))
-}
-
-fn misuses(names: &Names, used: &Use) -> bool
-    ensures { result ≡ misuses (context_in names.now.declarations) (acts_in names.now.declarations) (use_of used.now) }
-{
-    let first = names.classes.get(used.name.as_bytes()).copied();
-    has_other_class(class_used(&names.declarations, used), first)
-}
-
-/// Whether a name is used in another class than its first one (section 10.1).
-#[tactic(auto, using(rule_table::proofs::WordLemmas::list_any_map))]
-pub fn has_misuse(names: &Names, uses: &[Use]) -> bool
-    ensures { result ≡ list_any (misuses (context_in names.now.declarations) (acts_in names.now.declarations)) (map use_of uses.now) }
-{
-    are_some_misused(names, uses)
-}
-
-fn are_some_misused(names: &Names, uses: &[Use]) -> bool
-    ensures { result ≡ list_any (λ u. misuses (context_in names.now.declarations) (acts_in names.now.declarations) (use_of u)) uses.now }
-{
-    uses.iter().any(|u| misuses(names, u))
 }

@@ -17,6 +17,8 @@ pub enum Saying<'a> {
     Value(&'a Expr),
     /// The variable and the parameters of a DO (section 7.1.2.8).
     Counting(&'a Name, &'a Par, &'a Par, &'a Par),
+    /// A function's own name and its value, as an assignment (section 8.3.1).
+    Returned(&'a Name, &'a Expr),
 }
 
 /// The names whose type is given.
@@ -25,7 +27,10 @@ pub fn typed_in_saying<'a>(saying: &Saying<'a>) -> &'a [Declared]
 {
     match *saying {
         Saying::Act(kind) => typed_in(kind),
-        Saying::Condition(_) | Saying::Value(_) | Saying::Counting(_, _, _, _) => &[],
+        Saying::Condition(_)
+        | Saying::Value(_)
+        | Saying::Counting(_, _, _, _)
+        | Saying::Returned(_, _) => &[],
     }
 }
 
@@ -35,6 +40,9 @@ pub fn declared_in_saying<'a>(saying: &Saying<'a>) -> &'a [Declared]
 {
     match *saying {
         Saying::Act(kind) => declared_in(kind),
-        Saying::Condition(_) | Saying::Value(_) | Saying::Counting(_, _, _, _) => &[],
+        Saying::Condition(_)
+        | Saying::Value(_)
+        | Saying::Counting(_, _, _, _)
+        | Saying::Returned(_, _) => &[],
     }
 }

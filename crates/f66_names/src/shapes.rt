@@ -21,7 +21,7 @@ pub fn has_shape(kind: &StmtKind) -> bool
         StmtKind::Sign(e, _, _, _) => stands(0, e),
         StmtKind::When(test, inner) => stands(0, test) && (is_branch(inner) && has_shape(inner)),
         StmtKind::Loop(_, variable, first, last, step) => {
-            is_counting(variable, first, last, step)
+            is_counting_form(variable, first, last, step)
         }
         StmtKind::Stop(number) => is_stop(*number),
         StmtKind::Read(unit, _, list) => is_parameter(unit) && are_items(list),
@@ -34,7 +34,7 @@ pub fn has_shape(kind: &StmtKind) -> bool
 }
 
 /// Whether a variable and the parameters of a DO have their forms.
-pub fn is_counting(variable: &Name, first: &Par, last: &Par, step: &Par) -> bool
+pub fn is_counting_form(variable: &Name, first: &Par, last: &Par, step: &Par) -> bool
     ensures { result ≡ (is_name variable.now && (is_parameter (par_of first.now) && (is_parameter (par_of last.now) && is_parameter (par_of step.now)))) }
 {
     is_name(variable) && (is_parameter(first) && (is_parameter(last) && is_parameter(step)))
@@ -193,7 +193,7 @@ fn is_item(entry: &Entry) -> bool
 fn are_counted(list: &[Entry], variable: &Name, first: &Par, last: &Par, step: &Par) -> bool
     ensures { result ≡ is_item (Many (entries_of list.now) variable.now (par_of first.now) (par_of last.now) (par_of step.now)) }
 {
-    are_some_items(list) && is_counting(variable, first, last, step)
+    are_some_items(list) && is_counting_form(variable, first, last, step)
 }
 
 #[cycle(are_items)]

@@ -35,31 +35,6 @@ pub fn uses_of_saying<'a>(alloc: Global, saying: &Saying<'a>) -> Result<Vec<Use<
     Ok(uses)
 }
 
-/// The names that an expression uses.
-pub fn uses_of_expression<'a>(alloc: Global, e: &'a Expr) -> Result<Vec<Use<'a>>, AllocError>
-    ensures { IfOk result (λ v. map use_of v.items ≡ uses_of (formula_of e.now)) }
-{
-    let mut uses = Vec::new(alloc);
-    collect(e, &mut uses)?;
-    Ok(uses)
-}
-
-/// The variable and the parameters of a DO.
-pub fn uses_of_counting<'a>(
-    alloc: Global,
-    variable: &'a Name,
-    first: &'a Par,
-    last: &'a Par,
-    step: &'a Par,
-) -> Result<Vec<Use<'a>>, AllocError>
-    ensures { IfOk result
-        (λ v. map use_of v.items ≡ uses_of_counting variable.now (par_of first.now) (par_of last.now) (par_of step.now)) }
-{
-    let mut uses = Vec::new(alloc);
-    collect_counting(variable, first, last, step, &mut uses)?;
-    Ok(uses)
-}
-
 /// Adds the names that a statement uses.
 pub fn collect_in<'a>(kind: &'a StmtKind, uses: &mut Vec<Use<'a>>) -> Result<(), AllocError>
     ensures { OnOk result (map use_of uses.new.items ≡ map use_of uses.old.items ++ uses_in (act_of kind.now)) }
@@ -102,6 +77,10 @@ pub fn collect_in_saying<'a>(saying: &Saying<'a>, uses: &mut Vec<Use<'a>>) -> Re
         Saying::Value(e) => collect(e, uses),
         Saying::Counting(variable, first, last, step) => {
             collect_counting(variable, first, last, step, uses)
+        }
+        Saying::Returned(name, value) => {
+            add(name, Manner::Alone, uses)?;
+            collect(value, uses)
         }
     }
 }

@@ -9,7 +9,8 @@
 -- statements may differ between the sides, as At says.
 --
 -- The node or the statement that a call stands in counts before the call does. A relation that has to reckon with what a
--- call costs may hold of the call only where it does so: W is the relation within a node or a statement that has counted.
+-- call costs may hold of the call only where it does so: W is the relation within a statement that has counted, and Node the one
+-- within a node. Where nodes don't count, what holds of a function that is called may rest on the load of its value.
 use Rattle.std.proofs.Common.{◌≡◌, ℕ, zero, suc, ◌+◌, pos, Bool, true, false, List, [], ◌∷◌, Option, Some, None, refl, sym, ap, subst}
 use Rattle.std.specs.Prelude.{if◌then◌else◌, ◌+ℤ◌, int_le, nat_lt, ⊤}
 use Rattle.std.specs.Str.{bytes_eq}
@@ -194,7 +195,27 @@ module _ (I : Type 0) (d : Sides I) (R W : (A : Type 0) → (I → World → Out
     pub tapes : (f : Frames) → Good d f → (h : Tape → Move) → IsStep h → R ⊤ (λ i. taped f.here h) (taped f.there h)
     pub takes : (f : Frames) → Good d f → (h : Tape → Try (Content × Tape)) → IsTake h → R Content (λ i. taken_content f.here h) (taken_content f.there h)
 
+  -- a function is called: its name is undefined at first, and its value is read at the end
+  abbrev pub answered1 : (f : Frames) (x : Text) (v : ℕ) (ps : List Spot) (k : Kind) → I → World → Out Content
+  answered1 f x v ps k i w = bind (store_at (s1 i) (one f) (Held v x 0) Nothing w) (λ _ w1. bind (d.call1 i v ps w1) (λ _ w2. load (s1 i) (one f) k (Held v x 0) w2))
+
+  abbrev pub answered2 : (f : Frames) (x : Text) (v : ℕ) (ps : List Spot) (k : Kind) → World → Out Content
+  answered2 f x v ps k w = bind (store_at s2 (two f) (Held v x 0) Nothing w) (λ _ w1. bind (d.call2 v ps w1) (λ _ w2. load s2 (two f) k (Held v x 0) w2))
+
   pub record Holds : Type 1 where
+    pub parts : Parts
+    pub Node : (A : Type 0) → (I → World → Out A) → (World → Out A) → Type 0
+    pub node : {A : Type 0} {m1 : I → World → Out A} {m2 : World → Out A} → R A m1 m2 → Node A m1 m2
+    pub then_node : {A B : Type 0} {P : A → Type 0} {m1 : I → World → Out A} {m2 : World → Out A} {g1 : A → I → World → Out B} {g2 : A → World → Out B} → R A m1 m2 → Post P m2 → ((a : A) → P a → Node B (g1 a) (g2 a)) → Node B (λ i w. bind (m1 i w) (λ a w1. g1 a i w1)) (λ w. bind (m2 w) (λ a w1. g2 a w1))
+    pub ticks : {A : Type 0} {m1 : I → World → Out A} {m2 : World → Out A} → Node A m1 m2 → R A (λ i w. m1 i (ticked (s1 i) w)) (λ w. m2 (ticked s2 w))
+    pub functions : (f : Frames) → Good d f → (x : Text) (v : ℕ) (ps : List Spot) (k : Kind) → d.Called f.unit x → d.linked2.find x ≡ Some v → AllFair d.Fair ps → Node Content (answered1 f x v ps k) (answered2 f x v ps k)
+    pub within : {A : Type 0} {m1 : I → World → Out A} {m2 : World → Out A} → R A m1 m2 → W A m1 m2
+    pub then_within : {A B : Type 0} {P : A → Type 0} {m1 : I → World → Out A} {m2 : World → Out A} {g1 : A → I → World → Out B} {g2 : A → World → Out B} → R A m1 m2 → Post P m2 → ((a : A) → P a → W B (g1 a) (g2 a)) → W B (λ i w. bind (m1 i w) (λ a w1. g1 a i w1)) (λ w. bind (m2 w) (λ a w1. g2 a w1))
+    pub within_then : {A B : Type 0} {m1 : I → World → Out A} {m2 : World → Out A} {g1 : A → I → World → Out B} {g2 : A → World → Out B} → W A m1 m2 → ((a : A) → R B (g1 a) (g2 a)) → W B (λ i w. bind (m1 i w) (λ a w1. g1 a i w1)) (λ w. bind (m2 w) (λ a w1. g2 a w1))
+    pub calls : (u : ℕ) (x : Text) (v : ℕ) (ps : List Spot) → d.Called u x → d.linked2.find x ≡ Some v → AllFair d.Fair ps → W ⊤ (λ i. d.call1 i v ps) (d.call2 v ps)
+
+  -- where a node pays for a call as a statement does
+  pub record Pays : Type 1 where
     pub parts : Parts
     pub within : {A : Type 0} {m1 : I → World → Out A} {m2 : World → Out A} → R A m1 m2 → W A m1 m2
     pub then_within : {A B : Type 0} {P : A → Type 0} {m1 : I → World → Out A} {m2 : World → Out A} {g1 : A → I → World → Out B} {g2 : A → World → Out B} → R A m1 m2 → Post P m2 → ((a : A) → P a → W B (g1 a) (g2 a)) → W B (λ i w. bind (m1 i w) (λ a w1. g1 a i w1)) (λ w. bind (m2 w) (λ a w1. g2 a w1))
@@ -202,10 +223,26 @@ module _ (I : Type 0) (d : Sides I) (R W : (A : Type 0) → (I → World → Out
     pub ticks : {A : Type 0} {m1 : I → World → Out A} {m2 : World → Out A} → W A m1 m2 → R A (λ i w. m1 i (ticked (s1 i) w)) (λ w. m2 (ticked s2 w))
     pub calls : (u : ℕ) (x : Text) (v : ℕ) (ps : List Spot) → d.Called u x → d.linked2.find x ≡ Some v → AllFair d.Fair ps → W ⊤ (λ i. d.call1 i v ps) (d.call2 v ps)
 
+  pub paid : Pays → Holds
+  paid q = record {
+    parts = q.parts;
+    Node = W;
+    node = λ {A} {m1} {m2} h. q.within {A = A} {m1 = m1} {m2 = m2} h;
+    then_node = λ {A} {B} {P} {m1} {m2} {g1} {g2} h post k. q.then_within {A = A} {B = B} {P = P} {m1 = m1} {m2 = m2} {g1 = g1} {g2 = g2} h post k;
+    ticks = λ {A} {m1} {m2} h. q.ticks {A = A} {m1 = m1} {m2 = m2} h;
+    functions = λ f g x v ps k used e all.
+        let own : d.Fair (Held v x 0) = q.parts.scope.callee f.unit x v (q.parts.uses.called f.unit x used) e in
+        q.then_within {P = λ _. ⊤} (q.parts.stores f g (Held v x 0) own Nothing) (λ w. post_any (store_at s2 (two f) (Held v x 0) Nothing w)) (λ _ _. q.within_then (q.calls f.unit x v ps used e all) (λ _. q.parts.loads f g k (Held v x 0) own));
+    within = λ {A} {m1} {m2} h. q.within {A = A} {m1 = m1} {m2 = m2} h;
+    then_within = λ {A} {B} {P} {m1} {m2} {g1} {g2} h post k. q.then_within {A = A} {B = B} {P = P} {m1 = m1} {m2 = m2} {g1 = g1} {g2 = g2} h post k;
+    within_then = λ {A} {B} {m1} {m2} {g1} {g2} h k. q.within_then {A = A} {B = B} {m1 = m1} {m2 = m2} {g1 = g1} {g2 = g2} h k;
+    calls = q.calls;
+  }
+
   module _ (r : Holds) where
     -- a node whose parts call nothing by themselves
     counts : {A : Type 0} {m1 : I → World → Out A} {m2 : World → Out A} → R A m1 m2 → R A (λ i w. m1 i (ticked (s1 i) w)) (λ w. m2 (ticked s2 w))
-    counts h = r.ticks (r.within h)
+    counts h = r.ticks (r.node h)
 
     -- whatever the first part gives
     pub thens : {A B : Type 0} {m1 : I → World → Out A} {m2 : World → Out A} {g1 : A → I → World → Out B} {g2 : A → World → Out B} → R A m1 m2 → ((a : A) → R B (g1 a) (g2 a)) → R B (λ i w. bind (m1 i w) (λ a w1. g1 a i w1)) (λ w. bind (m2 w) (λ a w1. g2 a w1))
@@ -273,23 +310,22 @@ module _ (I : Type 0) (d : Sides I) (R W : (A : Type 0) → (I → World → Out
     element_then : {B : Type 0} {g1 : Spot → I → World → Out B} {g2 : Spot → World → Out B} → (f : Frames) → Good d f → (x : Text) → d.K f.unit x → (ns : List Par) → NamesOfPars (d.K f.unit) ns → {m1 : I → World → Out (List Content)} {m2 : World → Out (List Content)} → R (List Content) m1 m2 → ((p : Spot) → d.Fair p → R B (g1 p) (g2 p)) → R B (λ i w. bind (element (s1 i) (one f) x ns (m1 i) w) (λ p w1. g1 p i w1)) (λ w. bind (element s2 (two f) x ns m2 w) (λ p w1. g2 p w1))
     element_then f g x used ns sizes {m1} {m2} h k = r.parts.binds {P = d.Fair} (element_holds f g x used ns sizes h) (element_fair d.K d.Fair s2 r.parts.scope (two f) x ns m2 used g.actuals) k
 
-    called_holds : (f : Frames) → Good d f → (x : Text) → d.Called f.unit x → (o : Option ℕ) → l.find x ≡ o → {m1 : I → World → Out (List Spot)} {m2 : World → Out (List Spot)} → R (List Spot) m1 m2 → Post (AllFair d.Fair) m2 → W Content (λ i. called (s1 i) (one f) x o (m1 i)) (called s2 (two f) x o m2)
-    called_holds f g x used None e h fair = r.within (r.parts.ends Wrong)
+    called_holds : (f : Frames) → Good d f → (x : Text) → d.Called f.unit x → (o : Option ℕ) → l.find x ≡ o → {m1 : I → World → Out (List Spot)} {m2 : World → Out (List Spot)} → R (List Spot) m1 m2 → Post (AllFair d.Fair) m2 → r.Node Content (λ i. called (s1 i) (one f) x o (m1 i)) (called s2 (two f) x o m2)
+    called_holds f g x used None e h fair = r.node (r.parts.ends Wrong)
     called_holds f g x used (Some v) e h fair =
         let known : d.K f.unit x = r.parts.uses.called f.unit x used in
-        let own : d.Fair (Held v x 0) = r.parts.scope.callee f.unit x v known e in
-        r.then_within {P = AllFair d.Fair} h fair (λ ps all.
-        r.within_then (r.then_within {P = λ _. ⊤} (r.parts.stores f g (Held v x 0) own Nothing) (λ w. post_any (store_at s2 (two f) (Held v x 0) Nothing w)) (λ _ _. r.calls f.unit x v ps used e all)) (λ _. loads_as f g _ _ (r.parts.same.kinds f.unit x known) (Held v x 0) own))
+        r.then_node {P = AllFair d.Fair} h fair (λ ps all.
+        subst (λ k. r.Node Content (answered1 f x v ps k) (answered2 f x v ps (kind_of (l.context f.unit) x))) (sym (r.parts.same.kinds f.unit x known)) (r.functions f g x v ps (kind_of (l.context f.unit) x) used e all))
 
     sized : (f : Frames) (x : Text) → d.K f.unit x → SortNames (d.K f.unit) (sort_of (l.context f.unit) x)
     sized f x used = sort_names (d.K f.unit) (sizes_of x (l.context f.unit).notes) x (r.parts.scope.dimensions f.unit x used)
 
-    referred_holds : (f : Frames) → Good d f → (x : Text) → d.Listed f.unit x → (o : Sort) → sort_of (l.context f.unit) x ≡ o → SortNames (d.K f.unit) o → {m1 : I → World → Out (List Content)} {m2 : World → Out (List Content)} {n1 : I → World → Out (List Spot)} {n2 : World → Out (List Spot)} → R (List Content) m1 m2 → R (List Spot) n1 n2 → Post (AllFair d.Fair) n2 → W Content (λ i. referred (s1 i) (one f) x o (m1 i) (n1 i)) (referred s2 (two f) x o m2 n2)
+    referred_holds : (f : Frames) → Good d f → (x : Text) → d.Listed f.unit x → (o : Sort) → sort_of (l.context f.unit) x ≡ o → SortNames (d.K f.unit) o → {m1 : I → World → Out (List Content)} {m2 : World → Out (List Content)} {n1 : I → World → Out (List Spot)} {n2 : World → Out (List Spot)} → R (List Content) m1 m2 → R (List Spot) n1 n2 → Post (AllFair d.Fair) n2 → r.Node Content (λ i. referred (s1 i) (one f) x o (m1 i) (n1 i)) (referred s2 (two f) x o m2 n2)
     referred_holds f g x used (AnArray ns) is sizes h k fair =
-        r.within (element_then f g x (r.parts.uses.listed f.unit x used) ns sizes h (λ p ok. loads_as f g _ _ (r.parts.same.kinds f.unit x (r.parts.uses.listed f.unit x used)) p ok))
-    referred_holds f g x used (AnIntrinsic q) is sizes h k fair = r.within (thens h (λ vs. settles f g (intrinsic q vs)))
+        r.node (element_then f g x (r.parts.uses.listed f.unit x used) ns sizes h (λ p ok. loads_as f g _ _ (r.parts.same.kinds f.unit x (r.parts.uses.listed f.unit x used)) p ok))
+    referred_holds f g x used (AnIntrinsic q) is sizes h k fair = r.node (thens h (λ vs. settles f g (intrinsic q vs)))
     referred_holds f g x used AFunction is sizes {m1} {m2} {n1} {n2} h k fair =
-        subst (λ o. W Content (λ i. called (s1 i) (one f) x o (n1 i)) (called s2 (two f) x (l.find x) n2)) (sym (r.parts.same.find f.unit x (r.parts.uses.listed f.unit x used))) (called_holds f g x (r.parts.uses.function f.unit x used is) (l.find x) refl k fair)
+        subst (λ o. r.Node Content (λ i. called (s1 i) (one f) x o (n1 i)) (called s2 (two f) x (l.find x) n2)) (sym (r.parts.same.find f.unit x (r.parts.uses.listed f.unit x used))) (called_holds f g x (r.parts.uses.function f.unit x used is) (l.find x) refl k fair)
 
     place_holds : (f : Frames) → Good d f → (e : Formula) → NamesBy (using d f.unit) e → {m1 : I → World → Out (List Content)} {m2 : World → Out (List Content)} → R (List Content) m1 m2 → R Spot (λ i. place_of (s1 i) (one f) e (m1 i)) (place_of s2 (two f) e m2)
     place_holds f g (Int z) used h = r.parts.ends Wrong
@@ -326,7 +362,7 @@ module _ (I : Type 0) (d : Sides I) (R W : (A : Type 0) → (I → World → Out
       value_holds f g (Letter c) used = counts (r.parts.gives (Whole (pos c)))
       value_holds f g (Ref x) used = counts (variable_holds f g x used)
       value_holds f g (Item x es) used =
-          r.ticks (subst (λ o. W Content (λ i. referred (s1 i) (one f) x o (values_of (s1 i) (one f) es) (spots_of (s1 i) (one f) es)) (referred s2 (two f) x (sort_of (l.context f.unit) x) (values_of s2 (two f) es) (spots_of s2 (two f) es))) (sym (sort_same f x (r.parts.uses.listed f.unit x used.0)))
+          r.ticks (subst (λ o. r.Node Content (λ i. referred (s1 i) (one f) x o (values_of (s1 i) (one f) es) (spots_of (s1 i) (one f) es)) (referred s2 (two f) x (sort_of (l.context f.unit) x) (values_of s2 (two f) es) (spots_of s2 (two f) es))) (sym (sort_same f x (r.parts.uses.listed f.unit x used.0)))
           (referred_holds f g x used.0 (sort_of (l.context f.unit) x) refl (sized f x (r.parts.uses.listed f.unit x used.0)) (values_hold f g es used.1) (spots_hold f g es used.1) (all_fair f g es used.1)))
       value_holds f g (Group a) used = counts (value_holds f g a used)
       value_holds f g (Plus a) used = thens (counts (value_holds f g a used)) (λ v. settles f g (same_whole v))
@@ -461,11 +497,11 @@ module _ (I : Type 0) (d : Sides I) (R W : (A : Type 0) → (I → World → Out
 -- a relation that does not reckon with what a call costs
 pub plainly : (I : Type 0) (d : Sides I) (R : (A : Type 0) → (I → World → Out A) → (World → Out A) → Type 0) (r : Parts I d R R) → ((A : Type 0) (m1 : I → World → Out A) (m2 : World → Out A) → R A m1 m2 → R A (λ i w. m1 i (ticked (side1 d i) w)) (λ w. m2 (ticked (side2 d) w))) →
     ((u : ℕ) (x : Text) (v : ℕ) (ps : List Spot) → d.Called u x → d.linked2.find x ≡ Some v → AllFair d.Fair ps → R ⊤ (λ i. d.call1 i v ps) (d.call2 v ps)) → Holds I d R R
-plainly I d R r ticks calls = record {
+plainly I d R r ticks calls = paid I d R R (record {
   parts = r;
   within = λ h. h;
   then_within = λ {A} {B} {P} {m1} {m2} {g1} {g2} h post k. r.binds {A = A} {B = B} {P = P} {m1 = m1} {m2 = m2} {g1 = g1} {g2 = g2} h post k;
   within_then = λ {A} {B} {m1} {m2} {g1} {g2} h k. r.binds {A = A} {B = B} {P = λ _. ⊤} {m1 = m1} {m2 = m2} {g1 = g1} {g2 = g2} h (λ w. post_any (m2 w)) (λ a _. k a);
   ticks = λ {A} {m1} {m2} h. ticks A m1 m2 h;
   calls = calls;
-}
+})

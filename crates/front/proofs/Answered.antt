@@ -1,6 +1,6 @@
 -- From the answers of the layers to the verdict on a text.
 use Rattle.std.proofs.Common.{◌≡◌, ◌≤◌, ℕ, zero, suc, arith, List, [], ◌∷◌, ◌++◌, length, map, refl, sym, ◌∙◌, ap, subst, Option, None, Some}
-use Rattle.std.specs.Prelude.{Ok, Err, All, slice_get}
+use Rattle.std.specs.Prelude.{Ok, All, slice_get}
 use Rattle.ground.specs.declared.place.Place.{Place}
 use Rattle.ground.specs.declared.token.Token.{Token}
 use Rattle.ground.specs.declared.token.Dialect.{Dialect}
@@ -18,7 +18,7 @@ use Rattle.rat_tree.specs.declared.program.RatUnit.{RatUnit}
 use Rattle.rat_tree.specs.declared.program.RatStmt.{RatStmt}
 use Rattle.rat_tree.specs.declared.program.RatKind.{RatKind}
 use Rattle.rat_tree.specs.declared.program.RatKind.TheBlock as k
-use Rattle.rat_tree.specs.Syntax.{Command, Repeat, RepeatUntil, Commands}
+use Rattle.rat_tree.specs.Syntax.{Command, Repeat, RepeatUntil, RatRoutine}
 use Rattle.rat_tree.specs.Views.{repeated, labelled, command_of, either_of, command, commands, rat_routine_of, program_of}
 use Rattle.grammar.specs.Grammar.{EndsWith}
 use Rattle.rat_parse_table.specs.Words.{kind_terminal}
@@ -29,9 +29,11 @@ use Rattle.efl_parse_table.specs.Efl as efl_table
 use Rattle.efl_parse.specs.Efl as efl
 use Rattle.rat_check.specs.FirstFault.{first_fault}
 use Rattle.rat_lower.specs.OneUnit.{means}
-use Rattle.rat_lower.specs.Served.{Serves, AllServe}
+use Rattle.rat_lower.specs.Served.{AllServe, IsBuiltMain, MainServes, MainsServe}
+use Rattle.front.specs.Carried.{uncarried}
+use Rattle.front.proofs.CarriedLemmas.{carried_main}
 use Rattle.front.specs.Checked.{Meaning, Checked, Means}
-use Rattle.front.specs.Ratfor.{command_place, first_in, one_main, or_fault, checked}
+use Rattle.front.specs.Ratfor.{command_place, first_in, one_main, or_fault, by_checks}
 use Rattle.front.specs.Verdict.{IsChecked, in_files, IsVerdictOf, Becomes}
 use Rattle.stmt_text.specs.Fitting.{IsPrintable}
 use Rattle.front.specs.Programs.{IsProgramOf}
@@ -47,7 +49,7 @@ ends_efl ts h = (h.0, h.1, h.2, ap efl_words.kind_terminal h.3)
 
 -- ---- checks ----
 
-accepted : (p : memory.RatProgram) → first_fault (program_of p) ≡ None → checked (program_of p) ≡ one_main p.finish (map rat_routine_of p.units.items)
+accepted : (p : memory.RatProgram) → first_fault (program_of p) ≡ None → by_checks (program_of p) ≡ one_main p.finish (map rat_routine_of p.units.items)
 accepted p none = ap (λ o. or_fault o (one_main p.finish (map rat_routine_of p.units.items))) none
 
 -- a list of one item
@@ -56,30 +58,40 @@ alone_all P x h zero d l = h
 alone_all P x h (suc k) d l = absurd (omega arith)
 
 -- a unit that serves for a main program
-program_by : (body : Commands) → (unit : AUnit) → Serves body unit → IsProgramOf (means body) (unit_routine unit ∷ [])
-program_by body unit serves = record {
-  sound = alone_all IsSound (unit_routine unit) serves.sound;
+program_by : (u : RatRoutine) → (unit : AUnit) → IsBuiltMain u → MainServes u unit → IsProgramOf (means u.body) (unit_routine unit ∷ [])
+program_by u unit built main = record {
+  sound = alone_all IsSound (unit_routine unit) (main.sound built);
   run = executed (lines_of unit.statements.items);
-  linked = (serves.header, refl);
-  agrees = serves.agrees;
-  found = serves.found;
-  printable = alone_all IsPrintable (unit_routine unit) serves.printable;
+  linked = (main.header, refl);
+  agrees = main.agrees;
+  found = main.found;
+  printable = alone_all IsPrintable (unit_routine unit) main.printable;
 }
 
--- the unit of a program that has no second one
-pub main_alone : (p : memory.RatProgram) → (made rest : List AUnit) → (unit : AUnit) → first_fault (program_of p) ≡ None → length p.units.items ≤ 1 → AllServe (program_of p).routines made → made ≡ rest ++ unit ∷ []
-    → (meaning : Meaning) × (Means meaning ≡ checked (program_of p)) × IsProgramOf meaning (unit_routine unit ∷ [])
-main_alone p made rest unit none alone serve last =
-    let r = by p.units.items rest alone (subst (λ ms. AllServe (map rat_routine_of p.units.items) ms) last serve) in
-    (r.0, r.1 ∙ sym (accepted p none), r.2)
+-- the last of the units that serve for at most one serves for all
+pub last_serves : (us : List RatUnit) → (finish : Place) → (made rest : List AUnit) → (unit : AUnit) → length us ≤ 1 → AllServe (map rat_routine_of us) finish made → made ≡ rest ++ unit ∷ [] → AllServe (map rat_routine_of us) finish (unit ∷ [])
+last_serves us finish made rest unit alone serve last = by us rest alone (subst (λ ms. AllServe (map rat_routine_of us) finish ms) last serve)
   where
-    by : (us : List RatUnit) → (ms : List AUnit) → length us ≤ 1 → AllServe (map rat_routine_of us) (ms ++ unit ∷ []) → (meaning : Meaning) × (Means meaning ≡ one_main p.finish (map rat_routine_of us)) × IsProgramOf meaning (unit_routine unit ∷ [])
-    by [] [] e h = absurd h
+    by : (us : List RatUnit) → (ms : List AUnit) → length us ≤ 1 → AllServe (map rat_routine_of us) finish (ms ++ unit ∷ []) → AllServe (map rat_routine_of us) finish (unit ∷ [])
+    by us [] e h = h
     by [] (m ∷ ms) e h = absurd h
-    by (u ∷ []) [] e h = (means (commands u.body.items), refl, program_by (commands u.body.items) unit h.0)
     by (u ∷ []) (m ∷ []) e h = absurd h.1
     by (u ∷ []) (m ∷ n ∷ ms) e h = absurd h.1
-    by (u ∷ v ∷ us) ms e h = absurd (omega arith)
+    by (u ∷ v ∷ us) (m ∷ ms) e h = absurd (omega arith)
+
+-- the unit of a carried program that has no second one
+pub main_alone : (p : memory.RatProgram) → (unit : AUnit) → MainsServe → first_fault (program_of p) ≡ None → uncarried (program_of p).routines ≡ None → length p.units.items ≤ 1 → AllServe (program_of p).routines p.finish (unit ∷ [])
+    → (meaning : Meaning) × (Means meaning ≡ by_checks (program_of p)) × IsProgramOf meaning (unit_routine unit ∷ [])
+main_alone p unit mains none carried alone serve =
+    let r = by p.units.items alone carried serve in
+    (r.0, r.1 ∙ sym (accepted p none), r.2)
+  where
+    by : (us : List RatUnit) → length us ≤ 1 → uncarried (map rat_routine_of us) ≡ None → AllServe (map rat_routine_of us) p.finish (unit ∷ []) → (meaning : Meaning) × (Means meaning ≡ one_main p.finish (map rat_routine_of us)) × IsProgramOf meaning (unit_routine unit ∷ [])
+    by [] e c h = absurd h
+    by (u ∷ []) e c h =
+        let built = carried_main (rat_routine_of u) c in
+        (means (commands u.body.items), refl, program_by (rat_routine_of u) unit built (mains (rat_routine_of u) p.finish unit built.0 h.0))
+    by (u ∷ v ∷ us) e c h = absurd (omega arith)
 
 -- ---- places ----
 

@@ -1,12 +1,12 @@
 -- A text has at most one first fault, and none where it is accepted, for every grammar and every meter.
-use Rattle.std.proofs.Common.{◌≡◌, ◌<◌, ◌≤◌, ℕ, zero, suc, arith, List, [], ◌∷◌, ◌++◌, take, ◌⊎◌, inl, inr, Some, None, refl, sym, ◌∙◌, ap, subst}
+use Rattle.std.proofs.Common.{◌≡◌, ◌<◌, ◌≤◌, ℕ, zero, suc, arith, List, [], ◌∷◌, ◌++◌, take, ◌⊎◌, inl, inr, Some, refl, sym, ◌∙◌, ap, subst}
 use Rattle.std.specs.Prelude.{slice_get}
 use Rattle.ground.specs.declared.token.Token.{Token}
 use Rattle.ground.specs.declared.fault.Fault.{Fault}
 use Rattle.ground.specs.declared.fault.FaultKind.TheVariants.{Syntax, Limit}
-use Rattle.grammar.specs.Grammar.{Grammar, Parse, Begins, IsProgram}
+use Rattle.grammar.specs.Grammar.{Grammar, Parse, Begins}
 use Rattle.grammar.specs.Limits.{Meter, Passing, history_of, first_passing, IsWithin, Passes, IsAccepted}
-use Rattle.grammar.specs.Answers.{SyntaxAt, LimitAt, FaultAt, IsFirstFault}
+use Rattle.grammar.specs.Answers.{SyntaxAt, LimitAt, IsFirstFault}
 
 -- ---- beginnings of lists ----
 

@@ -2,3 +2,4 @@
 pub mod FirstFaults
 pub mod OneVerdict
 mod Answered
+mod CarriedLemmas

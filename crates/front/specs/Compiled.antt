@@ -1,5 +1,5 @@
 -- What the compiler answers.
-use Rattle.std.specs.Prelude.{◌≡◌, ⊤, ℕ, List, [], ◌∷◌, Option, Result, Ok, Err}
+use Rattle.std.specs.Prelude.{⊤, ℕ, List, [], ◌∷◌, Option, Result, Ok, Err}
 use Rattle.ground.specs.declared.token.Dialect.{Dialect}
 use Rattle.ground.specs.declared.fault.Refusal.{Refusal}
 use Rattle.ground.specs.declared.fault.Refusal.TheVariants as whole

@@ -10,7 +10,7 @@ use Rattle.grammar.specs.Limits.{IsAccepted}
 use Rattle.efl_parse.specs.Efl.{grammar}
 use Rattle.efl_parse_table.specs.Limits.{meter}
 use Rattle.efl_parse_values.specs.Values.{program}
-use Rattle.efl_tree.specs.Syntax.{EflDecl, EflStmt, Statement, EflStmts, NoStmt, AndStmt, EflProcedure, EflProgram}
+use Rattle.efl_tree.specs.Syntax.{EflDecl, Statement, EflStmts, NoStmt, AndStmt, EflProcedure, EflProgram}
 use Rattle.front.specs.Checked.{Checked, Faulty}
 
 -- ---- what is not built ----

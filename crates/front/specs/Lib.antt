@@ -1,5 +1,6 @@
 -- The definitions that the contracts of front cite.
 pub mod Checked
+pub mod Carried
 pub mod Ratfor
 pub mod Efl
 pub mod Verdict

@@ -1,5 +1,5 @@
--- What becomes of the tokens of a Ratfor text: its first fault, or what it means. The phases are parse and checks, and behind the
--- checks the count of main programs; the first phase with a fault decides.
+-- What becomes of the tokens of a Ratfor text: its first fault, or what it means. The phases are parse and checks; before the checks
+-- stands what isn't carried to a unit yet, and behind them the count of main programs. The first phase with a fault decides.
 use Rattle.std.specs.Prelude.{◌≡◌, ◌⊎◌, List, [], ◌∷◌, Option, Some, None}
 use Rattle.ground.specs.declared.fault.Fault.{Fault}
 use Rattle.ground.specs.declared.fault.FaultKind.TheVariants.{MainCount}
@@ -15,6 +15,7 @@ use Rattle.rat_tree.specs.Syntax.{Command, Empty, Block, If, IfElse, While, For,
 use Rattle.rat_check.specs.FirstFault.{first_fault}
 use Rattle.rat_lower.specs.OneUnit.{means}
 use Rattle.front.specs.Checked.{Checked, Faulty, Means}
+use Rattle.front.specs.Carried.{uncarried, unbuilt_at}
 
 -- ---- checks ----
 
@@ -55,8 +56,11 @@ abbrev pub or_fault : Option Fault → Checked → Checked
 or_fault None all = all
 or_fault (Some fault) all = Faulty fault
 
+abbrev pub by_checks : RatProgram → Checked
+by_checks tree = or_fault (first_fault tree) (one_main tree.finish tree.routines)
+
 abbrev pub checked : RatProgram → Checked
-checked tree = or_fault (first_fault tree) (one_main tree.finish tree.routines)
+checked tree = or_fault (unbuilt_at (uncarried tree.routines)) (by_checks tree)
 
 -- ---- parse ----
 

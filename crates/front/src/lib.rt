@@ -1,6 +1,7 @@
 //! The front of the compiler: a text with its includes becomes a unit of FORTRAN, or is refused for its first fault.
 #![tactic(auto)]
 
+mod carried;
 mod compile;
 mod efl;
 mod ratfor;

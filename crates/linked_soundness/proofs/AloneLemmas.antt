@@ -7,7 +7,7 @@ use Rattle.f66_tree.specs.Execution.{nowhere}
 use Rattle.f66_tree.specs.OneUnit.{one_unit}
 use Rattle.f66_soundness.proofs.KindLemmas.{some_same, no_some}
 use Rattle.f66_check.specs.Answers.{IsSoundUnit}
-use Rattle.f66_check.proofs.SoundLemmas.{main_only}
+use Rattle.f66_check.proofs.BuiltLemmas.{main_only}
 use Rattle.f66_program.specs.Mentions.{context_of}
 use Rattle.f66_program.specs.Calls.{Call, unit_named}
 use Rattle.f66_program.specs.Linking.{Program, Part, HasCall}

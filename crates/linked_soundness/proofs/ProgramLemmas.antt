@@ -11,7 +11,7 @@ use Rattle.f66_soundness.specs.Rightly.{IsRightEnd, NeverWrong}
 use Rattle.ground.specs.declared.fault.FaultKind.TheVariants.{MissingUnit, WrongCount}
 use Rattle.f66_check.specs.CheckRules as check
 use Rattle.f66_check.specs.Answers.{IsSoundUnit}
-use Rattle.f66_check.proofs.SoundLemmas.{main_only}
+use Rattle.f66_check.proofs.BuiltLemmas.{main_only}
 use Rattle.f66_program.specs.Mentions as program
 use Rattle.f66_program.specs.Linking.{Program}
 use Rattle.linked_soundness.specs.Laws.{IsComplete, AreCodes, IsCallLinkage, NeverEndsWrong, CompleteNeverWrong, LinkedNeverWrong}

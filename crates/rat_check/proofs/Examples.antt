@@ -5,11 +5,11 @@ use Rattle.std.specs.Prelude.{ℕ, pos, List, [], ◌∷◌, Option, Some, None,
 use Rattle.ground.specs.Faults.{limit_at}
 use Rattle.ground.specs.declared.fault.Fault.{Fault}
 use Rattle.rule_table.specs.declared.rule.Rule.{Rule}
-use Rattle.rule_table.specs.declared.rule.Rule.TheVariants.{Syntax, NameTooLong, OutOfProfileType, TypeClash, WrongCount, DuplicateName, BadLabel, BadBreak, DuplicateCase, BadConstant, NotAssignable, LargeArray, Unbuilt}
+use Rattle.rule_table.specs.declared.rule.Rule.TheVariants.{Syntax, NameTooLong, OutOfProfileType, TypeClash, WrongCount, DuplicateName, BadLabel, BadBreak, DuplicateCase, BadConstant, NotAssignable}
 use Rattle.rule_table.specs.FaultRules.{fault_of}
 use Rattle.f66_tree.specs.declared.declaration.TypeWord.TheVariants.{Integer, Logical}
 use Rattle.f66_tree.specs.declared.expression.Operator.TheVariants.{Lt, And}
-use Rattle.f66_tree.specs.Syntax.{Text, Item, Pair, NoFormula, AndFormula, Constant, Declared, Act, Assign, Goto, Computed, Typed, Dimension, Invoke}
+use Rattle.f66_tree.specs.Syntax.{Text, Truth, Item, Pair, NoFormula, AndFormula, Constant, Declared, Header, MainUnit, SubUnit, FuncUnit, DataUnit, Act, Assign, Goto, Computed, When, Continue, Stop, Typed, Dimension, Common, Invoke}
 use Rattle.f66_tree.proofs.ExampleParts.{here, i, k, num, var, with_one, set, i3}
 use Rattle.rat_tree.specs.Syntax.{Command, Empty, Block, If, While, For, Repeat, RepeatUntil, Do, Switch, Break, Return, Plain, Labelled, Commands, NoCommand, AndCommand, NoClause, AndClause}
 use Rattle.rat_check.specs.Parts.{unit_parts}
@@ -26,7 +26,11 @@ abbrev block : ℕ → List Command → Command
 block p cs = Block (here p) (all cs)
 
 abbrev first : List Command → Option Fault
-first cs = fault_of_parts (unit_parts (all cs))
+first cs = fault_of_parts MainUnit (here 0) (unit_parts (all cs))
+
+-- of a unit with a header, which stands at line 1
+abbrev under : Header → List Command → Option Fault
+under h cs = fault_of_parts h (here 1) (unit_parts (all cs))
 
 abbrev at : ℕ → Rule → Option Fault
 at p r = Some (fault_of (here p) r)
@@ -145,13 +149,57 @@ array_jump : first (array 1 ∷ Plain None (here 2) (Computed (10 ∷ []) k) ∷
 unfolding digits
 array_jump = refl
 
--- ---- what is not built goes first ----
+-- ---- what a tree can hold, and no text gives ----
 
-unbuilt_first : first (plain 1 (Goto 10) ∷ Return (here 2) None ∷ []) ≡ at 2 Unbuilt
-unbuilt_first = refl
+-- an IF of FORTRAN, and a `for` whose first part is a STOP
+plain_condition : first (plain 1 (When (Truth true) Continue) ∷ []) ≡ at 1 Syntax
+plain_condition = refl
 
-call_unbuilt : first (If (here 1) (var i) (plain 1 (Invoke (codes "SUB") NoFormula)) ∷ []) ≡ at 1 Unbuilt
-call_unbuilt = refl
+stop_first : first (For (here 1) (Some (Stop None)) None None (one 1) ∷ []) ≡ at 1 Syntax
+stop_first = refl
 
-function_unbuilt : first (logical 1 ∷ If (here 2) (with_one l (num (pos 1))) (one 2) ∷ []) ≡ at 2 Unbuilt
-function_unbuilt = refl
+-- ---- units with headers ----
+
+abbrev function : Header
+function = FuncUnit None (codes "KIND") (k ∷ [])
+
+-- function kind(k); return (k)
+returned : under function (Return (here 2) (Some (var k)) ∷ []) ≡ None
+unfolding digits
+returned = refl
+
+-- function kind(k); return (.true.), and in a logical function
+truth_returned : under function (Return (here 2) (Some (Truth true)) ∷ []) ≡ at 2 TypeClash
+truth_returned = refl
+
+logical_returned : under (FuncUnit (Some Logical) (codes "KIND") (k ∷ [])) (Return (here 2) (Some (Truth true)) ∷ []) ≡ None
+unfolding digits
+logical_returned = refl
+
+-- subroutine sub(k); return (k); and without a value, behind a call
+value_returned : under (SubUnit (codes "SUB") (k ∷ [])) (Return (here 2) (Some (var k)) ∷ []) ≡ at 2 TypeClash
+value_returned = refl
+
+nothing_returned : under (SubUnit (codes "SUB") (k ∷ [])) (plain 2 (Invoke (codes "OTHER") (AndFormula (var k) NoFormula)) ∷ Return (here 3) None ∷ []) ≡ None
+unfolding digits
+nothing_returned = refl
+
+-- function a(k), which would be real; and a long name with a fault behind it
+real_function : under (FuncUnit None (codes "A") (k ∷ [])) (Return (here 2) (Some (var k)) ∷ []) ≡ at 1 OutOfProfileType
+real_function = refl
+
+long_header : under (SubUnit (codes "SUBROUT") []) (plain 2 (Goto 10) ∷ []) ≡ at 1 NameTooLong
+long_header = refl
+
+-- the dummy k in a common block
+dummy_common : under function (plain 2 (Common (record { name = None; list = scalar k ∷ [] } ∷ [])) ∷ Return (here 3) (Some (var i)) ∷ []) ≡ at 2 DuplicateName
+dummy_common = refl
+
+-- block data with an empty statement, and with an assignment
+empty_block : under DataUnit (Empty (here 2) ∷ logical 3 ∷ []) ≡ None
+unfolding digits
+empty_block = refl
+
+block_assigns : under DataUnit (logical 2 ∷ one 3 ∷ []) ≡ at 3 Syntax
+unfolding digits
+block_assigns = refl

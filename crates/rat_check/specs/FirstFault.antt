@@ -1,28 +1,22 @@
--- The first fault of the checks of a Ratfor program: unit by unit; in a unit first what is not built yet, then the first
--- part in reading order that breaks a rule, and of its rules that with the smallest number.
-use Rattle.std.specs.Prelude.{ℕ, List, [], ◌∷◌, Option, Some, None, Result, Ok, Err, ◌≡◌, ⊤, if◌then◌else◌}
+-- The first fault of the checks of a Ratfor program: unit by unit; in a unit the header and then the first part in reading order
+-- that breaks a rule, and of its rules that with the smallest number.
+use Rattle.std.specs.Prelude.{ℕ, List, [], ◌∷◌, Option, Some, None, Result, Ok, Err, ◌≡◌, ⊤}
 use Rattle.ground.specs.declared.place.Place.{Place}
 use Rattle.ground.specs.declared.fault.Fault.{Fault}
 use Rattle.rule_table.specs.declared.rule.Rule.{Rule}
-use Rattle.rule_table.specs.declared.rule.Rule.TheVariants.{Unbuilt}
-use Rattle.rule_table.specs.FaultRules.{fault_of}
+use Rattle.rule_table.specs.FaultRules.{fault_of, first_rule}
 use Rattle.ground.specs.declared.fault.Refusal.{Refusal}
 use Rattle.ground.specs.declared.fault.Refusal.TheVariants.{Fault as Faulty, Memory}
-use Rattle.f66_tree.specs.Syntax.{Format}
-use Rattle.f66_tree.specs.Units.{Context, is_main}
+use Rattle.f66_tree.specs.Syntax.{Header, Format}
 use Rattle.rat_tree.specs.Syntax.{RatRoutine, RatProgram}
 use Rattle.rat_check.specs.Parts.{Form, Statement, Labels, no_label, with_label, Part, unit_parts}
 use Rattle.rat_check.specs.Said.{said_in, context_of_parts}
-use Rattle.rat_check.specs.Rules.{is_built_form, Before, nothing_before, behind, UnitRules, broken_rule}
+use Rattle.unit_rules.specs.Heads.{breaks_header}
+use Rattle.rat_check.specs.Rules.{Before, nothing_before, behind, UnitRules, broken_rule}
 
 abbrev pub or_else : {A : Type 0} → Option A → Option A → Option A
 or_else None o = o
 or_else (Some a) o = Some a
-
--- the first part that isn't built
-abbrev pub first_unbuilt_part : Context → List Part → Option Place
-first_unbuilt_part c [] = None
-first_unbuilt_part c (v ∷ vs) = if is_built_form c v.form then first_unbuilt_part c vs else Some v.place
 
 -- the label of a format
 abbrev pub format_label : Option ℕ → Form → Option ℕ
@@ -47,22 +41,18 @@ with_own (v ∷ vs) ls = with_own vs (with_label v.label ls)
 -- the first part that breaks a rule
 abbrev pub first_broken : UnitRules → Before → List Part → Option Fault
 first_broken u b [] = None
-first_broken u b (v ∷ vs) = or_else (fault_if v.place (broken_rule u b v)) (first_broken u (behind b v) vs)
+first_broken u b (v ∷ vs) = or_else (fault_if v.place (broken_rule u b v)) (first_broken u (behind u.context.header b v) vs)
 
--- a unit of these parts
-abbrev pub unit_whole : List Part → UnitRules
-unit_whole vs = record { context = context_of_parts vs; said = said_in vs; formats = with_formats vs no_label }
+-- a unit with this header of these parts
+abbrev pub unit_whole : Header → List Part → UnitRules
+unit_whole h vs = record { context = context_of_parts h vs; said = said_in h vs; formats = with_formats vs no_label }
 
-abbrev pub unbuilt_at : Option Place → Option Fault
-unbuilt_at None = None
-unbuilt_at (Some p) = Some (fault_of p Unbuilt)
+-- what the header breaks, at the unit's place, and then what its parts do
+abbrev pub fault_of_parts : Header → Place → List Part → Option Fault
+fault_of_parts h p vs = or_else (fault_if p (first_rule (breaks_header (context_of_parts h vs)))) (first_broken (unit_whole h vs) nothing_before vs)
 
-abbrev pub fault_of_parts : List Part → Option Fault
-fault_of_parts vs = or_else (unbuilt_at (first_unbuilt_part (context_of_parts vs) vs)) (first_broken (unit_whole vs) nothing_before vs)
-
--- a unit with a header isn't built
 abbrev pub unit_fault : RatRoutine → Option Fault
-unit_fault u = if is_main u.header then fault_of_parts (unit_parts u.body) else Some (fault_of u.place Unbuilt)
+unit_fault u = fault_of_parts u.header u.place (unit_parts u.body)
 
 abbrev pub first_fault_of : List RatRoutine → Option Fault
 first_fault_of [] = None

@@ -24,7 +24,7 @@ form_of (f.CaseList es second) = CaseList (formulas_of es.now) second
 form_of (f.ForHead a e b) = ForHead (act_if_any a.now) (formula_if_any e.now) (act_if_any b.now)
 form_of (f.DoHead x a b c) = DoHead x.now (par_of a.now) (par_of b.now) (par_of c.now)
 form_of (f.LoopExit n) = LoopExit n
-form_of f.ReturnHead = ReturnHead
+form_of (f.ReturnHead e) = ReturnHead (formula_if_any e.now)
 
 abbrev pub depth_of : Around → ℕ
 depth_of Outside = zero

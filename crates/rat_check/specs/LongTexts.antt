@@ -1,9 +1,9 @@
 -- Limit 9: a statement fits twenty cards of 66 columns for its text, and of an expression in a control statement so much is left
 -- free that the statements which the compiler puts it into do too.
-use Rattle.std.specs.Prelude.{ℕ, length, nat_lt, Bool, false, ◌||◌, [], Option, Some, None}
+use Rattle.std.specs.Prelude.{length, nat_lt, Bool, false, ◌||◌, [], Option, Some, None}
 use Rattle.f66_tree.specs.Syntax.{Formula, Formulas, NoFormula, AndFormula, Act}
 use Rattle.stmt_text.specs.Texts.{formula_text, statement_text}
-use Rattle.rat_check.specs.Parts.{Form, Statement, Condition, Selector, CaseList, ForHead}
+use Rattle.rat_check.specs.Parts.{Form, Statement, Condition, Selector, CaseList, ForHead, ReturnHead}
 
 abbrev pub is_long_statement : Act → Bool
 is_long_statement a = nat_lt 1320 (length (statement_text a))
@@ -30,4 +30,5 @@ is_long_form (Condition e) = is_long_expression e
 is_long_form (Selector e) = is_long_expression e
 is_long_form (CaseList es second) = are_some_long es
 is_long_form (ForHead a e b) = is_long_if_any a || (is_long_test e || is_long_if_any b)
+is_long_form (ReturnHead e) = is_long_test e
 is_long_form _ = false

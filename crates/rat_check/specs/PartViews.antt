@@ -1,7 +1,7 @@
 -- The parts of a unit in memory, and what the checks know of them.
 use Rattle.std.specs.Prelude.{ℕ, List, map}
-use Rattle.f66_names.specs.declared.names.Names.{Names}
 use Rattle.f66_names.specs.DeclarationViews.{context_in, acts_in}
+use Rattle.unit_rules.specs.declared.unit_names.UnitNames.{UnitNames}
 use Rattle.rat_check.specs.declared.parts.Part as memory
 use Rattle.rat_check.specs.declared.survey.Survey as walks
 use Rattle.rat_check.specs.declared.before.Before as fronts
@@ -22,5 +22,5 @@ survey_of s = record { reach = s.reach; parts = parts_seen s.parts.items }
 abbrev pub before_of : fronts.Before → Before
 before_of b = record { labels = is_among b.labels; begun = b.begun; said = b.said }
 
-abbrev pub whole_by : Names → List ℕ → UnitRules
+abbrev pub whole_by : UnitNames → List ℕ → UnitRules
 whole_by names formats = record { context = context_in names.declarations; said = acts_in names.declarations; formats = is_among formats }

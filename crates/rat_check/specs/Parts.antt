@@ -24,7 +24,8 @@ pub data Form : Type 0 where
   DoHead : Text → Par → Par → Par → Form
   -- `break` and `next`, by how many loops
   LoopExit : ℕ → Form
-  ReturnHead : Form
+  -- `return`, and the value that it returns
+  ReturnHead : Option Formula → Form
 
 -- a set of labels
 abbrev pub Labels : Type 0
@@ -91,7 +92,7 @@ abbrev mutual
   parts_of k r l (Switch p e cs) = part k r l p (Selector e) ∷ clause_parts k r false cs
   parts_of k r l (Break p n) = part k r l p (LoopExit n) ∷ []
   parts_of k r l (Next p n) = part k r l p (LoopExit n) ∷ []
-  parts_of k r l (Return p e) = part k r l p ReturnHead ∷ []
+  parts_of k r l (Return p e) = part k r l p (ReturnHead e) ∷ []
   parts_of k r l (Plain m p a) = with_mark k r l p (part k r m p (Statement a) ∷ [])
   parts_of k r l (Labelled m p c) = with_mark k r l p (parts_of k r (Some m) c)
 

@@ -1,42 +1,37 @@
--- What each part of a unit breaks (X3.9-1966, sections 3 to 9; Kernighan's Ratfor). What is not built yet is told before all
--- rules, so that they speak of built parts alone.
-use Rattle.std.specs.Prelude.{ℕ, ◌+◌, nat_le, Bool, true, false, not, ◌&&◌, ◌||◌, List, [], ◌∷◌, length, Option, Some, None}
-use Rattle.std.specs.List.{list_all}
+-- What each part of a unit of any kind breaks (X3.9-1966, sections 3 to 9; Kernighan's Ratfor).
+use Rattle.std.specs.Prelude.{ℕ, ◌+◌, nat_le, Bool, true, false, not, ◌&&◌, ◌||◌, List, [], ◌∷◌, length, Option, Some, None, is_some}
 use Rattle.rule_table.specs.declared.rule.Rule.{Rule}
-use Rattle.rule_table.specs.declared.rule.Rule.TheVariants.{Syntax, BadLabel, BadBreak, DuplicateCase, LongText}
+use Rattle.rule_table.specs.declared.rule.Rule.TheVariants.{Syntax, TypeClash, BadLabel, BadBreak, DuplicateCase, LongText}
 use Rattle.rule_table.specs.FaultRules.{first_rule}
-use Rattle.f66_tree.specs.Syntax.{Act, Assign, Sign, When, Loop, Read, Write}
+use Rattle.f66_tree.specs.Syntax.{Header, FuncUnit, DataUnit, Act, Assign, Sign, When, Loop, Invoke, Read, Write}
 use Rattle.f66_tree.specs.Units.{Context}
-use Rattle.f66_names.specs.BuiltActs.{is_built}
-use Rattle.f66_names.specs.Rules.{breaks_name}
-use Rattle.f66_flow.specs.Acts.{is_specification, is_format}
+use Rattle.f66_flow.specs.Acts.{is_specification, is_format, is_misplaced}
+use Rattle.unit_rules.specs.UnitRules.{breaks_rule}
 use Rattle.rat_check.specs.Parts.{Form, Bare, Statement, CaseList, ForHead, ReturnHead, Labels, no_label, with_label, Part}
 use Rattle.rat_check.specs.Said.{said_by}
 use Rattle.rat_check.specs.LongTexts.{is_long_form}
 
--- ---- what is built ----
+-- ---- the forms of Ratfor ----
 
--- a plain statement of Ratfor: neither an IF nor a DO of FORTRAN
+-- a plain statement: neither an IF nor a DO of FORTRAN
 abbrev pub is_plain : Act → Bool
 is_plain (Sign e l m n) = false
 is_plain (When e a) = false
 is_plain (Loop l x a b c) = false
 is_plain _ = true
 
--- an assignment or nothing
+-- an assignment, a call, or nothing
 abbrev pub is_simple : Option Act → Bool
 is_simple None = true
 is_simple (Some (Assign x e)) = true
+is_simple (Some (Invoke x es)) = true
 is_simple (Some _) = false
 
+-- what Ratfor's grammar has: of what a tree can hold the rest comes from no text
 abbrev pub is_ratfor : Form → Bool
 is_ratfor (Statement a) = is_plain a
 is_ratfor (ForHead a e b) = is_simple a && is_simple b
-is_ratfor ReturnHead = false
 is_ratfor _ = true
-
-abbrev pub is_built_form : Context → Form → Bool
-is_built_form c form = is_ratfor form && list_all (is_built c) (said_by form)
 
 -- ---- what stands before a part ----
 
@@ -57,8 +52,8 @@ begins (Some l) Bare = true
 begins l (Statement a) = not (is_specification a || is_format a)
 begins l _ = true
 
-abbrev pub behind : Before → Part → Before
-behind b v = record { labels = with_label v.label b.labels; begun = b.begun || begins v.label v.form; said = b.said + length (said_by v.form) }
+abbrev pub behind : Header → Before → Part → Before
+behind h b v = record { labels = with_label v.label b.labels; begun = b.begun || begins v.label v.form; said = b.said + length (said_by h v.form) }
 
 -- ---- the rules ----
 
@@ -84,26 +79,43 @@ finds_labels formats reached (Statement (Read u l es)) = formats l
 finds_labels formats reached (Statement (Write u l es)) = formats l
 finds_labels formats reached _ = reached
 
+-- what BLOCK DATA does not have: anything but specifications, DATA, and signs without a label
+abbrev pub is_executed : Option ℕ → Form → Bool
+is_executed l Bare = is_some l
+is_executed l (Statement a) = is_misplaced DataUnit a
+is_executed l _ = true
+
+abbrev pub is_misplaced_form : Header → Option ℕ → Form → Bool
+is_misplaced_form DataUnit l form = is_executed l form
+is_misplaced_form h l form = false
+
+-- a unit that is no function returns a value
+abbrev pub returns_wrong : Header → Form → Bool
+returns_wrong (FuncUnit t x ds) form = false
+returns_wrong h (ReturnHead (Some e)) = true
+returns_wrong h form = false
+
 abbrev pub is_second_default : Form → Bool
 is_second_default (CaseList es second) = second
 is_second_default _ = false
 
 -- the rules of Ratfor itself, one row for each fault
-abbrev pub breaks_own : Labels → Before → Part → Rule → Bool
-breaks_own formats b v Syntax = is_late_form b.begun v.form
-breaks_own formats b v BadLabel = not (is_own_label b.labels v.label && finds_labels formats v.reached v.form)
-breaks_own formats b v BadBreak = not v.inside
-breaks_own formats b v DuplicateCase = is_second_default v.form
-breaks_own formats b v LongText = is_long_form v.form
-breaks_own formats b v _ = false
+abbrev pub breaks_own : Header → Labels → Before → Part → Rule → Bool
+breaks_own h formats b v Syntax = not (is_ratfor v.form) || (is_misplaced_form h v.label v.form || is_late_form b.begun v.form)
+breaks_own h formats b v TypeClash = returns_wrong h v.form
+breaks_own h formats b v BadLabel = not (is_own_label b.labels v.label && finds_labels formats v.reached v.form)
+breaks_own h formats b v BadBreak = not v.inside
+breaks_own h formats b v DuplicateCase = is_second_default v.form
+breaks_own h formats b v LongText = is_long_form v.form
+breaks_own h formats b v _ = false
 
 -- what is said of names, from the n-th of the unit on, breaks a rule of names, types, counts, constants and stores
 abbrev pub break_names : Context → List Act → ℕ → List Act → Rule → Bool
 break_names c said n [] k = false
-break_names c said n (a ∷ more) k = breaks_name c said n a k || break_names c said (n + 1) more k
+break_names c said n (a ∷ more) k = breaks_rule c said n a k || break_names c said (n + 1) more k
 
 abbrev pub breaks : UnitRules → Before → Part → Rule → Bool
-breaks u b v k = breaks_own u.formats b v k || break_names u.context u.said b.said (said_by v.form) k
+breaks u b v k = breaks_own u.context.header u.formats b v k || break_names u.context u.said b.said (said_by u.context.header v.form) k
 
 -- of the rules that a part breaks, that with the smallest number
 abbrev pub broken_rule : UnitRules → Before → Part → Option Rule

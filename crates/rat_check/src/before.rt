@@ -1,5 +1,6 @@
 // What stands before a part of a unit.
 ghost use Rattle.std.specs.Prelude.{◌≡◌, ◌+◌, ◌<◌, ◌^◌, [], length, OnOk, IfOk};
+ghost use Rattle.f66_tree.specs.Syntax.{Header};
 ghost use Rattle.rat_check.specs.Rules.{nothing_before, behind};
 ghost use Rattle.rat_check.specs.Said.{said_by};
 ghost use Rattle.rat_check.specs.FormViews.{form_of};
@@ -35,10 +36,9 @@ impl Before {
 
     /// A part, which says so much of names, stands before the next ones too.
     pub fn add(&mut self, part: &Part, said: usize) -> Result<(), AllocError>
-        requires said { said ≡ length (said_by (form_of part.now.form)) }
         requires within { self.old.said + said < 2 ^ 64 }
         ensures labels { OnOk result (self.new.labels ≡ adding_if part.now.label self.old.labels) }
-        ensures before { OnOk result (before_of self.new ≡ behind (before_of self.old) (part_of part.now)) }
+        ensures before { (h : Header) → said ≡ length (said_by h (form_of part.now.form)) → OnOk result (before_of self.new ≡ behind h (before_of self.old) (part_of part.now)) }
     {
         self.begun = self.begun || part.form.begins(part.label);
         self.said += said;

@@ -1,7 +1,9 @@
 // What the parts of a unit say, and the loops around them.
 ghost use Rattle.std.specs.Prelude.{◌≡◌, nat_le};
 ghost use Rattle.rat_check.specs.Parts.{finds_loop};
-ghost use Rattle.rat_check.specs.Rules.{is_second_default, begins};
+ghost use Rattle.f66_tree.specs.Views.{act_of};
+ghost use Rattle.rat_tree.specs.Views.{act_if_any};
+ghost use Rattle.rat_check.specs.Rules.{is_plain, is_simple, is_ratfor, is_second_default, begins};
 ghost use Rattle.rat_check.specs.FormViews.{form_of, depth_of};
 
 use f66_flow::{is_format, is_specification};
@@ -26,7 +28,8 @@ pub enum Form<'a> {
     DoHead(&'a Name, &'a Par, &'a Par, &'a Par),
     /// `break` and `next`.
     LoopExit(u32),
-    ReturnHead,
+    /// `return`, and the value that it returns.
+    ReturnHead(&'a Option<Expr>),
 }
 
 /// The loops around a part.
@@ -60,6 +63,17 @@ impl Form<'_> {
         }
     }
 
+    /// Whether Ratfor's grammar has it.
+    pub fn is_ratfor(self) -> bool
+        ensures { result ≡ is_ratfor (form_of self.entry) }
+    {
+        match self {
+            Form::Statement(kind) => is_plain(kind),
+            Form::ForHead(first, _, step) => is_simple(first) && is_simple(step),
+            _ => true,
+        }
+    }
+
     pub fn is_second_default(self) -> bool
         ensures { result ≡ is_second_default (form_of self.entry) }
     {
@@ -79,4 +93,24 @@ impl Form<'_> {
             _ => true,
         }
     }
+}
+
+/// Whether it is neither an IF nor a DO of FORTRAN.
+fn is_plain(kind: &StmtKind) -> bool
+    ensures { result ≡ is_plain (act_of kind.now) }
+{
+    !matches!(
+        kind,
+        StmtKind::Sign(..) | StmtKind::When(_, _) | StmtKind::Loop(..)
+    )
+}
+
+/// Whether the first or last part of a `for` is an assignment or a call, or missing.
+fn is_simple(kind: &Option<StmtKind>) -> bool
+    ensures { result ≡ is_simple (act_if_any kind.now) }
+{
+    matches!(
+        kind,
+        None | Some(StmtKind::Assign(_, _) | StmtKind::Invoke(_, _))
+    )
 }

@@ -1,8 +1,8 @@
-//! The checks of a Ratfor tree: what is not built yet, the rules of names, types, counts, constants and stores, and those of order, labels, loops and clauses.
+//! The checks of a Ratfor tree: for units of every kind the rules of names, types, counts, constants and stores, and those of order,
+//! labels, loops and clauses.
 #![tactic(auto)]
 
 mod before;
-mod built;
 mod forms;
 mod labels;
 mod long_texts;
@@ -15,13 +15,14 @@ mod unit_check;
 mod visit;
 
 use before::Before;
-use built::first_unbuilt;
-use forms::{Around, Form};
+use forms::Around;
+pub use forms::Form;
 use labels::LabelSet;
-use parts::Part;
+pub use parts::Part;
 use rules::broken_rule;
-use said::{add_form, sayings_of};
+use said::add_form;
+pub use said::sayings_of;
 use survey::Survey;
 use targets::add_targets;
-pub use unit_check::{check, sayings};
+pub use unit_check::{check, parts_of, sayings};
 use visit::visit_list;

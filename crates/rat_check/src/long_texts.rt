@@ -20,8 +20,8 @@ pub fn is_long_form(form: Form) -> bool
         Form::ForHead(first, e, step) => {
             is_long_if_any(first) || (is_long_test(e) || is_long_if_any(step))
         }
-        Form::Bare | Form::RepeatHead | Form::DoHead(..) | Form::LoopExit(_) | Form::ReturnHead =>
-            false,
+        Form::ReturnHead(e) => is_long_test(e),
+        Form::Bare | Form::RepeatHead | Form::DoHead(..) | Form::LoopExit(_) => false,
     }
 }
 

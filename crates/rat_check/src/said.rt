@@ -1,31 +1,40 @@
 // What the parts of a unit say of names.
 ghost use Rattle.std.specs.Prelude.{◌≡◌, ◌++◌, ◌∷◌, [], IfOk, OnOk};
-ghost use Rattle.f66_tree.specs.Views.{formula_of, formulas_of, act_of};
+ghost use Rattle.f66_tree.specs.Views.{formula_of, formulas_of, header_of, act_of};
 ghost use Rattle.rat_tree.specs.Views.{act_if_any, formula_if_any};
 ghost use Rattle.f66_names.specs.ActViews.{act_said, acts_of};
-ghost use Rattle.rat_check.specs.Said.{said_by, value_acts, condition_if_any, said_if_any};
+ghost use Rattle.rat_check.specs.Said.{said_by, value_acts, condition_if_any, said_if_any, returned_act, returned_if_any};
 ghost use Rattle.rat_check.specs.FormViews.{form_of};
 
 use crate::Form;
 use f66_names::Saying;
-use f66_tree::{Expr, StmtKind};
+use f66_tree::{Expr, Header, StmtKind};
 use std::alloc::{AllocError, Global};
 
-/// What a part says of names, in reading order.
-pub fn sayings_of<'a>(alloc: Global, form: Form<'a>) -> Result<Vec<Saying<'a>>, AllocError>
-    ensures { IfOk result (λ v. acts_of v.items ≡ said_by (form_of form.entry)) }
+/// What a part of a unit with this header says of names, in reading order.
+pub fn sayings_of<'a>(
+    alloc: Global,
+    header: &'a Header,
+    form: Form<'a>,
+) -> Result<Vec<Saying<'a>>, AllocError>
+    ensures { IfOk result (λ v. acts_of v.items ≡ said_by (header_of header.now) (form_of form.entry)) }
 {
     let mut sayings = Vec::new(alloc);
-    add_form(form, &mut sayings)?;
+    add_form(header, form, &mut sayings)?;
     Ok(sayings)
 }
 
 /// Adds what a part says of names.
-pub fn add_form<'a>(form: Form<'a>, sayings: &mut Vec<Saying<'a>>) -> Result<(), AllocError>
-    ensures { OnOk result (acts_of sayings.new.items ≡ acts_of sayings.old.items ++ said_by (form_of form.entry)) }
+pub fn add_form<'a>(
+    header: &'a Header,
+    form: Form<'a>,
+    sayings: &mut Vec<Saying<'a>>,
+) -> Result<(), AllocError>
+    ensures { OnOk result (acts_of sayings.new.items ≡ acts_of sayings.old.items ++ said_by (header_of header.now) (form_of form.entry)) }
 {
     match form {
-        Form::Bare | Form::RepeatHead | Form::LoopExit(_) | Form::ReturnHead => Ok(()),
+        Form::Bare | Form::RepeatHead | Form::LoopExit(_) => Ok(()),
+        Form::ReturnHead(value) => add_returned(header, value, sayings),
         Form::Statement(kind) => add(Saying::Act(kind), sayings),
         Form::Condition(e) => add(Saying::Condition(e), sayings),
         Form::Selector(e) => add(Saying::Value(e), sayings),
@@ -72,5 +81,29 @@ fn add_condition<'a>(e: &'a Option<Expr>, sayings: &mut Vec<Saying<'a>>) -> Resu
     match e {
         None => Ok(()),
         Some(e) => add(Saying::Condition(e), sayings),
+    }
+}
+
+fn add_returned<'a>(
+    header: &'a Header,
+    value: &'a Option<Expr>,
+    sayings: &mut Vec<Saying<'a>>,
+) -> Result<(), AllocError>
+    ensures { OnOk result
+        (acts_of sayings.new.items ≡ acts_of sayings.old.items ++ returned_if_any (header_of header.now) (formula_if_any value.now)) }
+{
+    match value {
+        None => Ok(()),
+        Some(e) => add(returned(header, e), sayings),
+    }
+}
+
+/// A value that is returned: in a function an assignment to its name.
+fn returned<'a>(header: &'a Header, e: &'a Expr) -> Saying<'a>
+    ensures { act_said result ≡ returned_act (header_of header.now) (formula_of e.now) }
+{
+    match header {
+        Header::Func(_, name, _) => Saying::Returned(name, e),
+        Header::Main | Header::Sub(_, _) | Header::Block => Saying::Value(e),
     }
 }

@@ -1,8 +1,9 @@
 // The check of a unit.
 ghost use Rattle.std.specs.Prelude.{◌≡◌, [], IfOk, OnOk};
+ghost use Rattle.f66_tree.specs.Views.{header_of};
 ghost use Rattle.rat_tree.specs.Views.{commands, rat_routine_of};
 ghost use Rattle.f66_names.specs.ActViews.{acts_of};
-ghost use Rattle.f66_names.specs.DeclarationViews.{acts_in};
+ghost use Rattle.f66_names.specs.DeclarationViews.{context_in, acts_in};
 ghost use Rattle.rat_check.specs.Parts.{unit_parts, no_label};
 ghost use Rattle.rat_check.specs.Said.{said_in};
 ghost use Rattle.rat_check.specs.Rules.{nothing_before};
@@ -12,53 +13,60 @@ ghost use Rattle.rat_check.specs.PartViews.{parts_seen, whole_by};
 ghost use Rattle.rat_check.specs.Survey.{is_among, adding_if, own_labels};
 
 use crate::{
-    Around, Before, Form, LabelSet, Part, Survey, add_form, broken_rule, first_unbuilt, sayings_of,
-    visit_list,
+    Around, Before, Form, LabelSet, Part, Survey, add_form, broken_rule, sayings_of, visit_list,
 };
-use f66_names::{Names, Saying, names_of};
+use f66_names::Saying;
 use f66_tree::{Header, StmtKind};
-use ground::{List, Refusal};
+use ground::{List, Place, Refusal};
 use rat_tree::{RatStmt, RatUnit};
-use rule_table::Rule;
 use std::alloc::{AllocError, Global};
+use unit_rules::{UnitNames, header_rule, unit_names_of};
 
-/// Checks a unit, and gives the labels of its statements, each once. Faults 9 to 18, 26, 27, 30 and 31.
+/// Checks a unit of any kind, and gives the labels of its statements, each once. Faults 9 to 18, 26, 27 and 30.
+// What names mean is known when all parts are, so these are noted first.
 pub fn check(alloc: Global, unit: &RatUnit) -> Result<List<u32>, Refusal>
     ensures fault { Tells result (unit_fault (rat_routine_of unit.now)) }
     ensures labels { IfOk result (λ labels. labels.items ≡ own_labels (unit_parts (commands unit.now.body.items)) []) }
 {
-    match unit.header {
-        Header::Main => check_body(alloc, &unit.body),
-        _ => Err(Refusal::Fault(Rule::Unbuilt.fault(unit.place))),
-    }
+    let parts = parts_of(alloc, &unit.body)?;
+    let sayings = sayings_in(alloc, &unit.header, &parts)?;
+    let names = unit_names_of(alloc, &unit.header, &sayings)?;
+    check_rules(alloc, &names, unit.place, &parts)
 }
 
-// What isn't built goes first, so all parts are looked through for it; what names mean is known when all parts are.
-fn check_body(alloc: Global, body: &[RatStmt]) -> Result<List<u32>, Refusal>
-    ensures fault { Tells result (fault_of_parts (unit_parts (commands body.now))) }
-    ensures labels { IfOk result (λ labels. labels.items ≡ own_labels (unit_parts (commands body.now)) []) }
+/// Checks a unit at this place of these parts by the rules.
+fn check_rules(
+    alloc: Global,
+    names: &UnitNames,
+    place: Place,
+    parts: &[Part],
+) -> Result<List<u32>, Refusal>
+    requires { said_in (context_in names.now.declarations).header (parts_seen parts.now) ≡ acts_in names.now.declarations }
+    ensures fault { Tells result (fault_of_parts (context_in names.now.declarations).header place (parts_seen parts.now)) }
+    ensures labels { IfOk result (λ labels. labels.items ≡ own_labels (parts_seen parts.now) []) }
+{
+    let of_header = header_rule(alloc, &names.declarations)?;
+    if let Some(rule) = of_header {
+        return Err(Refusal::Fault(rule.fault(place)));
+    }
+    let formats = formats_in(alloc, parts)?;
+    check_parts(alloc, names, &formats, parts)
+}
+
+/// What the statements of a unit with this header say of names, in reading order.
+pub fn sayings<'a>(
+    alloc: Global,
+    header: &'a Header,
+    body: &'a [RatStmt],
+) -> Result<Vec<Saying<'a>>, AllocError>
+    ensures { IfOk result (λ v. acts_of v.items ≡ said_in (header_of header.now) (unit_parts (commands body.now))) }
 {
     let parts = parts_of(alloc, body)?;
-    let sayings = sayings_in(alloc, &parts)?;
-    let header = Header::Main;
-    let names = names_of(alloc, &header, &sayings)?;
-    let unbuilt = first_unbuilt(alloc, &names, &parts)?;
-    if let Some(place) = unbuilt {
-        return Err(Refusal::Fault(Rule::Unbuilt.fault(place)));
-    }
-    let formats = formats_in(alloc, &parts)?;
-    check_parts(alloc, &names, &formats, &parts)
+    sayings_in(alloc, header, &parts)
 }
 
-/// What a unit says of names, in reading order.
-pub fn sayings<'a>(alloc: Global, unit: &'a RatUnit) -> Result<Vec<Saying<'a>>, AllocError>
-    ensures { IfOk result (λ v. acts_of v.items ≡ said_in (unit_parts (commands unit.now.body.items))) }
-{
-    let parts = parts_of(alloc, &unit.body)?;
-    sayings_in(alloc, &parts)
-}
-
-fn parts_of(alloc: Global, body: &[RatStmt]) -> Result<Vec<Part>, AllocError>
+/// The parts of a unit with these statements, in reading order.
+pub fn parts_of(alloc: Global, body: &[RatStmt]) -> Result<Vec<Part>, AllocError>
     ensures { IfOk result (λ parts. parts_seen parts.items ≡ unit_parts (commands body.now)) }
 {
     let mut survey = Survey::new(alloc);
@@ -67,12 +75,16 @@ fn parts_of(alloc: Global, body: &[RatStmt]) -> Result<Vec<Part>, AllocError>
 }
 
 /// What the parts say of names.
-fn sayings_in<'a>(alloc: Global, parts: &[Part<'a>]) -> Result<Vec<Saying<'a>>, AllocError>
-    ensures { IfOk result (λ v. acts_of v.items ≡ said_in (parts_seen parts.now)) }
+fn sayings_in<'a>(
+    alloc: Global,
+    header: &'a Header,
+    parts: &[Part<'a>],
+) -> Result<Vec<Saying<'a>>, AllocError>
+    ensures { IfOk result (λ v. acts_of v.items ≡ said_in (header_of header.now) (parts_seen parts.now)) }
 {
     let mut sayings = Vec::new(alloc);
     for part in parts {
-        add_form(part.form, &mut sayings)?;
+        add_form(header, part.form, &mut sayings)?;
     }
     Ok(sayings)
 }
@@ -103,18 +115,18 @@ fn add_format(part: &Part, formats: &mut LabelSet) -> Result<(), AllocError>
 /// The labels of the parts, or the first part that breaks a rule.
 fn check_parts(
     alloc: Global,
-    names: &Names,
+    names: &UnitNames,
     formats: &LabelSet,
     parts: &[Part],
 ) -> Result<List<u32>, Refusal>
-    requires { said_in (parts_seen parts.now) ≡ acts_in names.now.declarations }
+    requires { said_in (context_in names.now.declarations).header (parts_seen parts.now) ≡ acts_in names.now.declarations }
     ensures fault { Tells result (first_broken (whole_by names.now formats.now) nothing_before (parts_seen parts.now)) }
     ensures labels { IfOk result (λ labels. labels.items ≡ own_labels (parts_seen parts.now) []) }
 {
     let mut before = Before::new(alloc);
     let _said = names.declarations.sayings.len();
     for part in parts {
-        let sayings = sayings_of(alloc, part.form)?;
+        let sayings = sayings_of(alloc, names.declarations.header, part.form)?;
         let broken = broken_rule(alloc, names, formats, &before, part, &sayings)?;
         if let Some(rule) = broken {
             return Err(Refusal::Fault(rule.fault(part.place)));

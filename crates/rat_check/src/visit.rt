@@ -64,7 +64,7 @@ fn visit<'a>(
         }
         RatKind::Break(count) => survey.note(&*around, label, place, Form::LoopExit(*count)),
         RatKind::Next(count) => survey.note(&*around, label, place, Form::LoopExit(*count)),
-        RatKind::Return(_) => survey.note(&*around, label, place, Form::ReturnHead),
+        RatKind::Return(value) => { survey.note(&*around, label, place, Form::ReturnHead(value)) }
         RatKind::Plain(kind) => survey.note(&*around, label, place, Form::Statement(kind)),
     }
 }

@@ -1,4 +1,4 @@
--- What is known of a main unit whose checks find no fault.
+-- What is known of a unit whose checks find no fault.
 --
 --   first fault = none  ──▶  no part breaks a rule (NoFault)  ──▶  each command is as its meaning wants it (Clear)
 --

@@ -1,4 +1,4 @@
--- Small main units, by computation: what they mean, what their units do and how they are printed, that they are checked, and what
+-- Small units, by computation: what mains mean, what their units do and how they are printed, that they are checked, and what
 -- is refused.
 use Rattle.std.proofs.Common.{◌≡◌, ◌≢◌, ℕ, ◌+◌, ◌≤◌, Bool, true, false, true≢false, List, [], ◌∷◌, Some, None, refl, sym, ap, ◌∙◌, arith}
 use Rattle.std.specs.Prelude.{pos, nat_eq, codes, map}
@@ -7,9 +7,9 @@ use Rattle.std.specs.Str.{bytes_eq}
 use Rattle.std.proofs.lemmas.Bool.{ne_eqb}
 use Rattle.std.proofs.lemmas.Slice.Eq.{bytes_eq-Decides}
 use Rattle.rule_table.specs.FaultRules.{fault_of}
-use Rattle.rule_table.specs.declared.rule.Rule.TheVariants.{NameTooLong, OutOfProfileType, BadLabel, BadBreak, Unbuilt}
+use Rattle.rule_table.specs.declared.rule.Rule.TheVariants.{NameTooLong, OutOfProfileType, BadLabel, BadBreak}
 use Rattle.f66_tree.specs.declared.expression.Operator.TheVariants.{Add, Lt, Eq}
-use Rattle.f66_tree.specs.Syntax.{Text, Pair, NoFormula, AndFormula, Constant, Act, Goto, Stop, Line}
+use Rattle.f66_tree.specs.Syntax.{Text, Pair, NoFormula, AndFormula, Header, MainUnit, SubUnit, FuncUnit, DataUnit, Constant, Act, Goto, Stop, Invoke, Dimension, Common, Line}
 use Rattle.f66_tree.specs.World.{Record, Shown, Ended, Done, GoesOn}
 use Rattle.f66_tree.specs.Agreement.{Agrees}
 use Rattle.f66_tree.specs.OneUnit.{executed}
@@ -18,7 +18,9 @@ use Rattle.f66_tree.proofs.ExampleParts.{here, i, k, num, var, set, write, i3}
 use Rattle.rat_tree.specs.Syntax.{Command, Block, If, Repeat, RepeatUntil, Do, Switch, Break, Next, Return, Plain, Commands, NoCommand, AndCommand, NoClause, AndClause}
 use Rattle.rat_check.specs.Parts.{unit_parts}
 use Rattle.rat_check.specs.FirstFault.{fault_of_parts}
+use Rattle.name_alloc.specs.MadeNames.{next_name, unused, keeping_all}
 use Rattle.rat_lower.specs.Code.{unit_code}
+use Rattle.rat_lower.specs.Emitted.{unit_names}
 use Rattle.rat_lower.specs.OneUnit.{means}
 use Rattle.rat_lower.specs.Checked.{bit, all_given, Lacks, IsChecked}
 use Rattle.rat_lower.specs.Lowered.{source_labels, lowered}
@@ -41,8 +43,11 @@ format = Plain i3.label i3.place i3.act
 abbrev z : Text
 z = codes "Z00001"
 
+abbrev under : Header → List Command → List Line
+under h cs = lowered (source_labels (all cs)) (record { header = h; body = all cs; place = here 1 }) (here 99)
+
 abbrev unit : List Command → List Line
-unit cs = lowered (source_labels (all cs)) (here 1) (here 99) (all cs)
+unit cs = under MainUnit cs
 
 abbrev shows : List Command → ℕ → Shown
 shows cs b = means (all cs) [] b
@@ -101,13 +106,15 @@ other_i = differs i z refl
 other_k : k ≢ z
 other_k = differs k z refl
 
-lacks_z : Lacks z (all switch)
+lacks_z : Lacks z MainUnit (all switch)
 lacks_z = record {
+  own = differs [] z refl;
+  dummies = refl;
   statements = ((other_i, tt), ((other_i, ((tt, tt), ((other_k, tt), tt), ((tt, (tt, tt)), ((other_k, tt), tt), (tt, ((other_k, tt), tt), tt)))), ((tt, (other_k, tt)), (tt, tt))));
   dimensions = (tt, tt);
 }
 
-switch_checked : IsChecked (λ j. 23000 + j) z (all switch)
+switch_checked : IsChecked (λ j. 23000 + j) z MainUnit (all switch)
 switch_checked = record {
   built = (tt, (((tt, tt), ((tt, tt), ((tt, tt), tt))), (tt, (tt, tt))));
   fits = (tt, (((tt, tt), ((tt, tt), ((tt, tt), tt))), (tt, (tt, tt))));
@@ -118,7 +125,7 @@ switch_checked = record {
   spared = λ there. lacks_z;
 }
 
-switch_agrees : (input : List Record) → Agrees (means (all switch) input) (executed (unit_code (λ j. 23000 + j) z (here 1) (here 99) (all switch)) input)
+switch_agrees : (input : List Record) → Agrees (means (all switch) input) (executed (unit_code (λ j. 23000 + j) z MainUnit (here 1) (here 99) (all switch)) input)
 switch_agrees input = unit_agrees (λ j. 23000 + j) z (here 1) (here 99) (all switch) switch_checked input
 
 -- ---- loops, labels and jumps ----
@@ -129,7 +136,7 @@ loops =
     Do (here 1) i (Constant (pos 1)) (Constant (pos 3)) (Constant (pos 1)) (block 1 (If (here 2) (Pair Eq (var i) (num (pos 2))) (Next (here 2) 1) ∷ plain 3 (write (i ∷ [])) ∷ []))
     ∷ plain 4 (set k (num (pos 0))) ∷ Plain (Some 20) (here 5) (set k (Pair Add (var k) (num (pos 1)))) ∷ If (here 6) (Pair Lt (var k) (num (pos 3))) (plain 6 (Goto 20)) ∷ plain 7 (write (k ∷ [])) ∷ plain 8 (Stop None) ∷ format ∷ []
 
-loops_accepted : fault_of_parts (unit_parts (all loops)) ≡ None
+loops_accepted : fault_of_parts MainUnit (here 0) (unit_parts (all loops)) ≡ None
 unfolding digits
 loops_accepted = refl
 
@@ -157,43 +164,79 @@ loops_go_on = refl
 abbrev too_far : Command
 too_far = Repeat (here 2) (block 2 (Break (here 3) 2 ∷ []))
 
-loop_refused : fault_of_parts (unit_parts (all (plain 1 (set i (num (pos 1))) ∷ too_far ∷ []))) ≡ Some (fault_of (here 3) BadBreak)
+loop_refused : fault_of_parts MainUnit (here 0) (unit_parts (all (plain 1 (set i (num (pos 1))) ∷ too_far ∷ []))) ≡ Some (fault_of (here 3) BadBreak)
 unfolding digits
 loop_refused = refl
 
 -- goto 10 to a label within braces
-label_refused : fault_of_parts (unit_parts (all (plain 1 (Goto 10) ∷ block 2 (Plain (Some 10) (here 2) (set i (num (pos 1))) ∷ []) ∷ []))) ≡ Some (fault_of (here 1) BadLabel)
+label_refused : fault_of_parts MainUnit (here 0) (unit_parts (all (plain 1 (Goto 10) ∷ block 2 (Plain (Some 10) (here 2) (set i (num (pos 1))) ∷ []) ∷ []))) ≡ Some (fault_of (here 1) BadLabel)
 unfolding digits
 label_refused = refl
 
 -- a label that stands twice
-second_refused : fault_of_parts (unit_parts (all (Plain (Some 10) (here 1) (set i (num (pos 1))) ∷ Plain (Some 10) (here 2) (set i (num (pos 1))) ∷ []))) ≡ Some (fault_of (here 2) BadLabel)
+second_refused : fault_of_parts MainUnit (here 0) (unit_parts (all (Plain (Some 10) (here 1) (set i (num (pos 1))) ∷ Plain (Some 10) (here 2) (set i (num (pos 1))) ∷ []))) ≡ Some (fault_of (here 2) BadLabel)
 unfolding digits
 second_refused = refl
 
 -- a name of seven letters that would be real, and one of one letter
-long_refused : fault_of_parts (unit_parts (all (plain 1 (set i (var (codes "ABCDEFG"))) ∷ []))) ≡ Some (fault_of (here 1) NameTooLong)
+long_refused : fault_of_parts MainUnit (here 0) (unit_parts (all (plain 1 (set i (var (codes "ABCDEFG"))) ∷ []))) ≡ Some (fault_of (here 1) NameTooLong)
 unfolding digits
 long_refused = refl
 
-real_refused : fault_of_parts (unit_parts (all (plain 1 (set i (var (codes "A"))) ∷ []))) ≡ Some (fault_of (here 1) OutOfProfileType)
+real_refused : fault_of_parts MainUnit (here 0) (unit_parts (all (plain 1 (set i (var (codes "A"))) ∷ []))) ≡ Some (fault_of (here 1) OutOfProfileType)
 unfolding digits
 real_refused = refl
 
 -- a WRITE whose format is missing, and the condition of until after the faults of its body
-format_refused : fault_of_parts (unit_parts (all (plain 1 (write (i ∷ [])) ∷ []))) ≡ Some (fault_of (here 1) BadLabel)
+format_refused : fault_of_parts MainUnit (here 0) (unit_parts (all (plain 1 (write (i ∷ [])) ∷ []))) ≡ Some (fault_of (here 1) BadLabel)
 unfolding digits
 format_refused = refl
 
-body_first : fault_of_parts (unit_parts (all (RepeatUntil (here 1) (block 1 (Break (here 2) 0 ∷ [])) (Pair Lt (var (codes "A")) (num (pos 3))) (here 3) ∷ []))) ≡ Some (fault_of (here 2) BadBreak)
+body_first : fault_of_parts MainUnit (here 0) (unit_parts (all (RepeatUntil (here 1) (block 1 (Break (here 2) 0 ∷ [])) (Pair Lt (var (codes "A")) (num (pos 3))) (here 3) ∷ []))) ≡ Some (fault_of (here 2) BadBreak)
 unfolding digits
 body_first = refl
 
--- a return behind a fault: what is not built goes first
-unbuilt_refused : fault_of_parts (unit_parts (all (plain 1 (Goto 10) ∷ Return (here 2) None ∷ []))) ≡ Some (fault_of (here 2) Unbuilt)
-unfolding digits
-unbuilt_refused = refl
-
-switch_accepted : fault_of_parts (unit_parts (all switch)) ≡ None
+switch_accepted : fault_of_parts MainUnit (here 0) (unit_parts (all switch)) ≡ None
 unfolding digits
 switch_accepted = refl
+
+-- ---- units with headers ----
+
+abbrev printed_under : Header → List Command → List (List ℕ)
+printed_under h cs = map (λ (s : Line). statement_text s.act) (under h cs)
+
+-- a function returns a value by its name, and a RETURN ends it unless one does already
+value_returned : printed_under (FuncUnit None (codes "KIND") (k ∷ [])) (If (here 1) (Pair Lt (var k) (num (pos 3))) (Return (here 1) (Some (var k))) ∷ plain 2 (set (codes "KIND") (num (pos 3))) ∷ [])
+    ≡ codes "IF(.NOT.(K.LT.3))GO TO 23000" ∷ codes "KIND=K" ∷ codes "RETURN" ∷ codes "CONTINUE" ∷ codes "KIND=3" ∷ codes "RETURN" ∷ []
+unfolding digits
+value_returned = refl
+
+returned_once : printed_under (SubUnit (codes "S") []) (Return (here 1) None ∷ []) ≡ codes "RETURN" ∷ []
+returned_once = refl
+
+-- nothing ends BLOCK DATA
+nothing_added : printed_under DataUnit (plain 1 (Dimension (record { name = k; sizes = Constant (pos 3) ∷ [] } ∷ [])) ∷ []) ≡ codes "DIMENSION K(3)" ∷ []
+unfolding digits
+nothing_added = refl
+
+-- ---- spare names ----
+
+abbrev spare_of : Header → Text
+spare_of h = next_name (keeping_all (unit_names (record { header = h; body = all switch; place = here 1 })) unused)
+
+-- a main has the first, unless the unit itself or a dummy is named so
+first_spare : spare_of MainUnit ≡ z
+first_spare = refl
+
+past_own : spare_of (FuncUnit None z []) ≡ codes "Z00002"
+past_own = refl
+
+past_dummies : spare_of (SubUnit (codes "S") (codes "Z00002" ∷ z ∷ [])) ≡ codes "Z00003"
+past_dummies = refl
+
+-- or a CALL or a COMMON names so
+past_called : next_name (keeping_all (unit_names (record { header = MainUnit; body = all (plain 1 (Invoke z (AndFormula (var (codes "Z00002")) NoFormula)) ∷ switch); place = here 1 })) unused) ≡ codes "Z00003"
+past_called = refl
+
+past_common : next_name (keeping_all (unit_names (record { header = MainUnit; body = all (plain 1 (Common (record { name = None; list = record { name = z; sizes = [] } ∷ [] } ∷ [])) ∷ switch); place = here 1 })) unused) ≡ codes "Z00002"
+past_common = refl

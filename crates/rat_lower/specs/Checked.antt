@@ -1,7 +1,7 @@
--- What is checked of a main unit before it becomes one of FORTRAN.
+-- What is checked of a unit before it becomes one of FORTRAN.
 use Rattle.std.specs.Prelude.{◌≡◌, ◌≢◌, ℕ, suc, ◌+◌, ◌≤◌, ◌<◌, Bool, true, false, nat_eq, ◌||◌, List, [], ◌∷◌, Option, Some, None, ⊤}
-use Rattle.f66_tree.specs.Syntax.{Text, Declared, Area, Act, Goto, Computed, Sign, When, Loop, Typed, Dimension, Common}
-use Rattle.f66_tree.specs.Units.{Note}
+use Rattle.f66_tree.specs.Syntax.{Text, Header, Declared, Area, Act, Goto, Computed, Sign, When, Loop, Typed, Dimension, Common}
+use Rattle.f66_tree.specs.Units.{dummies_of, name_of, position, Note}
 use Rattle.f66_tree.specs.Uses.{NamesOfPars}
 use Rattle.f66_tree.specs.Execution.{has_label}
 use Rattle.rat_tree.specs.Syntax.{Command, Empty, Block, If, IfElse, While, For, Repeat, RepeatUntil, Do, Switch, Break, Next, Return, Plain, Labelled, Commands, NoCommand, AndCommand, Clauses, NoClause, AndClause}
@@ -22,11 +22,6 @@ abbrev pub IsPlainIfAny : Option Act → Type 0
 IsPlainIfAny None = ⊤
 IsPlainIfAny (Some a) = IsPlain a
 
--- a main unit returns no value
-abbrev pub IsNothing : {A : Type 0} → Option A → Type 0
-IsNothing None = ⊤
-IsNothing (Some e) = ⊥
-
 abbrev mutual
   pub IsBuilt : Command → Type 0
   IsBuilt (Empty p) = ⊤
@@ -41,7 +36,7 @@ abbrev mutual
   IsBuilt (Switch p e cs) = ClausesBuilt cs
   IsBuilt (Break p n) = ⊤
   IsBuilt (Next p n) = ⊤
-  IsBuilt (Return p e) = IsNothing e
+  IsBuilt (Return p e) = ⊤
   IsBuilt (Plain l p a) = IsPlain a
   IsBuilt (Labelled l p s) = IsBuilt s
 
@@ -185,19 +180,21 @@ abbrev pub NamesOfNotes : (Text → Type 0) → List Note → Type 0
 NamesOfNotes K [] = ⊤
 NamesOfNotes K (s ∷ notes) = NamesOfNote K s.act × NamesOfNotes K notes
 
--- a name that neither the statements of a unit nor its dimensions use
-pub record Lacks (spare : Text) (ss : Commands) : Type 0 where
+-- a name that neither the header of a unit nor its statements nor its dimensions use
+pub record Lacks (spare : Text) (header : Header) (ss : Commands) : Type 0 where
+  pub own : name_of header ≢ spare
+  pub dummies : position spare (dummies_of header) ≡ None
   pub statements : NamesOfCommands (λ x. x ≢ spare) ss
   pub dimensions : NamesOfNotes (λ x. x ≢ spare) (notes_of_unit ss)
 
 -- ---- all ----
 
--- what is asked of a main unit, of the labels that are made for it, and of its spare name
-pub record IsChecked (made : ℕ → ℕ) (spare : Text) (ss : Commands) : Type 0 where
+-- what is asked of a unit, of the labels that are made for it, and of its spare name
+pub record IsChecked (made : ℕ → ℕ) (spare : Text) (header : Header) (ss : Commands) : Type 0 where
   pub built : AreBuilt ss
   pub fits : AllFit 0 ss
   pub lands : AllLand (ss ∷ []) ss
   pub once : (l : ℕ) → all_given l ss ≤ 1
   pub rises : (i j : ℕ) → i < j → made i < made j
   pub unused : (i : ℕ) → all_given (made i) ss ≡ 0
-  pub spared : have_switch ss ≡ true → Lacks spare ss
+  pub spared : have_switch ss ≡ true → Lacks spare header ss

@@ -3,8 +3,8 @@ use Rattle.std.specs.Prelude.{ℕ, zero, suc, ◌+◌, Bool, true, false, ◌||�
 use Rattle.ground.specs.declared.place.Place.{Place}
 use Rattle.f66_tree.specs.declared.declaration.TypeWord.TheVariants.{Integer}
 use Rattle.f66_tree.specs.declared.expression.Operator.TheVariants.{Eq}
-use Rattle.f66_tree.specs.Syntax.{Text, Formula, Ref, Group, Not, Pair, Formulas, NoFormula, AndFormula, MainUnit, Act, Assign, Goto, Computed, Sign, When, Loop, Continue, Stop, Return, Typed, Line, unlabelled_line, labelled_line}
-use Rattle.f66_tree.specs.Units.{is_note, name_of}
+use Rattle.f66_tree.specs.Syntax.{Text, Formula, Ref, Group, Not, Pair, Formulas, NoFormula, AndFormula, Header, DataUnit, Act, Assign, Goto, Computed, Sign, When, Loop, Continue, Stop, Return, Typed, Line, unlabelled_line, labelled_line}
+use Rattle.f66_tree.specs.Units.{is_note, is_main, name_of}
 use Rattle.rat_tree.specs.Syntax.{Command, Empty, Block, If, IfElse, While, For, Repeat, RepeatUntil, Do, Switch, Break, Next, Plain, Labelled, Commands, NoCommand, AndCommand, Clauses, NoClause, AndClause}
 use Rattle.rat_tree.specs.Meaning.{pred_of}
 use Rattle.rat_tree.specs.Syntax as ratfor_tree
@@ -42,10 +42,10 @@ abbrev pub with_act : Place → Option Act → List Line → List Line
 with_act p None next = next
 with_act p (Some a) next = unlabelled_line p a ∷ next
 
--- a return, with or without the value of a function
-abbrev pub with_return : Place → Option Formula → List Line → List Line
-with_return p None next = unlabelled_line p Return ∷ next
-with_return p (Some e) next = unlabelled_line p (Assign (Ref (name_of MainUnit)) e) ∷ unlabelled_line p Return ∷ next
+-- a return, behind the store of a function's value in its own name where there is one
+abbrev pub with_return : Text → Place → Option Formula → List Line → List Line
+with_return own p None next = unlabelled_line p Return ∷ next
+with_return own p (Some e) next = unlabelled_line p (Assign (Ref own) e) ∷ unlabelled_line p Return ∷ next
 
 -- how many labels are made for a command
 abbrev mutual
@@ -83,8 +83,8 @@ abbrev pub each_test : Text → Place → Formulas → ℕ → List Line → Lis
 each_test spare p NoFormula l next = next
 each_test spare p (AndFormula e es) l next = unlabelled_line p (When (case_test spare e) (Goto l)) ∷ each_test spare p es l next
 
--- where made n is the n-th of the labels that are made, and the spare name holds the values of switches
-module _ (made : ℕ → ℕ) (spare : Text) where
+-- where made n is the n-th of the labels that are made, the spare name holds the values of switches, and own is the unit's name
+module _ (made : ℕ → ℕ) (spare own : Text) where
   -- the case expressions of all clauses
   abbrev pub tests : Clauses → ℕ → List Line → List Line
   tests NoClause m next = next
@@ -116,7 +116,7 @@ module _ (made : ℕ → ℕ) (spare : Text) where
         unlabelled_line p (Assign (Ref spare) e) ∷ tests cs (n + 1) (jump p (default_label cs (n + 1) (made n)) ∷ bodies cs (n + 1) (made n) ls (here (made n) p ∷ next))
     code_of (Break p k) n ls next = jump p (label_behind ls (pred_of k)) ∷ next
     code_of (Next p k) n ls next = jump p (label_again ls (pred_of k)) ∷ next
-    code_of (ratfor_tree.Return p e) n ls next = with_return p e next
+    code_of (ratfor_tree.Return p e) n ls next = with_return own p e next
     code_of (Plain l p a) n ls next = record { label = l; place = p; act = a } ∷ next
     code_of (Labelled l p s) n ls next = here l p ∷ code_of s n ls next
 
@@ -176,13 +176,18 @@ abbrev pub end_unless : Bool → Bool → Place → List Line
 end_unless true ends p = stop_unless ends p
 end_unless false ends p = return_unless ends p
 
+-- whether nothing is put at the end of the text: BLOCK DATA has no statement that is executed
+abbrev pub ends_itself : Header → List Line → Bool
+ends_itself DataUnit code = true
+ends_itself _ code = ends_so false code
+
 -- INTEGER spare
 abbrev pub declared_if : Bool → Place → Text → List Line → List Line
 declared_if true p spare code = unlabelled_line p (Typed Integer (record { name = spare; sizes = [] } ∷ [])) ∷ code
 declared_if false p spare code = code
 
--- A main unit: the spare name is declared where a switch uses it, at the unit's place, and a STOP stands at the end of the
--- text unless the last statement is a transfer.
-abbrev pub unit_code : (ℕ → ℕ) → Text → Place → Place → Commands → List Line
-unit_code made spare first last ss =
-    declared_if (have_switch ss) first spare (all_code made spare ss 0 [] (stop_unless (ends_so false (all_code made spare ss 0 [] [])) last))
+-- A unit with its header: the spare name is declared where a switch uses it, at the unit's place, and a STOP or a RETURN stands
+-- at the end of the text unless the last statement is a transfer, or the unit is BLOCK DATA.
+abbrev pub unit_code : (ℕ → ℕ) → Text → Header → Place → Place → Commands → List Line
+unit_code made spare header first last ss =
+    declared_if (have_switch ss) first spare (all_code made spare (name_of header) ss 0 [] (end_unless (is_main header) (ends_itself header (all_code made spare (name_of header) ss 0 [] [])) last))

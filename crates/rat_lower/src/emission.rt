@@ -54,7 +54,7 @@ fn emit(
         RatKind::Switch(e, list) => emit_switch(maker, code, place, e, list, around),
         RatKind::Break(count) => Ok(put_break(code, place, *count, around)?),
         RatKind::Next(count) => Ok(put_next(code, place, *count, around)?),
-        RatKind::Return(value) => Ok(put_return(maker.alloc(), code, place, value)?),
+        RatKind::Return(value) => Ok(put_return(maker, code, place, value)?),
         RatKind::Plain(kind) => Ok(put_copy(maker.alloc(), code, statement.label, place, kind)?),
     }
 }
@@ -206,7 +206,7 @@ fn emit_clauses(
 ) -> Result<u32, Memory>
     requires { maker.old.made + length maker.old.taken + clause_labels (clauses list.now) ≤ 77000 }
     ensures emitted { OnOk result (ClausesEmitted (clauses list.now) behind (rings_of around.now) maker.old maker.new (lines_of code.old.items) (lines_of code.new.items) (lines_of bodies.old.items) (lines_of bodies.new.items)) }
-    ensures default { IfOk result (λ label. label ≡ default_label (labels_past maker.old.taken) maker.old.spare (clauses list.now) maker.old.made behind) }
+    ensures default { IfOk result (λ label. label ≡ default_label (labels_past maker.old.taken) maker.old.spare maker.old.own (clauses list.now) maker.old.made behind) }
 {
     let mut default = None;
     for clause in list {

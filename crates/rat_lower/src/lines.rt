@@ -10,7 +10,7 @@ ghost use Rattle.rat_lower.specs.Emitted.{Adds};
 
 use crate::{Around, Maker, Turn, label_again, label_behind};
 use f66_tree::{Expr, Name, Operator, Par, Stmt, StmtKind, copy_expr, copy_kind, copy_par};
-use ground::{List, Place, Text};
+use ground::{List, Place};
 use rat_tree::{RatKind, RatStmt};
 use std::alloc::{AllocError, Global};
 
@@ -193,24 +193,22 @@ pub fn put_do(
     )
 }
 
-/// RETURN, behind the value of a function where there is one.
+/// RETURN, behind the store of a function's value where there is one.
 pub fn put_return(
-    alloc: Global,
+    maker: &Maker,
     code: &mut List<Stmt>,
     place: Place,
     value: &Option<Expr>,
 ) -> Result<(), AllocError>
-    ensures { OnOk result (Adds (lines_of code.old.items) (lines_of code.new.items) (with_return place (formula_if_any value.now))) }
+    ensures { OnOk result (Adds (lines_of code.old.items) (lines_of code.new.items) (with_return maker.now.own place (formula_if_any value.now))) }
 {
     if let Some(e) = value {
-        let name = Name::new(Text::new(Vec::new(alloc)));
-        let e = copy_expr(alloc, e)?;
-        put(code, None, place, StmtKind::Assign(Expr::Ref(name), e))?;
+        put_value(maker.alloc(), code, place, maker.own()?, e)?;
     }
     put(code, None, place, StmtKind::Return)
 }
 
-/// The value of a switch is put into a name.
+/// A value is put into a name.
 pub fn put_value(
     alloc: Global,
     code: &mut List<Stmt>,

@@ -6,17 +6,17 @@ ghost use Rattle.rat_lower.specs.Lowered.{AllHaveRoom};
 ghost use Rattle.rat_lower.specs.Served.{AllServe};
 
 use crate::lower_unit;
-use f66_check::CheckedUnit;
+use f66_tree::Unit;
 use ground::{List, Refusal};
 use rat_tree::RatProgram;
 use std::alloc::Global;
 
 /// The units of FORTRAN that do what those of a program do, each in its place, or the first fault of the checks. Each is sound
 /// (X3.9-1966, sections 3 to 9). A unit of at most 20,000 tokens has room for its labels and names.
-pub fn lower(alloc: Global, program: &RatProgram) -> Result<List<CheckedUnit>, Refusal>
+pub fn lower(alloc: Global, program: &RatProgram) -> Result<List<Unit>, Refusal>
     requires room { AllHaveRoom (program_of program.now).routines }
     ensures fault { Tells result (first_fault (program_of program.now)) }
-    ensures serves { IfOk result (λ made. AllServe (program_of program.now).routines made.items) }
+    ensures serves { IfOk result (λ made. AllServe (program_of program.now).routines program.now.finish made.items) }
 {
     let mut made = Vec::new(alloc);
     for unit in &program.units {

@@ -1,21 +1,22 @@
-// The statements of a main unit.
+// The statements of a unit.
 ghost use Rattle.std.specs.Prelude.{◌≡◌, ◌+◌, ◌++◌, ◌≤◌, ◌<◌, [], length, true, false, IfOk, OnOk};
-ghost use Rattle.f66_tree.specs.Units.{is_note};
-ghost use Rattle.f66_tree.specs.Views.{act_of, lines_of};
-ghost use Rattle.rat_tree.specs.Views.{commands};
-ghost use Rattle.rat_lower.specs.Code.{all_labels, declared_if, ends_so, is_transfer, stop_unless, unit_code};
-ghost use Rattle.name_alloc.specs.Numbers.{starting};
+ghost use Rattle.f66_tree.specs.Units.{is_main, is_note, name_of};
+ghost use Rattle.f66_tree.specs.Views.{act_of, header_of, lines_of};
+ghost use Rattle.rat_tree.specs.Views.{commands, rat_routine_of};
+ghost use Rattle.rat_lower.specs.Code.{all_labels, declared_if, end_unless, ends_itself, ends_so, is_transfer};
 ghost use Rattle.name_alloc.specs.MadeNames.{next_name};
+ghost use Rattle.name_alloc.specs.Numbers.{starting};
 ghost use Rattle.rat_lower.specs.Emitted.{Adds, labels_past};
+ghost use Rattle.rat_lower.specs.Lowered.{IsUnitCode};
 
 use crate::{Around, Maker, emit_all, have_switch, put};
-use f66_tree::{Declared, Stmt, StmtKind, TypeWord};
+use f66_tree::{Declared, Header, Stmt, StmtKind, TypeWord};
 use ground::{List, Memory, Place};
 use name_alloc::Names;
 use rat_tree::RatUnit;
 use std::alloc::{AllocError, Global};
 
-/// The statements of FORTRAN that do what a main unit does whose text ends at `finish`. `names` are the names of its source,
+/// The statements of FORTRAN that do what a unit does whose text ends at `finish`. `names` are the names of its source,
 /// and `taken` its labels, which those that are made differ from.
 pub fn lower_body(
     alloc: Global,
@@ -28,15 +29,44 @@ pub fn lower_body(
     requires none_made { names.numbers.made ≡ [] }
     requires few_names { length names.kept < 99999 }
     requires no_labels { names.labels ≡ starting 23000 }
-    ensures code { IfOk result (λ code. lines_of code.items ≡ unit_code (labels_past taken.now) (next_name names) unit.now.place finish (commands unit.now.body.items)) }
-    ensures ends { IfOk result (λ code. ends_so false (lines_of code.items) ≡ true) }
+    ensures code { IfOk result (λ code. IsUnitCode (labels_past taken.now) (next_name names) (rat_routine_of unit.now) finish (lines_of code.items)) }
+    ensures ends { IfOk result (λ code. ends_itself (header_of unit.now.header) (lines_of code.items) ≡ true) }
 {
-    let mut maker = Maker::new(alloc, names, taken)?;
-    let mut code = Vec::new(alloc);
-    put_spare(&maker, &mut code, unit.place, have_switch(&unit.body))?;
-    emit_all(&mut maker, &mut code, &unit.body, &Around::Outside)?;
-    put_stop(&mut code, finish)?;
+    let mut maker = Maker::new(alloc, names, &unit.header, taken)?;
+    unit_code(&mut maker, unit, finish)
+}
+
+// The statements of a unit, by a maker that has made no label yet.
+fn unit_code(maker: &mut Maker, unit: &RatUnit, finish: Place) -> Result<List<Stmt>, Memory>
+    requires room { maker.old.made + length maker.old.taken + all_labels (commands unit.now.body.items) ≤ 77000 }
+    requires none_made { maker.old.made ≡ 0 }
+    requires own { maker.old.own ≡ name_of (header_of unit.now.header) }
+    ensures code { IfOk result (λ code. IsUnitCode (labels_past maker.old.taken) maker.old.spare (rat_routine_of unit.now) finish (lines_of code.items)) }
+    ensures ends { IfOk result (λ code. ends_itself (header_of unit.now.header) (lines_of code.items) ≡ true) }
+{
+    let mut code = Vec::new(maker.alloc());
+    put_unit(maker, &mut code, unit, finish)?;
     Ok(code)
+}
+
+// All statements of a unit.
+fn put_unit(
+    maker: &mut Maker,
+    code: &mut List<Stmt>,
+    unit: &RatUnit,
+    finish: Place,
+) -> Result<(), Memory>
+    requires room { maker.old.made + length maker.old.taken + all_labels (commands unit.now.body.items) ≤ 77000 }
+    requires none_made { maker.old.made ≡ 0 }
+    requires own { maker.old.own ≡ name_of (header_of unit.now.header) }
+    requires none_put { code.old.items ≡ [] }
+    ensures code { OnOk result (IsUnitCode (labels_past maker.old.taken) maker.old.spare (rat_routine_of unit.now) finish (lines_of code.new.items)) }
+    ensures ends { OnOk result (ends_itself (header_of unit.now.header) (lines_of code.new.items) ≡ true) }
+{
+    put_spare(maker, code, unit.place, have_switch(&unit.body))?;
+    emit_all(maker, code, &unit.body, &Around::Outside)?;
+    put_end(code, finish, &unit.header)?;
+    Ok(())
 }
 
 // INTEGER spare, where switches use it
@@ -59,17 +89,33 @@ fn put_spare(
     put(code, None, place, StmtKind::Typed(TypeWord::Integer, list))
 }
 
-// A STOP, unless the last statement that is executed is a transfer.
-fn put_stop(code: &mut List<Stmt>, place: Place) -> Result<(), AllocError>
-    ensures { OnOk result (lines_of code.new.items ≡ lines_of code.old.items ++ stop_unless (ends_so false (lines_of code.old.items)) place) }
+// A STOP in a main, and a RETURN in another unit, unless the last statement that is executed is a transfer. BLOCK DATA has none.
+fn put_end(code: &mut List<Stmt>, place: Place, header: &Header) -> Result<(), AllocError>
+    ensures { OnOk result (lines_of code.new.items ≡ lines_of code.old.items
+        ++ end_unless (is_main (header_of header.now)) (ends_itself (header_of header.now) (lines_of code.old.items)) place) }
+{
+    match header {
+        Header::Block => Ok(()),
+        Header::Main => put_last(code, place, true),
+        Header::Sub(_, _) | Header::Func(_, _, _) => put_last(code, place, false),
+    }
+}
+
+fn put_last(code: &mut List<Stmt>, place: Place, main: bool) -> Result<(), AllocError>
+    ensures { OnOk result (lines_of code.new.items ≡ lines_of code.old.items ++ end_unless main (ends_so false (lines_of code.old.items)) place) }
 {
     if ends_so(code) {
         return Ok(());
     }
+    let kind = if main {
+        StmtKind::Stop(None)
+    } else {
+        StmtKind::Return
+    };
     code.push(Stmt {
         label: None,
         place,
-        kind: StmtKind::Stop(None),
+        kind,
     })?;
     Ok(())
 }

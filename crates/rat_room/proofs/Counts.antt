@@ -4,17 +4,18 @@ use Rattle.std.proofs.lemmas.List.{length-map}
 use Rattle.std.specs.List.{flat_map}
 use Rattle.std.specs.Prelude.{◌||◌, if◌then◌else◌}
 use Rattle.ground.specs.declared.place.Place.{Place}
-use Rattle.f66_tree.specs.Syntax.{Text, Formula, Ref, Item, Group, Plus, Minus, Not, Pair, Formulas, NoFormula, AndFormula, Par, Constant, Named, Declared, Entry, One, Many, Entries, NoEntry, AndEntry, Act, Assign, Computed, Sign, When, Loop, Read, Write, Typed, Dimension}
+use Rattle.f66_tree.specs.Syntax.{Header, MainUnit, SubUnit, FuncUnit, DataUnit, Text, Formula, Ref, Item, Group, Plus, Minus, Not, Pair, Formulas, NoFormula, AndFormula, Par, Constant, Named, Declared, Area, PresetPart, Entry, One, Many, Entries, NoEntry, AndEntry, Act, Assign, Computed, Sign, When, Loop, Invoke, Read, Write, Typed, Dimension, Common, Equivalence, Preset}
 use Rattle.f66_names.specs.Uses.{Usage, uses_of, uses_of_all, uses_of_target, uses_of_par, uses_of_counting, uses_of_entry, uses_of_entries, uses_of_sizes, uses_in}
 use Rattle.f66_names.specs.Declaring.{declared_in}
+use Rattle.unit_rules.specs.Listed.{uses_of_listed}
 use Rattle.rat_tree.specs.Syntax.{Command, Empty, Block, If, IfElse, While, For, Repeat, RepeatUntil, Do, Switch, Break, Next, Return, Plain, Labelled, Commands, NoCommand, AndCommand, Clauses, NoClause, AndClause}
-use Rattle.rat_check.specs.Parts.{Form, Statement, Condition, Selector, CaseList, ForHead, DoHead, Labels, Part, part, with_mark, with_labels, no_label, parts_of, parts_in, clause_parts, unit_parts}
-use Rattle.rat_check.specs.Said.{said_by, said_in, said_if_any, condition_if_any, value_acts}
+use Rattle.rat_check.specs.Parts.{Form, Statement, Condition, Selector, CaseList, ForHead, DoHead, ReturnHead, Labels, Part, part, with_mark, with_labels, no_label, parts_of, parts_in, clause_parts, unit_parts}
+use Rattle.rat_check.specs.Said.{said_by, said_in, returned_act, said_if_any, condition_if_any, value_acts}
 use Rattle.rat_check.specs.Survey.{is_among, adding_if, own_labels}
 use Rattle.rat_lower.specs.Code.{labels, all_labels, clause_labels}
-use Rattle.rat_lower.specs.Emitted.{named_in, names_of}
+use Rattle.rat_lower.specs.Emitted.{names_used, further_names, named_in, names_of}
 use Rattle.rat_lower.specs.Lowered.{label_count}
-use Rattle.rat_room.proofs.Weights.{total, if_any, one, of_formula, of_formulas, of_par, of_counting, of_entry, of_entries, of_declared, of_act, of_command, of_commands, of_clauses}
+use Rattle.rat_room.proofs.Weights.{total, if_any, one, of_formula, of_formulas, of_par, of_counting, of_entry, of_entries, of_declared, of_area, of_preset, of_act, of_command, of_commands, of_clauses}
 
 -- ---- lists ----
 
@@ -87,7 +88,31 @@ declareds_use : (ds : List Declared) → length ds + length (uses_of_sizes ds) �
 declareds_use [] = refl
 declareds_use (d ∷ ds) = omega (arith, length-append (flat_map uses_of_par d.sizes) (uses_of_sizes ds), pars_use d.sizes, declareds_use ds)
 
-act_uses : (a : Act) → length (declared_in a) + length (uses_in a) ≤ of_act a
+-- names that are listed in common blocks
+listed_length : (d : Declared) → length (names_used (uses_of_listed d)) ≤ of_declared d
+listed_length d = omega (arith, length-map (flat_map uses_of_par d.sizes) (λ (u : Usage). u.name), pars_use d.sizes)
+
+area_length : (a : Area) → length (flat_map (λ d. names_used (uses_of_listed d)) a.list) ≤ of_area a
+area_length a = omega (arith, length_flat_map (λ (d : Declared). names_used (uses_of_listed d)) a.list, total_more (λ d. length (names_used (uses_of_listed d))) of_declared a.list listed_length)
+
+-- places
+place_length : (e : Formula) → length (names_used (uses_of_target e)) ≤ of_formula e
+place_length e = omega (arith, length-map (uses_of_target e) (λ (u : Usage). u.name), target_uses e)
+
+places_length : (es : List Formula) → length (flat_map (λ e. names_used (uses_of_target e)) es) ≤ total of_formula es
+places_length es = omega (arith, length_flat_map (λ (e : Formula). names_used (uses_of_target e)) es, total_more (λ e. length (names_used (uses_of_target e))) of_formula es place_length)
+
+preset_length : (p : PresetPart) → length (flat_map (λ e. names_used (uses_of_target e)) p.places) ≤ of_preset p
+preset_length p = places_length p.places
+
+act_uses : (a : Act) → length (declared_in a) + length (uses_in a) + length (further_names a) ≤ of_act a
+act_uses (Invoke x es) = omega (arith, length-map (uses_of_all es) (λ (u : Usage). u.name), formulas_use es)
+act_uses (Common areas) =
+    omega (arith, length_flat_map (λ (a : Area). flat_map (λ d. names_used (uses_of_listed d)) a.list) areas, total_more (λ (a : Area). length (flat_map (λ d. names_used (uses_of_listed d)) a.list)) of_area areas area_length)
+act_uses (Equivalence groups) =
+    omega (arith, length_flat_map (λ (g : List Formula). flat_map (λ e. names_used (uses_of_target e)) g) groups, total_more (λ (g : List Formula). length (flat_map (λ e. names_used (uses_of_target e)) g)) (total of_formula) groups places_length)
+act_uses (Preset parts) =
+    omega (arith, length_flat_map (λ (p : PresetPart). flat_map (λ e. names_used (uses_of_target e)) p.places) parts, total_more (λ (p : PresetPart). length (flat_map (λ e. names_used (uses_of_target e)) p.places)) of_preset parts preset_length)
 act_uses (Assign x e) = omega (arith, length-append (uses_of_target x) (uses_of e), target_uses x, formula_uses e)
 act_uses (Computed ls x) = omega arith
 act_uses (Sign e l m k) = omega (arith, formula_uses e)
@@ -101,7 +126,14 @@ act_uses _ = omega arith
 
 act_names : (a : Act) → length (named_in a) ≤ of_act a
 act_names a =
-    omega (arith, length-append (map (λ d. d.name) (declared_in a)) (map (λ u. u.name) (uses_in a)), length-map (declared_in a) (λ (d : Declared). d.name), length-map (uses_in a) (λ (u : Usage). u.name), act_uses a)
+    omega (
+      arith,
+      length-append (map (λ d. d.name) (declared_in a)) (names_used (uses_in a) ++ further_names a),
+      length-append (names_used (uses_in a)) (further_names a),
+      length-map (declared_in a) (λ (d : Declared). d.name),
+      length-map (uses_in a) (λ (u : Usage). u.name),
+      act_uses a,
+    )
 
 -- ---- names in a part ----
 
@@ -112,6 +144,7 @@ of_form (Selector e) = of_formula e
 of_form (CaseList es second) = of_formulas es
 of_form (ForHead a e b) = if_any of_act a + (if_any of_formula e + if_any of_act b)
 of_form (DoHead x a b c) = of_counting a b c
+of_form (ReturnHead e) = 1 + if_any of_formula e
 of_form _ = 0
 
 values_weigh : (es : Formulas) → total of_act (value_acts es) ≡ of_formulas es
@@ -126,19 +159,27 @@ condition_if_any_weighs : (e : Option Formula) → total of_act (condition_if_an
 condition_if_any_weighs None = refl
 condition_if_any_weighs (Some e) = omega arith
 
-form_weighs : (f : Form) → total of_act (said_by f) ≤ of_form f
-form_weighs (Statement a) = omega arith
-form_weighs (Condition e) = omega arith
-form_weighs (Selector e) = omega arith
-form_weighs (CaseList es second) = omega (arith, values_weigh es)
-form_weighs (ForHead a e b) =
-    omega (arith, total_append of_act (said_if_any a) (condition_if_any e ++ said_if_any b), total_append of_act (condition_if_any e) (said_if_any b), act_if_any_weighs a, condition_if_any_weighs e, act_if_any_weighs b)
-form_weighs (DoHead x a b c) = omega arith
-form_weighs _ = omega arith
+returned_weighs : (h : Header) (e : Formula) → of_act (returned_act h e) ≤ 1 + of_formula e
+returned_weighs MainUnit e = omega arith
+returned_weighs (SubUnit x ds) e = omega arith
+returned_weighs (FuncUnit t x ds) e = omega arith
+returned_weighs DataUnit e = omega arith
 
-said_weighs : (vs : List Part) → total of_act (said_in vs) ≤ total (λ v. of_form v.form) vs
-said_weighs [] = omega arith
-said_weighs (v ∷ vs) = omega (arith, total_append of_act (said_by v.form) (said_in vs), form_weighs v.form, said_weighs vs)
+form_weighs : (h : Header) (f : Form) → total of_act (said_by h f) ≤ of_form f
+form_weighs h (Statement a) = omega arith
+form_weighs h (Condition e) = omega arith
+form_weighs h (Selector e) = omega arith
+form_weighs h (CaseList es second) = omega (arith, values_weigh es)
+form_weighs h (ForHead a e b) =
+    omega (arith, total_append of_act (said_if_any a) (condition_if_any e ++ said_if_any b), total_append of_act (condition_if_any e) (said_if_any b), act_if_any_weighs a, condition_if_any_weighs e, act_if_any_weighs b)
+form_weighs h (DoHead x a b c) = omega arith
+form_weighs h (ReturnHead None) = omega arith
+form_weighs h (ReturnHead (Some e)) = omega (arith, returned_weighs h e)
+form_weighs h _ = omega arith
+
+said_weighs : (h : Header) (vs : List Part) → total of_act (said_in h vs) ≤ total (λ v. of_form v.form) vs
+said_weighs h [] = omega arith
+said_weighs h (v ∷ vs) = omega (arith, total_append of_act (said_by h v.form) (said_in h vs), form_weighs h v.form, said_weighs h vs)
 
 -- ---- labels of parts ----
 
@@ -196,7 +237,7 @@ mutual
 
 -- ---- units ----
 
-pub unit_weighs : (ss : Commands) → label_count ss + length (names_of ss) ≤ of_commands ss
-unit_weighs ss =
+pub unit_weighs : (h : Header) (ss : Commands) → label_count ss + length (names_of h ss) ≤ of_commands ss
+unit_weighs h ss =
     let vs : List Part = unit_parts ss in
-    omega (arith, own_labels_length vs [], length_flat_map named_in (said_in vs), total_more (λ a. length (named_in a)) of_act (said_in vs) act_names, said_weighs vs, both_weigh vs, commands_weigh 0 (with_labels ss no_label) ss)
+    omega (arith, own_labels_length vs [], length_flat_map named_in (said_in h vs), total_more (λ a. length (named_in a)) of_act (said_in h vs) act_names, said_weighs h vs, both_weigh vs, commands_weigh 0 (with_labels ss no_label) ss)

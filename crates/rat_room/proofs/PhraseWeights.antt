@@ -3,16 +3,17 @@ use Rattle.std.proofs.Common.{◌≡◌, ◌≤◌, ℕ, ◌+◌, arith, Bool, t
 use Rattle.std.specs.Prelude.{if◌then◌else◌, codes}
 use Rattle.ground.specs.declared.place.Place.{Place}
 use Rattle.f66_tree.specs.declared.expression.Operator.{Operator}
-use Rattle.f66_tree.specs.Syntax.{Text, Formula, Pair, Plus, Minus, Par, Entries, Read, Write}
+use Rattle.f66_tree.specs.declared.declaration.TypeWord.{TypeWord}
+use Rattle.f66_tree.specs.Syntax.{Text, Header, FuncUnit, Formula, Pair, Plus, Minus, Par, Entries, Read, Write}
 use Rattle.rat_tree.specs.Syntax.{Command, Next, Break, Plain, Labelled, Commands}
 use Rattle.rat_parse_values.specs.Kinds as part
 use Rattle.rat_parse_values.specs.Values.{Val}
 use Rattle.rat_parse_values.specs.Values as val
-use Rattle.rat_parse_values.specs.Parts.{is_word, is_minus, sign_in, with_entry}
+use Rattle.rat_parse_values.specs.Parts.{is_word, is_minus, sign_in, type_word, with_entry}
 use Rattle.rat_parse_expressions.specs.Phrases.{joined, signed, applied, applied_if, looped, lengthened, pended, begun}
 use Rattle.rat_parse_plain.specs.Plain.{counted, transfer}
-use Rattle.rat_parse_control.specs.Statements.{conditional, repetition, with_own_label, labelled_value, left, declares, typed_unit}
-use Rattle.rat_room.proofs.Weights.{total, if_any, of_formula, of_par, of_entries, of_act, of_command, of_commands, weight}
+use Rattle.rat_parse_control.specs.Statements.{conditional, repetition, with_own_label, labelled_value, left, declares, typed, typed_unit}
+use Rattle.rat_room.proofs.Weights.{total, if_any, of_formula, of_par, of_entries, of_act, of_command, of_commands, of_header, weight}
 use Rattle.rat_room.proofs.PartWeights.{chained_weighs, listed_weighs, with_entry_weighs, declareds_weigh}
 
 -- ---- expressions ----
@@ -96,6 +97,11 @@ left_weighs v p n = chosen_leaving (is_word (codes "NEXT") v) p n
 pub declares_weighs : (w v : Val) → of_command (declares w v) ≤ weight v
 declares_weighs w v = omega (arith, declareds_weigh v)
 
-pub typed_unit_weighs : (w v : Val) (ss : Commands) → of_commands (typed_unit w v ss).body ≤ weight v + of_commands ss
-typed_unit_weighs w (val.unit (part.heading p h)) ss = omega arith
+-- a type adds no name
+typed_names : (t : TypeWord) (h : Header) → of_header (typed t h) ≡ of_header h
+typed_names t (FuncUnit o x xs) = refl
+typed_names t _ = refl
+
+pub typed_unit_weighs : (w v : Val) (ss : Commands) → of_header (typed_unit w v ss).header + of_commands (typed_unit w v ss).body ≤ weight v + of_commands ss
+typed_unit_weighs w (val.unit (part.heading p h)) ss = omega (arith, typed_names (type_word w) h)
 typed_unit_weighs w v ss = omega (arith, declareds_weigh v)

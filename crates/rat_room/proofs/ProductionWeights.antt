@@ -1,5 +1,5 @@
 -- What each production of Ratfor makes of its parts weighs no more than they do, with three for each of its terminals.
-use Rattle.std.proofs.Common.{◌≡◌, ◌≤◌, ℕ, zero, suc, ◌+◌, arith, List, [], ◌∷◌, Option, Some, None, refl}
+use Rattle.std.proofs.Common.{◌≤◌, ℕ, ◌+◌, arith, true, false, List, ◌∷◌, Option, Some, None, refl}
 use Rattle.ground.specs.declared.token.Token.{Token}
 use Rattle.grammar.specs.declared.language.Symbol.{Symbol}
 use Rattle.grammar.specs.declared.language.Symbol.TheVariants.{Terminal, Nonterminal}
@@ -12,9 +12,9 @@ use Rattle.rat_parse_table.specs.Table.{symbols, nonterminal_of}
 use Rattle.rat_parse_values.specs.Kinds as part
 use Rattle.rat_parse_values.specs.Values.{Val, last_of, others, at, tok}
 use Rattle.rat_parse_values.specs.Values as val
-use Rattle.rat_parse_values.specs.Parts.{place_in, name_in, number_in, count_or_one, integer_in, as_exprs, as_joins, as_declareds, as_entries, as_statements, as_clauses, as_formula, as_par, as_command}
-use Rattle.f66_tree.specs.Syntax.{Text, Formula, Int}
-use Rattle.f66_tree.specs.Views.{listed}
+use Rattle.rat_parse_values.specs.Parts.{place_in, name_in, number_in, count_or_one, integer_in, as_exprs, as_joins, as_declareds, as_areas, as_presets, as_entries, as_statements, as_clauses, as_formula, as_par, as_command}
+use Rattle.f66_tree.specs.Syntax.{Text, Formula, Int, NoFormula}
+use Rattle.f66_tree.specs.Views.{chained, listed}
 use Rattle.rat_parse_expressions.specs.Phrases as operators
 use Rattle.rat_parse_plain.specs.Plain.{counted}
 use Rattle.rat_parse_control.specs.Statements.{labelled_value}
@@ -22,6 +22,8 @@ use Rattle.rat_parse.specs.Build.{build}
 use Rattle.rat_parse.specs.Ratfor.{grammar}
 use Rattle.rat_room.proofs.Weights.{total, of_formula, weight}
 use Rattle.rat_room.proofs.TreeWeights.{Each, Pays}
+use Rattle.rat_room.proofs.NineParts.{WeighNine, part_at}
+use Rattle.rat_room.proofs.NineParts.{nine as parts_nine}
 use Rattle.rat_room.proofs.PartWeights as parts
 use Rattle.rat_room.proofs.PartWeights.{IsEven}
 use Rattle.rat_room.proofs.PhraseWeights as made
@@ -33,29 +35,11 @@ credit (Nonterminal nonterminals.AnyName) = 3
 credit (Nonterminal nonterminals.AnyNumber) = 3
 credit (Nonterminal _) = 0
 
-first_weighs : (vs : List Val) → weight (last_of vs) + total weight (others vs) ≡ total weight vs
-first_weighs [] = refl
-first_weighs (v ∷ vs) = refl
-
--- no production has more than nine parts
-nine : (vs : List Val) →
-    weight (at 0 vs) + (weight (at 1 vs) + (weight (at 2 vs) + (weight (at 3 vs) + (weight (at 4 vs) + (weight (at 5 vs) + (weight (at 6 vs) + (weight (at 7 vs) + weight (at 8 vs)))))))) ≤ total weight vs
-nine vs =
-    let a : List Val = others vs in
-    let b : List Val = others a in
-    let c : List Val = others b in
-    let d : List Val = others c in
-    let e : List Val = others d in
-    let f : List Val = others e in
-    let g : List Val = others f in
-    let h : List Val = others g in
-    omega (arith, first_weighs vs, first_weighs a, first_weighs b, first_weighs c, first_weighs d, first_weighs e, first_weighs f, first_weighs g, first_weighs h)
+nine : (vs : List Val) → WeighNine weight vs
+nine vs = parts_nine weight refl vs
 
 even_at : (n : ℕ) (vs : List Val) → Each IsEven vs → IsEven (at n vs)
-even_at zero [] e = tt
-even_at zero (v ∷ vs) e = e.0
-even_at (suc n) [] e = even_at n [] tt
-even_at (suc n) (v ∷ vs) e = even_at n vs e.1
+even_at n vs e = part_at IsEven tt n vs e
 
 -- operands with the operators behind the first
 joined : (vs : List Val) → of_formula (operators.joined (as_formula (at 1 vs)) (as_joins (at 0 vs))) ≤ weight (at 1 vs) + weight (at 0 vs)
@@ -63,11 +47,16 @@ joined vs = omega (arith, made.joined_weighs (as_formula (at 1 vs)) (as_joins (a
 
 weighs : (p : Production) (vs : List Val) → Each IsEven vs →
     weight (build p vs) + credit (Nonterminal (nonterminal_of p)) ≤ total weight vs + total credit (symbols p)
-weighs productions.HeadedUnit vs e = omega (arith, nine vs, parts.statements_weigh (at 0 vs))
+weighs productions.HeadedUnit vs e = omega (arith, nine vs, parts.header_weighs (at 2 vs), parts.statements_weigh (at 0 vs))
 weighs productions.TypedUnit vs e = omega (arith, nine vs, made.typed_unit_weighs (at 3 vs) (at 2 vs) (as_statements (at 0 vs)), parts.statements_weigh (at 0 vs))
 weighs productions.MarkedMain vs e =
     omega (arith, nine vs, made.labelled_weighs (number_in (at 2 vs)) (at 1 vs), parts.command_weighs (labelled_value (number_in (at 2 vs)) (at 1 vs)), parts.statements_weigh (at 0 vs))
 weighs productions.PlainMain vs e = omega (arith, nine vs, parts.command_weighs (at 1 vs), parts.statements_weigh (at 0 vs))
+weighs productions.SubroutineHeader vs e = omega (arith, nine vs, parts.names_weigh (at 0 vs))
+weighs productions.FunctionHeader vs e = omega (arith, nine vs, parts.names_weigh (at 0 vs))
+weighs productions.TypedFunction vs e = omega (arith, nine vs, parts.names_weigh (at 0 vs))
+weighs productions.FormalList vs e = omega (arith, nine vs, parts.names_weigh (at 1 vs))
+weighs productions.MoreFormal vs e = omega (arith, nine vs, parts.names_weigh (at 0 vs))
 weighs productions.BodyMore vs e = omega (arith, nine vs, parts.command_weighs (at 1 vs), parts.statements_weigh (at 0 vs))
 weighs productions.StatementsMore vs e = omega (arith, nine vs, parts.command_weighs (at 1 vs), parts.statements_weigh (at 0 vs))
 weighs productions.Marked vs e = omega (arith, nine vs, made.labelled_weighs (number_in (at 1 vs)) (at 0 vs))
@@ -82,6 +71,7 @@ weighs productions.RepeatStatement vs e = omega (arith, nine vs, parts.command_w
 weighs productions.DoStatement vs e = omega (arith, nine vs, parts.range_weighs (at 1 vs), parts.command_weighs (at 0 vs))
 weighs productions.SwitchStatement vs e = omega (arith, nine vs, parts.formula_weighs (at 5 vs), parts.clauses_weigh (at 1 vs))
 weighs productions.LeaveStatement vs e = omega (arith, nine vs, made.left_weighs (at 2 vs) (place_in (at 2 vs)) (count_or_one (at 1 vs)))
+weighs productions.ReturnStatement vs e = omega (arith, nine vs, parts.formula_if_any_weighs (at 1 vs))
 weighs productions.PlainStatement vs e = omega (arith, nine vs, parts.act_weighs (at 1 vs))
 weighs productions.UntilTest vs e = omega (arith, nine vs, parts.formula_weighs (at 1 vs))
 weighs productions.MoreClauses vs e = omega (arith, nine vs, parts.clauses_weigh (at 0 vs), parts.with_clause_weighs (at 1 vs) (as_clauses (at 0 vs)) (even_at 1 vs e))
@@ -92,6 +82,10 @@ weighs productions.GoPlain vs e = omega (arith, nine vs, parts.act_weighs (at 0 
 weighs productions.TransferPlain vs e =
     omega (arith, nine vs, made.transfer_weighs (at 6 vs) (as_par (at 4 vs)) (number_in (at 2 vs)) (listed (as_entries (at 0 vs))), parts.par_weighs (at 4 vs), parts.listed_weighs (as_entries (at 0 vs)), parts.entries_weigh (at 0 vs))
 weighs productions.DimensionPlain vs e = omega (arith, nine vs, parts.declareds_weigh (at 0 vs))
+weighs productions.CommonPlain vs e = omega (arith, nine vs, parts.with_area_weighs (at 1 vs) (as_areas (at 0 vs)), parts.areas_weigh (at 0 vs))
+weighs productions.EquivalencePlain vs e = omega (arith, nine vs, parts.exprs_weigh (at 1 vs), parts.groups_weigh (at 0 vs))
+weighs productions.DataPlain vs e = omega (arith, nine vs, parts.with_preset_weighs (at 1 vs) (as_presets (at 0 vs)), parts.presets_weigh (at 0 vs))
+weighs productions.Invocation vs e = omega (arith, nine vs, parts.chained_weighs (as_exprs (at 0 vs)), parts.exprs_weigh (at 0 vs))
 weighs productions.Assignment vs e = omega (arith, nine vs, parts.formula_weighs (at 2 vs), parts.formula_weighs (at 0 vs))
 weighs productions.SomeActuals vs e = omega (arith, nine vs, parts.formula_weighs (at 2 vs), parts.exprs_weigh (at 1 vs))
 weighs productions.MoreActual vs e = omega (arith, nine vs, parts.formula_weighs (at 1 vs), parts.exprs_weigh (at 0 vs))
@@ -109,6 +103,12 @@ weighs productions.MoreDeclared vs e = omega (arith, nine vs, parts.with_declare
 weighs productions.Declared vs e = omega (arith, nine vs, parts.pars_weigh (at 0 vs))
 weighs productions.SomeSizes vs e = omega (arith, nine vs, parts.par_weighs (at 2 vs), parts.pars_weigh (at 1 vs))
 weighs productions.MorePar vs e = omega (arith, nine vs, parts.par_weighs (at 1 vs), parts.pars_weigh (at 0 vs))
+weighs productions.BlankFirst vs e = omega (arith, nine vs, parts.declareds_weigh (at 0 vs))
+weighs productions.Area vs e = omega (arith, nine vs, parts.declareds_weigh (at 0 vs))
+weighs productions.MoreArea vs e = omega (arith, nine vs, parts.with_area_weighs (at 1 vs) (as_areas (at 0 vs)), parts.areas_weigh (at 0 vs))
+weighs productions.MoreAlias vs e = omega (arith, nine vs, parts.exprs_weigh (at 1 vs), parts.groups_weigh (at 0 vs))
+weighs productions.Preset vs e = omega (arith, nine vs, parts.formula_weighs (at 5 vs), parts.exprs_weigh (at 4 vs))
+weighs productions.MorePreset vs e = omega (arith, nine vs, parts.with_preset_weighs (at 1 vs) (as_presets (at 0 vs)), parts.presets_weigh (at 0 vs))
 weighs productions.Alias vs e = omega (arith, nine vs, parts.formula_weighs (at 4 vs), parts.formula_weighs (at 2 vs), parts.exprs_weigh (at 1 vs))
 weighs productions.MoreRef vs e = omega (arith, nine vs, parts.formula_weighs (at 1 vs), parts.exprs_weigh (at 0 vs))
 weighs productions.NumberDatum vs e = omega (arith, nine vs, made.counted_weighs (at 1 vs) (at 0 vs))
@@ -161,9 +161,10 @@ counted_even : (n v : Val) → IsEven (counted n v)
 counted_even n (val.expression (part.formula f)) = tt
 counted_even n _ = tt
 
-keeps : (p : Production) (vs : List Val) → Each IsEven vs → IsEven (build p vs)
-keeps productions.CaseClause vs e = λ all. omega arith
-keeps productions.DefaultClause vs e = λ all. omega arith
+pub keeps : (p : Production) (vs : List Val) → Each IsEven vs → IsEven (build p vs)
+keeps productions.CaseClause vs e =
+    record { cases = chained (as_formula (at 3 vs) ∷ as_exprs (at 2 vs)); fallback = false; statements = as_statements (at 0 vs); place = place_in (at 4 vs); is = λ all. refl }
+keeps productions.DefaultClause vs e = record { cases = NoFormula; fallback = true; statements = as_statements (at 0 vs); place = place_in (at 2 vs); is = λ all. refl }
 keeps productions.Marked vs e = labelled_even (number_in (at 1 vs)) (at 0 vs) (even_at 0 vs e)
 keeps productions.TwoWords vs e = even_at 1 vs e
 keeps productions.Condition vs e = even_at 1 vs e

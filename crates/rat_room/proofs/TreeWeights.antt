@@ -1,5 +1,5 @@
 -- A tree weighs at most so much for each of its tokens, where each production's parts and its own terminals pay for what it makes.
-use Rattle.std.proofs.Common.{◌≡◌, ◌≤◌, ℕ, ◌+◌, ◌*◌, arith, List, [], ◌∷◌, sym, subst}
+use Rattle.std.proofs.Common.{◌≡◌, ◌≤◌, ℕ, ◌+◌, arith, List, [], ◌∷◌, refl, sym, subst}
 use Rattle.ground.specs.declared.token.Token.{Token}
 use Rattle.grammar.specs.declared.language.Symbol.{Symbol}
 use Rattle.grammar.specs.declared.language.Symbol.TheVariants.{Terminal, Nonterminal}
@@ -16,6 +16,35 @@ abbrev mutual
   tokens_all none = 0
   tokens_all (some c cs) = tokens c + tokens_all cs
 
+-- so much for each of them
+abbrev mutual
+  pub paid : {P : Type 0} → ℕ → Tree Token P → ℕ
+  paid rate (leaf t) = rate
+  paid rate (node p cs) = paid_all rate cs
+
+  pub paid_all : {P : Type 0} → ℕ → Trees Token P → ℕ
+  paid_all rate none = 0
+  paid_all rate (some c cs) = paid rate c + paid_all rate cs
+
+mutual
+  one_free : {P : Type 0} (c : Tree Token P) → paid 0 c ≡ 0
+  one_free (leaf t) = refl
+  one_free (node p cs) = all_free cs
+
+  pub all_free : {P : Type 0} (cs : Trees Token P) → paid_all 0 cs ≡ 0
+  all_free none = refl
+  all_free (some c cs) = omega (arith, one_free c, all_free cs)
+
+-- a rate that is higher by one
+mutual
+  one_more : {P : Type 0} (rate : ℕ) (c : Tree Token P) → paid (rate + 1) c ≡ paid rate c + tokens c
+  one_more rate (leaf t) = refl
+  one_more rate (node p cs) = all_more rate cs
+
+  pub all_more : {P : Type 0} (rate : ℕ) (cs : Trees Token P) → paid_all (rate + 1) cs ≡ paid_all rate cs + tokens_all cs
+  all_more rate none = refl
+  all_more rate (some c cs) = omega (arith, one_more rate c, all_more rate cs)
+
 abbrev pub Each : {A : Type 0} → (A → Type 0) → List A → Type 0
 Each Q [] = Unit {0}
 Each Q (x ∷ xs) = Q x × Each Q xs
@@ -31,40 +60,41 @@ module _ {T N P V : Type 0} (g : Grammar Token T N P V) (weight : V → ℕ) (cr
     pub weighs : weight (g.build p vs) + credit (Nonterminal (g.nonterminal_of p)) ≤ total weight vs + total credit (g.symbols p)
     pub keeps : Q (g.build p vs)
 
+module _ {T N P V : Type 0} (g : Grammar Token T N P V) (rate : ℕ) (weight : V → ℕ) (credit : Symbol T N → ℕ) (Q : V → Type 0) where
   pub record Balance (c : Tree Token P) (x : Symbol T N) : Type 0 where
-    pub weighs : weight (value_of g c) + credit x ≤ 3 * tokens c
+    pub weighs : weight (value_of g c) + credit x ≤ paid rate c
     pub keeps : Q (value_of g c)
 
   pub record BalanceAll (cs : Trees Token P) (earlier : List V) (xs : List (Symbol T N)) : Type 0 where
-    pub weighs : total weight (values_of g cs earlier) + total credit xs ≤ 3 * tokens_all cs + total weight earlier
+    pub weighs : total weight (values_of g cs earlier) + total credit xs ≤ paid_all rate cs + total weight earlier
     pub keeps : Each Q (values_of g cs earlier)
 
-module _ {T N P V : Type 0} (g : Grammar Token T N P V) (weight : V → ℕ) (credit : Symbol T N → ℕ) (Q : V → Type 0)
-    (token : (t : Token) → (weight (g.value t) + credit (Terminal (g.terminal_of t)) ≤ 3) × Q (g.value t))
+module _ {T N P V : Type 0} (g : Grammar Token T N P V) (rate : ℕ) (weight : V → ℕ) (credit : Symbol T N → ℕ) (Q : V → Type 0)
+    (token : (t : Token) → (weight (g.value t) + credit (Terminal (g.terminal_of t)) ≤ rate) × Q (g.value t))
     (pays : (p : P) (vs : List V) → Each Q vs → Pays g weight credit Q p vs) where
-  pub node_balance : (p : P) (cs : Trees Token P) → BalanceAll g weight credit Q cs [] (g.symbols p) → Balance g weight credit Q (node p cs) (Nonterminal (g.nonterminal_of p))
+  pub node_balance : (p : P) (cs : Trees Token P) → BalanceAll g rate weight credit Q cs [] (g.symbols p) → Balance g rate weight credit Q (node p cs) (Nonterminal (g.nonterminal_of p))
   node_balance p cs all =
       let made = pays p (values_of g cs []) all.keeps in
       record { weighs = omega (arith, made.weighs, all.weighs); keeps = made.keeps }
 
   more_balance : (c : Tree Token P) (cs : Trees Token P) (earlier : List V) (x : Symbol T N) (xs : List (Symbol T N)) →
-      Balance g weight credit Q c x → BalanceAll g weight credit Q cs (value_of g c ∷ earlier) xs → BalanceAll g weight credit Q (some c cs) earlier (x ∷ xs)
+      Balance g rate weight credit Q c x → BalanceAll g rate weight credit Q cs (value_of g c ∷ earlier) xs → BalanceAll g rate weight credit Q (some c cs) earlier (x ∷ xs)
   more_balance c cs earlier x xs here all = record { weighs = omega (arith, here.weighs, all.weighs); keeps = all.keeps }
 
   mutual
-    pub balance : (c : Tree Token P) (x : Symbol T N) (ts rest : List Token) → Derives g c x ts rest → Balance g weight credit Q c x
+    pub balance : (c : Tree Token P) (x : Symbol T N) (ts rest : List Token) → Derives g c x ts rest → Balance g rate weight credit Q c x
     balance (leaf t) x ts rest h =
-        subst (λ y. Balance g weight credit Q (leaf t) y) (sym h.0) (record { weighs = (token t).0; keeps = (token t).1 })
+        subst (λ y. Balance g rate weight credit Q (leaf t) y) (sym h.0) (record { weighs = (token t).0; keeps = (token t).1 })
     balance (node p cs) x ts rest h =
-        subst (λ y. Balance g weight credit Q (node p cs) y) (sym h.1)
-        (subst (λ n. Balance g weight credit Q (node p cs) (Nonterminal n)) (offered_by g h.0 p ts h.2)
+        subst (λ y. Balance g rate weight credit Q (node p cs) y) (sym h.1)
+        (subst (λ n. Balance g rate weight credit Q (node p cs) (Nonterminal n)) (offered_by g h.0 p ts h.2)
         (node_balance p cs (balance_all cs [] (g.symbols p) ts rest h.3 tt)))
 
     pub balance_all : (cs : Trees Token P) (earlier : List V) (xs : List (Symbol T N)) (ts rest : List Token) → DerivesAll g cs xs ts rest → Each Q earlier →
-        BalanceAll g weight credit Q cs earlier xs
+        BalanceAll g rate weight credit Q cs earlier xs
     balance_all none earlier xs ts rest h kept =
-        subst (λ ys. BalanceAll g weight credit Q none earlier ys) (sym h.0) (record { weighs = omega arith; keeps = kept })
+        subst (λ ys. BalanceAll g rate weight credit Q none earlier ys) (sym h.0) (record { weighs = omega arith; keeps = kept })
     balance_all (some c cs) earlier xs ts rest h kept =
         let here = balance c h.0 ts h.2 h.4 in
-        subst (λ ys. BalanceAll g weight credit Q (some c cs) earlier ys) (sym h.3)
+        subst (λ ys. BalanceAll g rate weight credit Q (some c cs) earlier ys) (sym h.3)
         (more_balance c cs earlier h.0 h.1 here (balance_all cs (value_of g c ∷ earlier) h.1 h.2 rest h.5 (here.keeps, kept)))

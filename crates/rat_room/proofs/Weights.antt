@@ -1,12 +1,13 @@
 -- How many labels and names the parts of a text give at most: the labels that are made for a statement and those that stand
--- before one, and the names that its parts declare or use, each once more for each place where it stands.
-use Rattle.std.specs.Prelude.{ℕ, ◌+◌, List, [], ◌∷◌, Option, Some, None}
-use Rattle.f66_tree.specs.Syntax.{Formula, Ref, Item, Group, Plus, Minus, Not, Pair, Formulas, NoFormula, AndFormula, Par, Constant, Named, Declared, Entry, One, Many, Entries, NoEntry, AndEntry, Act, Assign, Computed, Sign, When, Loop, Read, Write, Typed, Dimension}
+-- before one, and the names that its parts declare, use, call or list, each once more for each place where it stands.
+use Rattle.std.specs.Prelude.{ℕ, ◌+◌, List, [], ◌∷◌, length, Option, Some, None}
+use Rattle.f66_tree.specs.Syntax.{Header, Formula, Ref, Item, Group, Plus, Minus, Not, Pair, Formulas, NoFormula, AndFormula, Par, Constant, Named, Declared, Area, PresetPart, Entry, One, Many, Entries, NoEntry, AndEntry, Act, Assign, Computed, Sign, When, Loop, Invoke, Read, Write, Typed, Dimension, Common, Equivalence, Preset}
 use Rattle.rat_tree.specs.Syntax.{Command, Empty, Block, If, IfElse, While, For, Repeat, RepeatUntil, Do, Switch, Break, Next, Return, Plain, Labelled, Commands, NoCommand, AndCommand, Clauses, NoClause, AndClause}
 use Rattle.rat_parse_values.specs.Kinds.{Range, LoopRest, ExpressionVal, ParameterVal, TransferVal, DeclarationVal, StatementVal, UnitVal}
 use Rattle.rat_parse_values.specs.Kinds as part
 use Rattle.rat_parse_values.specs.Values.{Val}
 use Rattle.rat_parse_values.specs.Values as val
+use Rattle.rat_lower.specs.Emitted.{header_names}
 
 abbrev pub total : {A : Type 0} → (A → ℕ) → List A → ℕ
 total f [] = 0
@@ -53,6 +54,13 @@ abbrev mutual
 abbrev pub of_declared : Declared → ℕ
 of_declared d = 1 + total of_par d.sizes
 
+-- the names in common blocks, and the places that DATA gives values
+abbrev pub of_area : Area → ℕ
+of_area a = total of_declared a.list
+
+abbrev pub of_preset : PresetPart → ℕ
+of_preset p = total of_formula p.places
+
 abbrev pub of_act : Act → ℕ
 of_act (Assign x e) = of_formula x + of_formula e
 of_act (Computed ls x) = 1
@@ -63,6 +71,10 @@ of_act (Read u l es) = of_par u + of_entries es
 of_act (Write u l es) = of_par u + of_entries es
 of_act (Typed t ds) = total of_declared ds
 of_act (Dimension ds) = total of_declared ds
+of_act (Invoke x es) = 1 + of_formulas es
+of_act (Common areas) = total of_area areas
+of_act (Equivalence groups) = total (total of_formula) groups
+of_act (Preset parts) = total of_preset parts
 of_act _ = 0
 
 -- ---- commands ----
@@ -85,7 +97,7 @@ abbrev mutual
   of_command (Switch p e cs) = 1 + (of_formula e + of_clauses cs)
   of_command (Break p n) = 0
   of_command (Next p n) = 0
-  of_command (Return p e) = 0
+  of_command (Return p e) = 1 + if_any of_formula e
   of_command (Plain l p a) = if_any one l + of_act a
   of_command (Labelled l p c) = 1 + of_command c
 
@@ -115,11 +127,17 @@ abbrev pub of_parameter : ParameterVal → ℕ
 of_parameter (part.par p) = of_par p
 of_parameter (part.pars ps) = total of_par ps
 of_parameter (part.range r) = of_range r
+of_parameter (part.names xs) = length xs
 of_parameter _ = 0
 
 abbrev pub of_declaration : DeclarationVal → ℕ
 of_declaration (part.declared d) = of_declared d
 of_declaration (part.declareds ds) = total of_declared ds
+of_declaration (part.area a) = of_area a
+of_declaration (part.areas all) = total of_area all
+of_declaration (part.groups all) = total (total of_formula) all
+of_declaration (part.preset p) = of_preset p
+of_declaration (part.presets all) = total of_preset all
 of_declaration _ = 0
 
 abbrev pub of_transfer : TransferVal → ℕ
@@ -136,9 +154,13 @@ of_statement (part.commands ss) = of_commands ss
 of_statement (part.clause d) = of_clauses (d NoClause)
 of_statement (part.clauses cs) = of_clauses cs
 
+abbrev pub of_header : Header → ℕ
+of_header h = length (header_names h)
+
 -- what stands around a unit is not counted
 abbrev pub of_unit : UnitVal → ℕ
-of_unit (part.routine u) = of_commands u.body
+of_unit (part.heading p h) = of_header h
+of_unit (part.routine u) = of_header u.header + of_commands u.body
 of_unit _ = 0
 
 abbrev pub weight : Val → ℕ

@@ -11,7 +11,7 @@ use Rattle.f66_tree.specs.OneUnit.{list_number, one_unit}
 use Rattle.f66_tree.proofs.ListNumbers.{numbers_differ}
 use Rattle.f66_soundness.proofs.KindLemmas.{no_some, some_same}
 use Rattle.f66_check.specs.Answers.{IsSoundUnit}
-use Rattle.f66_check.proofs.SoundLemmas.{main_only}
+use Rattle.f66_check.proofs.BuiltLemmas.{main_only}
 use Rattle.f66_program.specs.Mentions.{context_of}
 use Rattle.f66_program.specs.Association.{Row, Own, IsSame, by_tie, itself, back, onward, Filled, act_ties, act_filled, line_ties, not_filled, ties_of, IsReal}
 use Rattle.f66_program.specs.Calls.{unit_named}

@@ -1,5 +1,5 @@
 -- A sound unit is ready: its rules of names say what its COMMON and EQUIVALENCE list, and those of arrays how many places there are.
-use Rattle.std.proofs.Common.{◌≡◌, ◌<◌, ◌≤◌, ℕ, suc, Bool, true, false, true≢false, Some, None, length, get_or, refl, subst, arith}
+use Rattle.std.proofs.Common.{◌≡◌, ◌<◌, ◌≤◌, ℕ, suc, Bool, true, false, true≢false, Some, None, List, length, get_or, refl, subst, arith}
 use Rattle.std.specs.Prelude.{is_some, ◌||◌, if◌then◌else◌}
 use Rattle.std.specs.Option.{option_or}
 use Rattle.std.specs.List.{list_any, flat_map}
@@ -11,7 +11,7 @@ use Rattle.rule_table.specs.declared.rule.Rule.{Rule}
 use Rattle.rule_table.specs.declared.rule.Rule.TheVariants.{TypeClash, DuplicateName, LargeArray}
 use Rattle.rule_table.specs.Words.{is_some_and}
 use Rattle.f66_tree.specs.Syntax.{Text, Formula, Ref, Item, Header, MainUnit, SubUnit, FuncUnit, DataUnit, Act, Common, Equivalence, Line, Routine}
-use Rattle.f66_tree.specs.Units.{sizes_of, places_of}
+use Rattle.f66_tree.specs.Units.{Context, sizes_of, places_of}
 use Rattle.f66_tree.specs.Evaluation.{array_or, sort_of}
 use Rattle.f66_names.specs.NameRules.{redeclares}
 use Rattle.f66_names.specs.Sorts.{form_by, is_array_form, is_array_name}
@@ -51,6 +51,22 @@ no_dummy (SubUnit y ds) x e = not_listed (bytes_eq x y) (list_any (bytes_eq x) d
 no_dummy (FuncUnit t y ds) x e = not_listed (bytes_eq x y) (list_any (bytes_eq x) ds) _ e
 no_dummy DataUnit x e = refl
 
+-- ---- what the rules of names say of COMMON, EQUIVALENCE and arrays ----
+
+-- what a statement lists there is not held by the header, an element is one of an array, and no array is large
+pub record IsTidy (c : Context) (a : Act) : Type 0 where
+  pub listed : list_any (λ d. is_held c.header d.name) (common_in a) ≡ false
+  pub equated : list_any (holds_place c.header) (equated_in a) ≡ false
+  pub fits : list_any (λ e. is_no_element c e || has_odd_subscript c e) (equated_in a) ≡ false
+  pub small : (has_large_array a || list_any is_large (common_in a)) ≡ false
+
+pub tidy : (c : Context) (acts : List Act) (i : ℕ) (a : Act) → ((k : Rule) → breaks_rule c acts i a k ≡ false) → IsTidy c a
+tidy c acts i a keeps =
+    let again = (or_parts (lists_again c acts i a) _ (or_parts (redeclares acts i a) _ (keeps DuplicateName)).1).0 in
+    let held = or_parts _ _ (or_parts (list_any (was_given_sizes acts i) (listed_in a)) _ (or_parts (recommons acts i (common_in a)) _ again).1).1 in
+    let odd = (or_parts (clashes c a) _ (keeps TypeClash)).1 in
+    record { listed = held.0; equated = held.1; fits = (or_parts _ _ odd).0; small = keeps LargeArray }
+
 module _ (u : Routine) where
   -- an array of the checks is one where the unit is associated
   same_array : (x : Text) → is_array_name (context_of u) x ≡ true → is_array_form (form_by (sort_of (program.context_of u) x)) ≡ true
@@ -83,34 +99,32 @@ module _ (u : Routine) where
       (none_in (λ m. is_no_element (context_of u) m || has_odd_subscript (context_of u) m) (λ es. es) groups k g fits lt) lt')
   act_ready _ there listed free fits = tt
 
+  module _ (keeps : (i : ℕ) (s : Line) → i < length u.lines → IsTidy (context_of u) (get_or u.lines i s).act) where
+    line_ready : (i : ℕ) (s : Line) → i < length u.lines → IsActReady u (get_or u.lines i s).act
+    line_ready i s lt =
+        let t = keeps i s lt in
+        act_ready (get_or u.lines i s).act (λ x free e. has_its u x i s lt free e) t.listed t.equated t.fits
+
+    few : (x : Text) → places_of (sizes_of x (program.context_of u).notes) ≤ 32767
+    few x =
+        subst (λ ns. places_of ns ≤ 32767) (sizes_same x u.lines)
+        (few_places x (acts_in_unit u.lines) (All-map (λ a. (has_large_array a || list_any is_large (common_in a)) ≡ false) (λ s. s.act) u.lines (λ i s lt. (keeps i s lt).small)))
+
+    -- a unit of such statements is ready
+    pub ready_by : IsReady u
+    ready_by = record {
+      tied = line_ready;
+      small = λ x has. (let n = few x in omega (arith, n));
+    }
+
   module _ (sound : IsSoundUnit u) where
     keeps : (i : ℕ) (s : Line) → i < length u.lines → (k : Rule) → breaks_rule (context_of u) (acts_in_unit u.lines) i (get_or u.lines i s).act k ≡ false
     keeps i s lt k =
         (or_parts (breaks_flow Whole u.header u.lines i (get_or u.lines i s) k) _
         (subst (λ o. is_some_and (λ t. breaks_statement Whole (context_of u) (acts_in_unit u.lines) u.lines i t k) o ≡ false) (slice_get-get_or u.lines i s lt) (sound.clean (suc i) k))).1
 
-    -- what COMMON and EQUIVALENCE list is neither listed again nor held by the header
-    fresh : (i : ℕ) (s : Line) → i < length u.lines → lists_again (context_of u) (acts_in_unit u.lines) i (get_or u.lines i s).act ≡ false
-    fresh i s lt = (or_parts _ _ (or_parts (redeclares (acts_in_unit u.lines) i (get_or u.lines i s).act) _ (keeps i s lt DuplicateName)).1).0
-
-    line_ready : (i : ℕ) (s : Line) → i < length u.lines → IsActReady u (get_or u.lines i s).act
-    line_ready i s lt =
-        let a = (get_or u.lines i s).act in
-        let acts = acts_in_unit u.lines in
-        let held = or_parts _ _ (or_parts (list_any (was_given_sizes acts i) (listed_in a)) _ (or_parts (recommons acts i (common_in a)) _ (fresh i s lt)).1).1 in
-        let odd = (or_parts (clashes (context_of u) a) _ (keeps i s lt TypeClash)).1 in
-        act_ready a (λ x free e. has_its u x i s lt free e) held.0 held.1 (or_parts _ _ odd).0
-
-    few : (x : Text) → places_of (sizes_of x (program.context_of u).notes) ≤ 32767
-    few x =
-        subst (λ ns. places_of ns ≤ 32767) (sizes_same x u.lines)
-        (few_places x (acts_in_unit u.lines) (All-map (λ a. (has_large_array a || list_any is_large (common_in a)) ≡ false) (λ s. s.act) u.lines (λ i s lt. keeps i s lt LargeArray)))
-
     ready : IsReady u
-    ready = record {
-      tied = line_ready;
-      small = λ x has. (let n = few x in omega (arith, n));
-    }
+    ready = ready_by (λ i s lt. tidy (context_of u) (acts_in_unit u.lines) i (get_or u.lines i s).act (keeps i s lt))
 
 pub sound_is_ready : SoundIsReady
 sound_is_ready u sound = ready u sound

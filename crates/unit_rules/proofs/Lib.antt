@@ -7,3 +7,5 @@ pub mod MisfitLemmas
 pub mod WithinLemmas
 pub mod AgainLemmas
 pub mod MainLemmas
+pub mod SayingLemmas
+pub mod KeptLemmas

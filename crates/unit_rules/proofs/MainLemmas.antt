@@ -52,13 +52,13 @@ built_shape (Preset parts) h is = absurd (true≢false (sym is))
 built_shape _ h is = h
 
 -- nothing is called by a CALL
-uncalled : (a : Act) → is_built_form a ≡ true → (called_in a ≡ None) × (passed_in a ≡ NoFormula)
+pub uncalled : (a : Act) → is_built_form a ≡ true → (called_in a ≡ None) × (passed_in a ≡ NoFormula)
 uncalled (Invoke x es) is = absurd (true≢false (sym is))
 uncalled (When e a) is = uncalled a is
 uncalled _ is = (refl, refl)
 
 -- nothing is listed by COMMON, EQUIVALENCE or DATA
-unlisted : (a : Act) → is_built_form a ≡ true → (common_in a ≡ []) × (equated_in a ≡ []) × (preset_in a ≡ [])
+pub unlisted : (a : Act) → is_built_form a ≡ true → (common_in a ≡ []) × (equated_in a ≡ []) × (preset_in a ≡ [])
 unlisted (Common areas) is = absurd (true≢false (sym is))
 unlisted (Equivalence groups) is = absurd (true≢false (sym is))
 unlisted (Preset parts) is = absurd (true≢false (sym is))
@@ -68,7 +68,7 @@ abbrev more_by : Context → Formulas → List Declared → List Formula → Lis
 more_by c es ds ps qs = uses_of_all es ++ (flat_map uses_of_listed ds ++ (flat_map (uses_of_place c) ps ++ flat_map (uses_of_place c) qs))
 
 -- so no more names are used
-no_more : (c : Context) (a : Act) → is_built_form a ≡ true → more_uses c a ≡ []
+pub no_more : (c : Context) (a : Act) → is_built_form a ≡ true → more_uses c a ≡ []
 no_more c a is =
     let none = unlisted a is in
     ap (λ es. more_by c es (common_in a) (equated_in a) (preset_in a)) (uncalled a is).1 ∙ ap (λ ds. more_by c NoFormula ds (equated_in a) (preset_in a)) none.0
@@ -114,7 +114,7 @@ module _ (c : Context) where
         let p = none_of_both (is_function c) (uses_of e) (uses_of_all es) h in
         ap (λ v. v && are_integers c es) (fits_same e Integer p.0) ∙ ap (λ v. plain.fits c e Integer && v) (integers_same es p.1)
 
-  clash_same : (a : Act) → is_built_form a ≡ true → NoFunction (uses_in a) → clashes c a ≡ plain.clashes c a
+  pub clash_same : (a : Act) → is_built_form a ≡ true → NoFunction (uses_in a) → clashes c a ≡ plain.clashes c a
   clash_same (Assign x e) is h =
       let p = none_of_both (is_function c) (uses_of_target x) (uses_of e) h in
       ap (λ v. not ((takes_kind c x Integer && v) || assigns c x e Logical)) (fits_same e Integer p.1)
@@ -173,7 +173,7 @@ module _ (c : Context) where
       ap (λ r. option_or r (find_map (role_given c q) us)) (given_same q u p.0) ∙ ap (option_or (option_map as_role (class_given c q u))) (uses_same q us p.1)
       ∙ sym (or_mapped as_role (class_given c q u) (find_map (class_given c q) us))
 
-  no_function : (a : Act) → is_built c a ≡ true → NoFunction c (uses_in a)
+  pub no_function : (a : Act) → is_built c a ≡ true → NoFunction c (uses_in a)
   no_function a is = not-true (list_any (is_function c) (uses_in a)) (and_parts (is_built_form a) _ is).1
     where
       not-true : (b : Bool) → not b ≡ true → b ≡ false
@@ -207,7 +207,7 @@ module _ (c : Context) where
         ∙ ap (has_other_role (option_map as_role (class_used c u))) (acts_same u.name acts built)
         ∙ other_same (class_used c u) (class_of c acts u.name)
 
-    all_misused : (us : List Usage) → NoFunction c us → list_any (misuses c acts) us ≡ list_any (names.misuses c acts) us
+    pub all_misused : (us : List Usage) → NoFunction c us → list_any (misuses c acts) us ≡ list_any (names.misuses c acts) us
     all_misused [] h = refl
     all_misused (u ∷ us) h =
         let p = or_parts (is_function c u) _ h in

@@ -9,3 +9,4 @@ pub mod Heads
 pub mod Bounds
 pub mod Storage
 pub mod UnitRules
+pub mod PartRules

@@ -35,6 +35,9 @@ pub fn called_in_saying<'a>(saying: &Saying<'a>) -> Option<&'a Name>
 {
     match *saying {
         Saying::Act(kind) => called_in(kind),
-        Saying::Condition(_) | Saying::Value(_) | Saying::Counting(_, _, _, _) => None,
+        Saying::Condition(_)
+        | Saying::Value(_)
+        | Saying::Counting(_, _, _, _)
+        | Saying::Returned(_, _) => None,
     }
 }

@@ -44,9 +44,10 @@ pub fn listed_in_saying<'a>(
 {
     match *saying {
         Saying::Act(kind) => listed_in(alloc, kind),
-        Saying::Condition(_) | Saying::Value(_) | Saying::Counting(_, _, _, _) => Ok(Vec::new(
-            alloc,
-        )),
+        Saying::Condition(_)
+        | Saying::Value(_)
+        | Saying::Counting(_, _, _, _)
+        | Saying::Returned(_, _) => Ok(Vec::new(alloc)),
     }
 }
 
@@ -59,9 +60,10 @@ pub fn common_in_saying<'a>(
 {
     match *saying {
         Saying::Act(kind) => common_in(alloc, kind),
-        Saying::Condition(_) | Saying::Value(_) | Saying::Counting(_, _, _, _) => Ok(Vec::new(
-            alloc,
-        )),
+        Saying::Condition(_)
+        | Saying::Value(_)
+        | Saying::Counting(_, _, _, _)
+        | Saying::Returned(_, _) => Ok(Vec::new(alloc)),
     }
 }
 

@@ -65,9 +65,10 @@ pub fn more_uses_of_saying<'a>(
             let lists = lists_of(alloc, kind)?;
             more_uses(alloc, declarations, kind, &lists)
         }
-        Saying::Condition(_) | Saying::Value(_) | Saying::Counting(_, _, _, _) => Ok(Vec::new(
-            alloc,
-        )),
+        Saying::Condition(_)
+        | Saying::Value(_)
+        | Saying::Counting(_, _, _, _)
+        | Saying::Returned(_, _) => Ok(Vec::new(alloc)),
     }
 }
 

@@ -206,7 +206,7 @@ fn misuses(names: &UnitNames, used: &Use) -> bool
 
 /// Whether a name is used in another class than its first one (section 10.1).
 #[tactic(auto, using(rule_table::proofs::WordLemmas::list_any_map))]
-fn has_misuse(names: &UnitNames, uses: &[Use]) -> bool
+pub fn has_misuse(names: &UnitNames, uses: &[Use]) -> bool
     ensures { result ≡ list_any (misuses (context_in names.now.declarations) (acts_in names.now.declarations)) (map use_of uses.now) }
 {
     are_some_misused(names, uses)

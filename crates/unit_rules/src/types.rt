@@ -9,10 +9,10 @@ ghost use Rattle.f66_names.specs.Sorts.{name_form};
 ghost use Rattle.unit_rules.specs.Types.{kind_applied, kind_seen, is_whole, is_letter, fits, are_integers, are_actuals, are_passed, assigns, clashes};
 
 use f66_names::{
-    Declarations, NameForm, are_subscripts, form_of, is_array, is_integer, kind_of, may_be,
-    operand, outcome, same_kind, takes_kind,
+    Declarations, NameForm, are_entries, are_subscripts, counts, form_of, is_array, is_counter,
+    is_counting, is_integer, kind_of, may_be, operand, outcome, same_kind, takes_kind,
 };
-use f66_tree::{Expr, Name, StmtKind};
+use f66_tree::{Expr, Name, StmtKind, Way};
 use ground::Kind;
 
 /// Whether a statement has an operand, a subscript, an argument or a value of another type than it asks for
@@ -27,7 +27,17 @@ pub fn clashes(declarations: &Declarations, kind: &StmtKind) -> bool
             !fits(declarations, test, Kind::Logical) || clashes(declarations, inner)
         }
         StmtKind::Invoke(_, list) => !are_passed(declarations, list),
-        _ => f66_names::clashes(declarations, kind),
+        StmtKind::Computed(_, index) => !is_counter(declarations, index),
+        StmtKind::Loop(_, variable, first, last, step) => {
+            !counts(declarations, variable, first, last, step)
+        }
+        StmtKind::Read(unit, _, list) => {
+            !(is_counting(declarations, unit) && are_entries(Way::Reading, declarations, list))
+        }
+        StmtKind::Write(unit, _, list) => {
+            !(is_counting(declarations, unit) && are_entries(Way::Writing, declarations, list))
+        }
+        _ => false,
     }
 }
 
@@ -87,7 +97,7 @@ fn is_letter(e: &Expr) -> bool
 
 /// Whether an expression may have a type (sections 6, 8.2 and 8.3).
 #[cycle(fits)]
-fn fits(declarations: &Declarations, e: &Expr, kind: Kind) -> bool
+pub fn fits(declarations: &Declarations, e: &Expr, kind: Kind) -> bool
     ensures { result ≡ fits (context_in declarations.now) (formula_of e.now) kind }
 {
     match e {

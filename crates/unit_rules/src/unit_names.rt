@@ -12,7 +12,7 @@ ghost use Rattle.f66_names.specs.DeclarationViews.{context_in, acts_in};
 
 use crate::roles::{Role, held_table, role_table};
 use crate::tables::{Tables, tables_of};
-use f66_names::{Declarations, Names, Saying, names_of};
+use f66_names::{Declarations, Saying, declarations_of};
 use f66_tree::{Header, Par};
 use std::alloc::{AllocError, Global};
 use std::collections::HashMap;
@@ -52,7 +52,7 @@ pub fn unit_names_of<'a>(
     ensures header { IfOk result (λ n. n.declarations.header.now ≡ header.now) }
     ensures sayings { IfOk result (λ n. n.declarations.sayings.now ≡ sayings.now) }
 {
-    let Names { declarations, .. } = names_of(alloc, header, sayings)?;
+    let declarations = declarations_of(alloc, header, sayings)?;
     let held = held_table(alloc, declarations.header)?;
     let roles = role_table(alloc, &declarations)?;
     let Tables {

@@ -1,4 +1,4 @@
--- A main unit without a fault: its statements are built, its loops are left from within, and its jumps land.
+-- A unit without a fault: its statements are built, its loops are left from within, and its jumps land.
 use Rattle.std.proofs.Common.{◌≡◌, ℕ, suc, ◌≤◌, Bool, true, false, true≢false, List, [], ◌∷◌, Option, Some, None, sym, leb-true}
 use Rattle.std.specs.Prelude.{nat_le, ◌&&◌, ◌||◌}
 use Rattle.f66_tree.specs.Syntax.{Act, When, Loop}
@@ -67,7 +67,7 @@ module _ (u : UnitRules) where
     clear (Switch p f cs) k r l around sees h = let a = clauses_clear cs k r false around sees h.1 in record { built = a.built; fits = a.fits; lands = a.lands }
     clear (Break p n) k r l around sees h = record { built = tt; fits = count_is k n h.0.inside; lands = tt }
     clear (Next p n) k r l around sees h = record { built = tt; fits = count_is k n h.0.inside; lands = tt }
-    clear (Return p f) k r l around sees h = absurd (true≢false (sym h.0.ratfor))
+    clear (Return p f) k r l around sees h = record { built = tt; fits = tt; lands = tt }
     clear (Plain m p a) k r l around sees h =
         let one = unmarked (Fine u) k r l p (part k r m p (Statement a) ∷ []) h in
         record { built = act_plain a one.0.ratfor; fits = tt; lands = act_lands u.formats r around sees a one.0.ratfor one.0.found }

@@ -85,7 +85,7 @@ at_most_once : (u : UnitRules) (b : Before) (vs : List Part) (l : ℕ) → first
 at_most_once u b [] l e = omega (arith, at_most (b.labels l))
 at_most_once u b (v ∷ vs) l e =
     let h = first_keeps u b v vs e in
-    one_more b.labels v.label l (uses l vs) h.0.own (at_most_once u (behind b v) vs l h.1)
+    one_more b.labels v.label l (uses l vs) h.0.own (at_most_once u (behind u.context.header b v) vs l h.1)
 
 pub given_once : (u : UnitRules) (ss : Commands) → first_broken u nothing_before (unit_parts ss) ≡ None → (l : ℕ) → all_given l ss ≤ 1
 given_once u ss e l = omega (arith, at_most_once u nothing_before (unit_parts ss) l e, uses_in l ss 0 (with_labels ss no_label))
@@ -104,7 +104,7 @@ in_range : (u : UnitRules) (b : Before) (vs : List Part) (l : ℕ) → first_bro
 in_range u b [] l e h = absurd (omega (arith, h))
 in_range u b (v ∷ vs) l e h =
     let k = first_keeps u b v vs e in
-    by (has_label l v.label) refl (own_range b.labels v.label l k.0.own) (in_range u (behind b v) vs l k.1)
+    by (has_label l v.label) refl (own_range b.labels v.label l k.0.own) (in_range u (behind u.context.header b v) vs l k.1)
   where
     by : (b : Bool) → has_label l v.label ≡ b → (has_label l v.label ≡ true → (1 ≤ l) × (l ≤ 99999)) → (1 ≤ uses l vs → (1 ≤ l) × (l ≤ 99999)) → (1 ≤ l) × (l ≤ 99999)
     by true is own later = own is

@@ -3,7 +3,7 @@ use Rattle.std.proofs.Common.{◌≡◌, ℕ, suc, Bool, true, false, true≢fal
 use Rattle.std.specs.Prelude.{is_some, nat_eq, ◌||◌, if◌then◌else◌}
 use Rattle.ground.specs.declared.place.Place.{Place}
 use Rattle.f66_tree.specs.Fields.{Fields}
-use Rattle.f66_tree.specs.Syntax.{Text, Act, Assign, Format}
+use Rattle.f66_tree.specs.Syntax.{Header, Text, Act, Assign, Invoke, Format}
 use Rattle.f66_tree.specs.Units.{is_note, Note, format_by, format_of}
 use Rattle.rat_tree.specs.Syntax.{Command, Empty, Block, If, IfElse, While, For, Repeat, RepeatUntil, Do, Switch, Break, Next, Return, Plain, Labelled, Commands, NoCommand, AndCommand, Clauses, NoClause, AndClause}
 use Rattle.rat_check.specs.Parts.{Form, Bare, RepeatHead, Statement, Condition, Selector, CaseList, ForHead, DoHead, LoopExit, ReturnHead, Labels, no_label, with_label, Part, part, with_mark, with_labels, parts_of, parts_in, clause_parts, unit_parts}
@@ -28,7 +28,7 @@ form_note l (CaseList es second) rest = rest
 form_note l (ForHead a e b) rest = rest
 form_note l (DoHead x a b c) rest = rest
 form_note l (LoopExit n) rest = rest
-form_note l ReturnHead rest = rest
+form_note l (ReturnHead e) rest = rest
 
 abbrev pub part_notes : List Part → List Note → List Note
 part_notes [] rest = rest
@@ -45,6 +45,7 @@ notes_mark k r (Some l) p vs rest = refl
 no_note : (o : Option Act) → is_simple o ≡ true → (rest : List Note) → note_if_any o rest ≡ rest
 no_note None e rest = refl
 no_note (Some (Assign x f)) e rest = refl
+no_note (Some (Invoke x es)) e rest = refl
 no_note (Some _) e rest = absurd (true≢false (sym e))
 
 module _ (u : UnitRules) where
@@ -95,12 +96,12 @@ module _ (u : UnitRules) where
 
 -- ---- what they name ----
 
-module _ (K : Text → Type 0) where
+module _ (header : Header) (K : Text → Type 0) where
   note_names : (v : Bool) (l : Option ℕ) (a : Act) (rest : List Note) → NamesOfNote K a → NamesOfNotes K rest → NamesOfNotes K (if v then (record { label = l; act = a } ∷ rest) else rest)
   note_names true l a rest h k = (h, k)
   note_names false l a rest h k = k
 
-  form_names : (l : Option ℕ) (form : Form) (rest : List Note) → AllOf (NamesOfNote K) (said_by form) → NamesOfNotes K rest → NamesOfNotes K (form_note l form rest)
+  form_names : (l : Option ℕ) (form : Form) (rest : List Note) → AllOf (NamesOfNote K) (said_by header form) → NamesOfNotes K rest → NamesOfNotes K (form_note l form rest)
   form_names l (Statement a) rest h k = note_names (is_note a) l a rest h.0 k
   form_names l Bare rest h k = k
   form_names l RepeatHead rest h k = k
@@ -110,13 +111,13 @@ module _ (K : Text → Type 0) where
   form_names l (ForHead a e b) rest h k = k
   form_names l (DoHead x a b c) rest h k = k
   form_names l (LoopExit n) rest h k = k
-  form_names l ReturnHead rest h k = k
+  form_names l (ReturnHead e) rest h k = k
 
-  names_of_parts : (vs : List Part) → AllParts (SaysSo (NamesOfNote K)) vs → NamesOfNotes K (part_notes vs [])
+  names_of_parts : (vs : List Part) → AllParts (SaysSo header (NamesOfNote K)) vs → NamesOfNotes K (part_notes vs [])
   names_of_parts [] h = tt
   names_of_parts (v ∷ vs) h = form_names v.label v.form (part_notes vs []) h.0 (names_of_parts vs h.1)
 
-  pub names_of_notes : (u : UnitRules) (ss : Commands) → AllFine u (unit_parts ss) → AllParts (SaysSo (NamesOfNote K)) (unit_parts ss) → NamesOfNotes K (notes_of_unit ss)
+  pub names_of_notes : (u : UnitRules) (ss : Commands) → AllFine u (unit_parts ss) → AllParts (SaysSo header (NamesOfNote K)) (unit_parts ss) → NamesOfNotes K (notes_of_unit ss)
   names_of_notes u ss fine h = subst (λ notes. NamesOfNotes K notes) (sym (unit_notes u ss fine)) (names_of_parts (unit_parts ss) h)
 
 -- ---- the formats that a WRITE may name ----
@@ -149,7 +150,7 @@ module _ (m : ℕ) (rest : List Note) where
   form_has l (ForHead a e b) h = h
   form_has l (DoHead x a b c) h = h
   form_has l (LoopExit n) h = h
-  form_has l ReturnHead h = h
+  form_has l (ReturnHead e) h = h
 
   -- the label of a format
   own_format : (l : ℕ) (f : Fields) → nat_eq m l ≡ true → is_some (if nat_eq l m then Some f else format_of m rest) ≡ true
@@ -174,7 +175,7 @@ module _ (m : ℕ) (rest : List Note) where
   label_has (Some l) (ForHead a e b) ls h = inl h
   label_has (Some l) (DoHead x a b c) ls h = inl h
   label_has (Some l) (LoopExit n) ls h = inl h
-  label_has (Some l) ReturnHead ls h = inl h
+  label_has (Some l) (ReturnHead e) ls h = inl h
 
 formats_have : (m : ℕ) (vs : List Part) (ls : Labels) → with_formats vs ls m ≡ true → (ls m ≡ true) ⊎ Has m (part_notes vs [])
 formats_have m [] ls e = inl e

@@ -1,5 +1,5 @@
 -- The lists in a tree, one member after another: what is added so far, and what the members left would add.
-use Rattle.std.proofs.Common.{◌≡◌, ℕ, zero, suc, ◌+◌, ◌<◌, ◌≤◌, List, [], ◌∷◌, ◌++◌, length, drop, get_or, refl, sym, ap, ◌∙◌, arith, Option, Some, None}
+use Rattle.std.proofs.Common.{◌≡◌, ℕ, zero, suc, ◌+◌, ◌<◌, ◌≤◌, List, [], ◌∷◌, ◌++◌, length, drop, get_or, sym, ap, ◌∙◌, arith, Option, Some, None}
 use Rattle.std.proofs.Math.Seq.{drop-cons}
 use Rattle.std.proofs.Math.ListN.{drop_of_length-le}
 use Rattle.ground.specs.declared.place.Place.{Place}
@@ -23,25 +23,28 @@ next_formulas list i e lt is =
 pub record SoFar (all left : Commands) (ls : Rings) (before now : Making) (old new : List Line) : Type 0 where
   pub taken : now.taken ≡ before.taken
   pub spare : now.spare ≡ before.spare
+  pub own : now.own ≡ before.own
   pub made : now.made + all_labels left ≡ before.made + all_labels all
-  pub added : (rest : List Line) → new ++ all_code (labels_past before.taken) before.spare left now.made ls rest ≡ old ++ all_code (labels_past before.taken) before.spare all before.made ls rest
+  pub added : (rest : List Line) → new ++ all_code (labels_past before.taken) before.spare before.own left now.made ls rest ≡ old ++ all_code (labels_past before.taken) before.spare before.own all before.made ls rest
 
 pub so_far_more : (all left : Commands) (s : Command) (ls : Rings) (before now after : Making) (old new newer : List Line) → SoFar all (AndCommand s left) ls before now old new → Emitted s ls now after new newer → SoFar all left ls before after old newer
 so_far_more all left s ls before now after old new newer h e = record {
   taken = e.taken ∙ h.taken;
   spare = e.spare ∙ h.spare;
+  own = e.own ∙ h.own;
   made = omega (arith, h.made, e.made);
   added = λ rest.
       let M = labels_past before.taken in
-      e.added.by (all_code M before.spare left after.made ls rest)
-      ∙ ap (λ t. new ++ code_of (labels_past t) now.spare s now.made ls (all_code M before.spare left after.made ls rest)) h.taken
-      ∙ ap (λ x. new ++ code_of M x s now.made ls (all_code M before.spare left after.made ls rest)) h.spare
-      ∙ ap (λ n. new ++ code_of M before.spare s now.made ls (all_code M before.spare left n ls rest)) e.made
+      e.added.by (all_code M before.spare before.own left after.made ls rest)
+      ∙ ap (λ t. new ++ code_of (labels_past t) now.spare now.own s now.made ls (all_code M before.spare before.own left after.made ls rest)) h.taken
+      ∙ ap (λ x. new ++ code_of M x now.own s now.made ls (all_code M before.spare before.own left after.made ls rest)) h.spare
+      ∙ ap (λ x. new ++ code_of M before.spare x s now.made ls (all_code M before.spare before.own left after.made ls rest)) h.own
+      ∙ ap (λ n. new ++ code_of M before.spare before.own s now.made ls (all_code M before.spare before.own left n ls rest)) e.made
       ∙ h.added rest;
 }
 
 pub so_far_all : (all : Commands) (ls : Rings) (before now : Making) (old new : List Line) → SoFar all NoCommand ls before now old new → AllEmitted all ls before now old new
-so_far_all all ls before now old new h = record { taken = h.taken; spare = h.spare; made = omega (arith, h.made); added = record { by = h.added } }
+so_far_all all ls before now old new h = record { taken = h.taken; spare = h.spare; own = h.own; made = omega (arith, h.made); added = record { by = h.added } }
 
 -- the next statement of a list
 pub next_command : (list : List RatStmt) (i : ℕ) (s : RatStmt) → i < length list → s ≡ get_or list i s → commands (drop i list) ≡ AndCommand (command s) (commands (drop (i + 1) list))

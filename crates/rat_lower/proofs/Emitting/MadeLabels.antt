@@ -8,7 +8,7 @@ use Rattle.ground.specs.declared.fault.Memory.{Memory}
 use Rattle.f66_tree.specs.Syntax.{Text}
 use Rattle.name_alloc.specs.Numbers.{Numbering, is_in, free_from, free_number, behind, next_number, taking, making, start_of, made_number, made_first}
 use Rattle.name_alloc.specs.MadeNames.{Used, labelling}
-use Rattle.name_alloc.proofs.Free.{free_from-free, free_from-above, above-length, behind-first, made-rises, made-free}
+use Rattle.name_alloc.proofs.Free.{free_from-free, free_from-above, above-length, behind-first, made-rises}
 use Rattle.rat_lower.specs.Emitted.{Making, labels_past}
 
 -- the labels made so far are the first ones
@@ -33,9 +33,9 @@ pub order_kept : (r : Result ℕ Memory) (old new : Used) → IsInOrder old.labe
 order_kept (Ok l) old new h made kept = subst (λ (u : Used). IsInOrder u.labels) (sym made) (still_in_order old.labels h)
 order_kept (Err e) old new h made kept = subst (λ (u : Used). IsInOrder u.labels) (sym kept) h
 
-pub label_made : (r : Result ℕ Memory) (s : Numbering) (x : Text) (m : Making) → IsInOrder s → (let v : Making = record { taken = s.taken; made = length s.made; spare = x } in v ≡ m) → IfOk r (λ l. l ≡ next_number s) → IfOk r (λ l. l ≡ labels_past m.taken m.made)
-label_made (Ok l) s x m h seen is = is ∙ next_made s h ∙ ap (λ (v : Making). labels_past v.taken v.made) seen
-label_made (Err e) s x m h seen is = is
+pub label_made : (r : Result ℕ Memory) (s : Numbering) (x y : Text) (m : Making) → IsInOrder s → (let v : Making = record { taken = s.taken; made = length s.made; spare = x; own = y } in v ≡ m) → IfOk r (λ l. l ≡ next_number s) → IfOk r (λ l. l ≡ labels_past m.taken m.made)
+label_made (Ok l) s x y m h seen is = is ∙ next_made s h ∙ ap (λ (v : Making). labels_past v.taken v.made) seen
+label_made (Err e) s x y m h seen is = is
 
 -- a number that is found is the least
 least : (f : ℕ) (ys : List ℕ) (n m : ℕ) → n ≤ m → is_in ys m ≡ false → free_from f ys n ≤ m

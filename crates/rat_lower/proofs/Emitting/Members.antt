@@ -1,5 +1,5 @@
 -- Blocks and switches in memory, and the statements that they become.
-use Rattle.std.proofs.Common.{◌≡◌, ℕ, zero, suc, ◌+◌, ◌<◌, ◌≤◌, List, [], ◌∷◌, ◌++◌, length, drop, get_or, refl, sym, ap, ◌∙◌, subst, arith, Option, Some, None, Bool, true, false, if◌then◌else◌}
+use Rattle.std.proofs.Common.{◌≡◌, ℕ, zero, suc, ◌+◌, ◌<◌, List, [], ◌∷◌, ◌++◌, length, drop, get_or, refl, sym, ap, ◌∙◌, subst, arith, Option, Some, None, Bool, true, false, if◌then◌else◌}
 use Rattle.std.proofs.Common.{Vec, Global, Result, Ok, Err, OnOk}
 use Rattle.ground.specs.declared.place.Place.{Place}
 use Rattle.ground.specs.declared.fault.Memory.{Memory}
@@ -15,7 +15,7 @@ use Rattle.rat_tree.specs.Views.{labelled, command_of, command, commands, clause
 use Rattle.rat_tree.proofs.Rows.{block_commands, switch_clauses, case_clause}
 use Rattle.rat_lower.specs.Around.{behind_label, behind_mark}
 use Rattle.rat_lower.specs.Code.{Rings, here, jump, labels, all_labels, clause_labels, code_of, all_code, each_test, tests, bodies, default_label, has_switch, have_switch}
-use Rattle.rat_lower.specs.Emitted.{Making, labels_past, Adds, Emitted, AllEmitted, ClausesEmitted, first_default}
+use Rattle.rat_lower.specs.Emitted.{Making, labels_past, Adds, Emitted, AllEmitted, first_default}
 use Rattle.rat_lower.proofs.Emitting.Blocks.{label_or}
 use Rattle.rat_lower.proofs.Emitting.Sizes.{size_of, size_of_all, size_of_clauses, labelled_size}
 use Rattle.rat_tree.specs.Syntax as ratfor_tree
@@ -28,14 +28,16 @@ marked : (l : Option ℕ) (p : Place) (s : Command) (ls : Rings) (before after :
 marked None p s ls before after old mid new a e = record {
   taken = e.taken;
   spare = e.spare;
+  own = e.own;
   made = e.made;
-  added = record { by = λ rest. e.added.by rest ∙ a.by (code_of (labels_past before.taken) before.spare s before.made ls rest) };
+  added = record { by = λ rest. e.added.by rest ∙ a.by (code_of (labels_past before.taken) before.spare before.own s before.made ls rest) };
 }
 marked (Some l) p s ls before after old mid new a e = record {
   taken = e.taken;
   spare = e.spare;
+  own = e.own;
   made = e.made;
-  added = record { by = λ rest. e.added.by rest ∙ a.by (code_of (labels_past before.taken) before.spare s before.made ls rest) };
+  added = record { by = λ rest. e.added.by rest ∙ a.by (code_of (labels_past before.taken) before.spare before.own s before.made ls rest) };
 }
 
 -- ---- blocks ----
@@ -55,7 +57,7 @@ from_block s v list (Ok _) ls before after old mid new is value mark h =
     subst
     (λ x. Emitted x ls before after old new)
     (sym (block_command s v list is value))
-    (marked s.label s.place (ratfor_tree.Block s.place (commands list)) ls before after old mid new (subst (λ k. Adds old mid (behind_mark s.label s.place k)) is mark) (record { taken = h.taken; spare = h.spare; made = h.made; added = h.added }))
+    (marked s.label s.place (ratfor_tree.Block s.place (commands list)) ls before after old mid new (subst (λ k. Adds old mid (behind_mark s.label s.place k)) is mark) (record { taken = h.taken; spare = h.spare; own = h.own; made = h.made; added = h.added }))
 from_block s v list (Err e) ls before after old mid new is value mark h = tt
 
 labelled_has : (l : Option ℕ) (p : Place) (s : Command) → has_switch (labelled l p s) ≡ has_switch s
@@ -110,10 +112,11 @@ clause_size list i c lt is = let h = ap (λ x. size_of_all (commands (out-RatCas
 pub record ClausesSoFar (all left : Clauses) (out : ℕ) (ls : Rings) (default : Option ℕ) (before now : Making) (old new inner outer : List Line) : Type 0 where
   pub taken : now.taken ≡ before.taken
   pub spare : now.spare ≡ before.spare
+  pub own : now.own ≡ before.own
   pub made : now.made + clause_labels left ≡ before.made + clause_labels all
-  pub tested : (rest : List Line) → new ++ tests (labels_past before.taken) before.spare left now.made rest ≡ old ++ tests (labels_past before.taken) before.spare all before.made rest
-  pub added : (rest : List Line) → outer ++ bodies (labels_past before.taken) before.spare left now.made out ls rest ≡ inner ++ bodies (labels_past before.taken) before.spare all before.made out ls rest
-  pub goes : label_or default (default_label (labels_past before.taken) before.spare left now.made out) ≡ default_label (labels_past before.taken) before.spare all before.made out
+  pub tested : (rest : List Line) → new ++ tests (labels_past before.taken) before.spare before.own left now.made rest ≡ old ++ tests (labels_past before.taken) before.spare before.own all before.made rest
+  pub added : (rest : List Line) → outer ++ bodies (labels_past before.taken) before.spare before.own left now.made out ls rest ≡ inner ++ bodies (labels_past before.taken) before.spare before.own all before.made out ls rest
+  pub goes : label_or default (default_label (labels_past before.taken) before.spare before.own left now.made out) ≡ default_label (labels_past before.taken) before.spare before.own all before.made out
 
 goes_more : (default : Option ℕ) (fallback : Bool) (l m d a : ℕ) → l ≡ m → label_or default (if fallback then m else d) ≡ a → label_or (first_default default fallback l) d ≡ a
 goes_more None true l m d a e h = e ∙ h
@@ -126,36 +129,39 @@ pub clauses_more : (all left : Clauses) (es : Formulas) (fallback : Bool) (ss : 
     fresh.made ≡ now.made + 1 →
     fresh.taken ≡ now.taken →
     fresh.spare ≡ now.spare →
+    fresh.own ≡ now.own →
     Adds new newer (each_test fresh.spare p es label) →
     Adds o1 o2 (λ rest. here label p ∷ rest) →
     AllEmitted ss ls fresh after o2 o3 →
     Adds o3 o4 (λ rest. jump p out ∷ rest) →
     ClausesSoFar all left out ls (first_default default fallback label) before after old newer inner o4
-clauses_more all left es fallback ss p out ls default before now fresh after label old new newer inner o1 o2 o3 o4 h is made taken spare test head body tail =
+clauses_more all left es fallback ss p out ls default before now fresh after label old new newer inner o1 o2 o3 o4 h is made taken spare own test head body tail =
     let M = labels_past before.taken in
     let count : after.made ≡ now.made + 1 + all_labels ss = omega (arith, body.made, made) in
     let is_label : label ≡ M now.made = is ∙ ap (λ t. labels_past t now.made) h.taken in
     record {
       taken = body.taken ∙ taken ∙ h.taken;
       spare = body.spare ∙ spare ∙ h.spare;
+      own = body.own ∙ own ∙ h.own;
       made = omega (arith, h.made, count);
       tested = λ rest.
-          test.by (tests M before.spare left after.made rest)
-          ∙ ap (λ x. new ++ each_test x p es label (tests M before.spare left after.made rest)) (spare ∙ h.spare)
-          ∙ ap (λ l. new ++ each_test before.spare p es l (tests M before.spare left after.made rest)) is_label
-          ∙ ap (λ n. new ++ each_test before.spare p es (M now.made) (tests M before.spare left n rest)) count
+          test.by (tests M before.spare before.own left after.made rest)
+          ∙ ap (λ x. new ++ each_test x p es label (tests M before.spare before.own left after.made rest)) (spare ∙ h.spare)
+          ∙ ap (λ l. new ++ each_test before.spare p es l (tests M before.spare before.own left after.made rest)) is_label
+          ∙ ap (λ n. new ++ each_test before.spare p es (M now.made) (tests M before.spare before.own left n rest)) count
           ∙ h.tested rest;
       added = λ rest.
-          tail.by (bodies M before.spare left after.made out ls rest)
-          ∙ body.added.by (jump p out ∷ bodies M before.spare left after.made out ls rest)
-          ∙ head.by (all_code (labels_past fresh.taken) fresh.spare ss fresh.made ls (jump p out ∷ bodies M before.spare left after.made out ls rest))
-          ∙ ap (λ l. o1 ++ (here l p ∷ all_code (labels_past fresh.taken) fresh.spare ss fresh.made ls (jump p out ∷ bodies M before.spare left after.made out ls rest))) is_label
-          ∙ ap (λ t. o1 ++ (here (M now.made) p ∷ all_code (labels_past t) fresh.spare ss fresh.made ls (jump p out ∷ bodies M before.spare left after.made out ls rest))) (taken ∙ h.taken)
-          ∙ ap (λ x. o1 ++ (here (M now.made) p ∷ all_code M x ss fresh.made ls (jump p out ∷ bodies M before.spare left after.made out ls rest))) (spare ∙ h.spare)
-          ∙ ap (λ n. o1 ++ (here (M now.made) p ∷ all_code M before.spare ss n ls (jump p out ∷ bodies M before.spare left after.made out ls rest))) made
-          ∙ ap (λ n. o1 ++ (here (M now.made) p ∷ all_code M before.spare ss (now.made + 1) ls (jump p out ∷ bodies M before.spare left n out ls rest))) count
+          tail.by (bodies M before.spare before.own left after.made out ls rest)
+          ∙ body.added.by (jump p out ∷ bodies M before.spare before.own left after.made out ls rest)
+          ∙ head.by (all_code (labels_past fresh.taken) fresh.spare fresh.own ss fresh.made ls (jump p out ∷ bodies M before.spare before.own left after.made out ls rest))
+          ∙ ap (λ l. o1 ++ (here l p ∷ all_code (labels_past fresh.taken) fresh.spare fresh.own ss fresh.made ls (jump p out ∷ bodies M before.spare before.own left after.made out ls rest))) is_label
+          ∙ ap (λ t. o1 ++ (here (M now.made) p ∷ all_code (labels_past t) fresh.spare fresh.own ss fresh.made ls (jump p out ∷ bodies M before.spare before.own left after.made out ls rest))) (taken ∙ h.taken)
+          ∙ ap (λ x. o1 ++ (here (M now.made) p ∷ all_code M x fresh.own ss fresh.made ls (jump p out ∷ bodies M before.spare before.own left after.made out ls rest))) (spare ∙ h.spare)
+          ∙ ap (λ x. o1 ++ (here (M now.made) p ∷ all_code M before.spare x ss fresh.made ls (jump p out ∷ bodies M before.spare before.own left after.made out ls rest))) (own ∙ h.own)
+          ∙ ap (λ n. o1 ++ (here (M now.made) p ∷ all_code M before.spare before.own ss n ls (jump p out ∷ bodies M before.spare before.own left after.made out ls rest))) made
+          ∙ ap (λ n. o1 ++ (here (M now.made) p ∷ all_code M before.spare before.own ss (now.made + 1) ls (jump p out ∷ bodies M before.spare before.own left n out ls rest))) count
           ∙ h.added rest;
       goes =
-          goes_more default fallback label (M now.made) (default_label M before.spare left after.made out) _ is_label
-          (ap (λ n. label_or default (if fallback then M now.made else default_label M before.spare left n out)) count ∙ h.goes);
+          goes_more default fallback label (M now.made) (default_label M before.spare before.own left after.made out) _ is_label
+          (ap (λ n. label_or default (if fallback then M now.made else default_label M before.spare before.own left n out)) count ∙ h.goes);
     }

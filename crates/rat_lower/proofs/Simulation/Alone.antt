@@ -1,8 +1,7 @@
 -- A main unit by itself: both linkages, where the target's unit may declare the spare name besides.
-use Rattle.std.proofs.Common.{◌≡◌, ◌≢◌, ℕ, zero, suc, ◌+◌, ◌*◌, ◌^◌, ◌<◌, Bool, true, false, List, [], ◌∷◌, Option, Some, None, refl, sym, ap, ◌∙◌, subst, arith}
+use Rattle.std.proofs.Common.{◌≡◌, ◌≢◌, ℕ, Bool, true, false, List, [], ◌∷◌, Option, Some, None, refl, sym, ap, subst}
 use Rattle.std.specs.Prelude.{nat_eq, if◌then◌else◌, ◌||◌, ⊤}
 use Rattle.std.specs.Str.{bytes_eq}
-use Rattle.std.proofs.Math.Nat.{pow-zero, pow-suc}
 use Rattle.std.proofs.lemmas.Bool.{eq-eqb, ne_eqb}
 use Rattle.std.proofs.lemmas.Slice.Eq.{bytes_eq-Decides}
 use Rattle.f66_tree.specs.declared.declaration.TypeWord.TheVariants.{Integer}
@@ -13,9 +12,10 @@ use Rattle.f66_tree.specs.OneUnit.{list_number, one_unit}
 use Rattle.f66_tree.proofs.Posts.{IsScope}
 use Rattle.f66_tree.proofs.Related.{SameNames, same_names}
 use Rattle.f66_tree.proofs.AnyNames.{Any, AnySpot, any_scope}
-use Rattle.f66_tree.proofs.ListNumbers.{positive, numbers_differ}
+use Rattle.f66_tree.proofs.ListNumbers.{numbers_differ}
 use Rattle.rat_lower.specs.Checked.{NamesOfSizes, NamesOfAreas, NamesOfNote, NamesOfNotes}
 use Rattle.rat_tree.specs.Syntax.{Commands}
+use Rattle.rat_tree.specs.Meaning.{Ours}
 use Rattle.rat_lower.proofs.Simulation.Parts.{HoldsValue}
 use Rattle.rat_lower.proofs.Simulation.Programs.{Program, entered}
 
@@ -59,7 +59,7 @@ module _ (K : Text → Type 0) where
   in_note x (Equivalence es) others h k = k
   in_note x (Preset ps) others h k = k
 
-  in_notes : (x : Text) (notes : List Note) → NamesOfNotes K notes → NamesOfPars K (sizes_of x notes)
+  pub in_notes : (x : Text) (notes : List Note) → NamesOfNotes K notes → NamesOfPars K (sizes_of x notes)
   in_notes x [] h = tt
   in_notes x (s ∷ notes) h = in_note x s.act (sizes_of x notes) h.0 (in_notes x notes h.1)
 
@@ -71,7 +71,7 @@ unspared ss code notes = record {
   target = one_unit notes;
   source = one_unit notes;
   codes = λ u. code;
-  bodies = λ u. ss;
+  bodies = λ u. Ours ss;
   spare = λ q. false;
   level = λ q. 0;
   rank = λ u. 0;
@@ -79,7 +79,7 @@ unspared ss code notes = record {
   Fair = AnySpot;
   scope = any_scope (one_unit notes);
   same = same_names (λ u. Any) AnySpot (one_unit notes);
-  numbers = λ u x o. refl;
+  numbers = λ u x o fair. refl;
   apart = λ u x o fair. refl;
 }
 
@@ -145,7 +145,7 @@ module _ (spare : Text) (notes : List Note) where
     target = one_unit (spare_note spare ∷ notes);
     source = one_unit notes;
     codes = λ u. code;
-    bodies = λ u. ss;
+    bodies = λ u. Ours ss;
     spare = λ q. nat_eq q (list_number (0 ∷ spare));
     level = λ q. 0;
     rank = λ u. 0;
@@ -153,7 +153,7 @@ module _ (spare : Text) (notes : List Note) where
     Fair = Clear;
     scope = spared_scope h;
     same = spared_names;
-    numbers = λ u x o. refl;
+    numbers = λ u x o fair. refl;
     apart = λ u x o fair. ne_eqb (list_number (o ∷ x)) (list_number (0 ∷ spare)) (λ e. fair (ap tail_of (numbers_differ (o ∷ x) (0 ∷ spare) e)));
   }
 

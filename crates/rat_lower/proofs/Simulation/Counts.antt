@@ -123,28 +123,28 @@ pub ends-each : (l : ℕ) (x : Text) (p : Place) (es : Formulas) (q : ℕ) (next
 ends-each l x p NoFormula q next = refl
 ends-each l x p (AndFormula e es) q next = omega (arith, ends-each l x p es q next)
 
-module _ (made : ℕ → ℕ) (spare : Text) where
-  pub occurs-tests : (l : ℕ) (cs : Clauses) (m : ℕ) (next : List Line) → occurs l (tests made spare cs m next) ≡ occurs l next
+module _ (made : ℕ → ℕ) (spare own : Text) where
+  pub occurs-tests : (l : ℕ) (cs : Clauses) (m : ℕ) (next : List Line) → occurs l (tests made spare own cs m next) ≡ occurs l next
   occurs-tests l NoClause m next = refl
-  occurs-tests l (AndClause es d ss p cs) m next = omega (arith, occurs-each l spare p es (made m) (tests made spare cs (m + 1 + all_labels ss) next), occurs-tests l cs (m + 1 + all_labels ss) next)
+  occurs-tests l (AndClause es d ss p cs) m next = omega (arith, occurs-each l spare p es (made m) (tests made spare own cs (m + 1 + all_labels ss) next), occurs-tests l cs (m + 1 + all_labels ss) next)
 
-  pub ends-tests : (l : ℕ) (cs : Clauses) (m : ℕ) (next : List Line) → ends l (tests made spare cs m next) ≡ ends l next
+  pub ends-tests : (l : ℕ) (cs : Clauses) (m : ℕ) (next : List Line) → ends l (tests made spare own cs m next) ≡ ends l next
   ends-tests l NoClause m next = refl
-  ends-tests l (AndClause es d ss p cs) m next = omega (arith, ends-each l spare p es (made m) (tests made spare cs (m + 1 + all_labels ss) next), ends-tests l cs (m + 1 + all_labels ss) next)
+  ends-tests l (AndClause es d ss p cs) m next = omega (arith, ends-each l spare p es (made m) (tests made spare own cs (m + 1 + all_labels ss) next), ends-tests l cs (m + 1 + all_labels ss) next)
 
   mutual
-    pub occurs-code : (l : ℕ) (s : Command) (n : ℕ) (ls : Rings) (next : List Line) → IsBuilt s → occurs l (code_of made spare s n ls next) ≡ heads made l s n + dos made l s n + occurs l next
+    pub occurs-code : (l : ℕ) (s : Command) (n : ℕ) (ls : Rings) (next : List Line) → IsBuilt s → occurs l (code_of made spare own s n ls next) ≡ heads made l s n + dos made l s n + occurs l next
     occurs-code l (Empty p) n ls next is = omega arith
     occurs-code l (Block p ss) n ls next is = occurs-all l ss n ls next is
     occurs-code l (If p e s) n ls next is = omega (arith, occurs-code l s (n + 1) ls (here (made n) p ∷ next) is)
     occurs-code l (IfElse p e s t) n ls next is =
-        omega (arith, occurs-code l s (n + 2) ls (jump p (made (n + 1)) ∷ here (made n) p ∷ code_of made spare t (n + 2 + labels s) ls (here (made (n + 1)) p ∷ next)) is.0, occurs-code l t (n + 2 + labels s) ls (here (made (n + 1)) p ∷ next) is.1)
+        omega (arith, occurs-code l s (n + 2) ls (jump p (made (n + 1)) ∷ here (made n) p ∷ code_of made spare own t (n + 2 + labels s) ls (here (made (n + 1)) p ∷ next)) is.0, occurs-code l t (n + 2 + labels s) ls (here (made (n + 1)) p ∷ next) is.1)
     occurs-code l (While p e s) n ls next is =
         omega (arith, occurs-code l s (n + 3) ((made (n + 2), made (n + 1)) ∷ ls) (here (made (n + 1)) p ∷ jump p (made n) ∷ here (made (n + 2)) p ∷ next) is)
     occurs-code l (For p first e step s) n ls next is =
         let out = jump p (made n) ∷ here (made (n + 2)) p ∷ next in
         let mid = here (made (n + 1)) p ∷ with_act p step out in
-        let inner = code_of made spare s (n + 3) ((made (n + 2), made (n + 1)) ∷ ls) mid in
+        let inner = code_of made spare own s (n + 3) ((made (n + 2), made (n + 1)) ∷ ls) mid in
         omega (arith, occurs-act l p first (here (made n) p ∷ with_test p e (made (n + 2)) inner), occurs-test l p e (made (n + 2)) inner, occurs-code l s (n + 3) ((made (n + 2), made (n + 1)) ∷ ls) mid is.2, occurs-act l p step out)
     occurs-code l (Repeat p s) n ls next is =
         omega (arith, occurs-code l s (n + 3) ((made (n + 2), made (n + 1)) ∷ ls) (here (made (n + 1)) p ∷ jump p (made n) ∷ here (made (n + 2)) p ∷ next) is)
@@ -154,8 +154,8 @@ module _ (made : ℕ → ℕ) (spare : Text) where
         omega (arith, occurs-code l s (n + 2) ((made (n + 1), made n) ∷ ls) (here (made n) p ∷ here (made (n + 1)) p ∷ next) is)
     occurs-code l (Switch p e cs) n ls next is =
         let last = here (made n) p ∷ next in
-        let all = bodies made spare cs (n + 1) (made n) ls last in
-        omega (arith, occurs-tests l cs (n + 1) (jump p (default_label made spare cs (n + 1) (made n)) ∷ all), occurs-bodies l cs (n + 1) (made n) ls last is)
+        let all = bodies made spare own cs (n + 1) (made n) ls last in
+        omega (arith, occurs-tests l cs (n + 1) (jump p (default_label made spare own cs (n + 1) (made n)) ∷ all), occurs-bodies l cs (n + 1) (made n) ls last is)
     occurs-code l (Break p k) n ls next is = omega arith
     occurs-code l (Next p k) n ls next is = omega arith
     occurs-code l (ratfor_tree.Return p None) n ls next is = omega arith
@@ -163,29 +163,29 @@ module _ (made : ℕ → ℕ) (spare : Text) where
     occurs-code l (Plain m p a) n ls next is = omega arith
     occurs-code l (Labelled m p s) n ls next is = omega (arith, occurs-code l s n ls next is)
 
-    pub occurs-all : (l : ℕ) (ss : Commands) (n : ℕ) (ls : Rings) (next : List Line) → AreBuilt ss → occurs l (all_code made spare ss n ls next) ≡ all_heads made l ss n + all_dos made l ss n + occurs l next
+    pub occurs-all : (l : ℕ) (ss : Commands) (n : ℕ) (ls : Rings) (next : List Line) → AreBuilt ss → occurs l (all_code made spare own ss n ls next) ≡ all_heads made l ss n + all_dos made l ss n + occurs l next
     occurs-all l NoCommand n ls next is = omega arith
     occurs-all l (AndCommand s ss) n ls next is =
-        omega (arith, occurs-code l s n ls (all_code made spare ss (n + labels s) ls next) is.0, occurs-all l ss (n + labels s) ls next is.1)
+        omega (arith, occurs-code l s n ls (all_code made spare own ss (n + labels s) ls next) is.0, occurs-all l ss (n + labels s) ls next is.1)
 
-    pub occurs-bodies : (l : ℕ) (cs : Clauses) (m out : ℕ) (ls : Rings) (next : List Line) → ClausesBuilt cs → occurs l (bodies made spare cs m out ls next) ≡ clause_heads made l cs m + clause_dos made l cs m + occurs l next
+    pub occurs-bodies : (l : ℕ) (cs : Clauses) (m out : ℕ) (ls : Rings) (next : List Line) → ClausesBuilt cs → occurs l (bodies made spare own cs m out ls next) ≡ clause_heads made l cs m + clause_dos made l cs m + occurs l next
     occurs-bodies l NoClause m out ls next is = omega arith
     occurs-bodies l (AndClause es d ss p cs) m out ls next is =
-        omega (arith, occurs-all l ss (m + 1) ls (jump p out ∷ bodies made spare cs (m + 1 + all_labels ss) out ls next) is.0, occurs-bodies l cs (m + 1 + all_labels ss) out ls next is.1)
+        omega (arith, occurs-all l ss (m + 1) ls (jump p out ∷ bodies made spare own cs (m + 1 + all_labels ss) out ls next) is.0, occurs-bodies l cs (m + 1 + all_labels ss) out ls next is.1)
 
   mutual
-    pub ends-code : (l : ℕ) (s : Command) (n : ℕ) (ls : Rings) (next : List Line) → IsBuilt s → ends l (code_of made spare s n ls next) ≡ dos made l s n + ends l next
+    pub ends-code : (l : ℕ) (s : Command) (n : ℕ) (ls : Rings) (next : List Line) → IsBuilt s → ends l (code_of made spare own s n ls next) ≡ dos made l s n + ends l next
     ends-code l (Empty p) n ls next is = omega arith
     ends-code l (Block p ss) n ls next is = ends-all l ss n ls next is
     ends-code l (If p e s) n ls next is = omega (arith, ends-code l s (n + 1) ls (here (made n) p ∷ next) is)
     ends-code l (IfElse p e s t) n ls next is =
-        omega (arith, ends-code l s (n + 2) ls (jump p (made (n + 1)) ∷ here (made n) p ∷ code_of made spare t (n + 2 + labels s) ls (here (made (n + 1)) p ∷ next)) is.0, ends-code l t (n + 2 + labels s) ls (here (made (n + 1)) p ∷ next) is.1)
+        omega (arith, ends-code l s (n + 2) ls (jump p (made (n + 1)) ∷ here (made n) p ∷ code_of made spare own t (n + 2 + labels s) ls (here (made (n + 1)) p ∷ next)) is.0, ends-code l t (n + 2 + labels s) ls (here (made (n + 1)) p ∷ next) is.1)
     ends-code l (While p e s) n ls next is =
         omega (arith, ends-code l s (n + 3) ((made (n + 2), made (n + 1)) ∷ ls) (here (made (n + 1)) p ∷ jump p (made n) ∷ here (made (n + 2)) p ∷ next) is)
     ends-code l (For p first e step s) n ls next is =
         let out = jump p (made n) ∷ here (made (n + 2)) p ∷ next in
         let mid = here (made (n + 1)) p ∷ with_act p step out in
-        let inner = code_of made spare s (n + 3) ((made (n + 2), made (n + 1)) ∷ ls) mid in
+        let inner = code_of made spare own s (n + 3) ((made (n + 2), made (n + 1)) ∷ ls) mid in
         omega (arith, ends-act l p first (here (made n) p ∷ with_test p e (made (n + 2)) inner) is.0, ends-test l p e (made (n + 2)) inner, ends-code l s (n + 3) ((made (n + 2), made (n + 1)) ∷ ls) mid is.2, ends-act l p step out is.1)
     ends-code l (Repeat p s) n ls next is =
         omega (arith, ends-code l s (n + 3) ((made (n + 2), made (n + 1)) ∷ ls) (here (made (n + 1)) p ∷ jump p (made n) ∷ here (made (n + 2)) p ∷ next) is)
@@ -195,8 +195,8 @@ module _ (made : ℕ → ℕ) (spare : Text) where
         omega (arith, ends-code l s (n + 2) ((made (n + 1), made n) ∷ ls) (here (made n) p ∷ here (made (n + 1)) p ∷ next) is)
     ends-code l (Switch p e cs) n ls next is =
         let last = here (made n) p ∷ next in
-        let all = bodies made spare cs (n + 1) (made n) ls last in
-        omega (arith, ends-tests l cs (n + 1) (jump p (default_label made spare cs (n + 1) (made n)) ∷ all), ends-bodies l cs (n + 1) (made n) ls last is)
+        let all = bodies made spare own cs (n + 1) (made n) ls last in
+        omega (arith, ends-tests l cs (n + 1) (jump p (default_label made spare own cs (n + 1) (made n)) ∷ all), ends-bodies l cs (n + 1) (made n) ls last is)
     ends-code l (Break p k) n ls next is = omega arith
     ends-code l (Next p k) n ls next is = omega arith
     ends-code l (ratfor_tree.Return p None) n ls next is = omega arith
@@ -204,12 +204,12 @@ module _ (made : ℕ → ℕ) (spare : Text) where
     ends-code l (Plain m p a) n ls next is = omega (arith, plain_names l a is)
     ends-code l (Labelled m p s) n ls next is = omega (arith, ends-code l s n ls next is)
 
-    pub ends-all : (l : ℕ) (ss : Commands) (n : ℕ) (ls : Rings) (next : List Line) → AreBuilt ss → ends l (all_code made spare ss n ls next) ≡ all_dos made l ss n + ends l next
+    pub ends-all : (l : ℕ) (ss : Commands) (n : ℕ) (ls : Rings) (next : List Line) → AreBuilt ss → ends l (all_code made spare own ss n ls next) ≡ all_dos made l ss n + ends l next
     ends-all l NoCommand n ls next is = omega arith
     ends-all l (AndCommand s ss) n ls next is =
-        omega (arith, ends-code l s n ls (all_code made spare ss (n + labels s) ls next) is.0, ends-all l ss (n + labels s) ls next is.1)
+        omega (arith, ends-code l s n ls (all_code made spare own ss (n + labels s) ls next) is.0, ends-all l ss (n + labels s) ls next is.1)
 
-    pub ends-bodies : (l : ℕ) (cs : Clauses) (m out : ℕ) (ls : Rings) (next : List Line) → ClausesBuilt cs → ends l (bodies made spare cs m out ls next) ≡ clause_dos made l cs m + ends l next
+    pub ends-bodies : (l : ℕ) (cs : Clauses) (m out : ℕ) (ls : Rings) (next : List Line) → ClausesBuilt cs → ends l (bodies made spare own cs m out ls next) ≡ clause_dos made l cs m + ends l next
     ends-bodies l NoClause m out ls next is = omega arith
     ends-bodies l (AndClause es d ss p cs) m out ls next is =
-        omega (arith, ends-all l ss (m + 1) ls (jump p out ∷ bodies made spare cs (m + 1 + all_labels ss) out ls next) is.0, ends-bodies l cs (m + 1 + all_labels ss) out ls next is.1)
+        omega (arith, ends-all l ss (m + 1) ls (jump p out ∷ bodies made spare own cs (m + 1 + all_labels ss) out ls next) is.0, ends-bodies l cs (m + 1 + all_labels ss) out ls next is.1)

@@ -62,7 +62,7 @@ module _ (l : Linkage) (call : ℕ → List Spot → World → Out ⊤) (IsFound
   abbrev pub S : Setting
   S = record { linked = l; call = call; begin = λ w. Gives tt (counted w); most = most; tick = tick }
 
-  abbrev twice : Sides ⊤
+  abbrev pub twice : Sides ⊤
   twice = record {
     linked1 = l;
     linked2 = l;
@@ -82,13 +82,13 @@ module _ (l : Linkage) (call : ℕ → List Spot → World → Out ⊤) (IsFound
   }
 
   -- the part on the second side is not lost
-  abbrev N : (A : Type 0) → (⊤ → World → Out A) → (World → Out A) → Type 0
+  abbrev pub N : (A : Type 0) → (⊤ → World → Out A) → (World → Out A) → Type 0
   N A m1 m2 = (w : World) → Fine Whatever (m2 w)
 
-  stores_fine : (p : Place) (q : Spot) (c : Content) (w : World) → Fine {A = ⊤} Whatever (bind (settle p (stored l q c w.state.store) w) (λ st w1. Gives tt (holding st w1)))
+  pub stores_fine : (p : Place) (q : Spot) (c : Content) (w : World) → Fine {A = ⊤} Whatever (bind (settle p (stored l q c w.state.store) w) (λ st w1. Gives tt (holding st w1)))
   stores_fine p q c w = fine_bind Whatever Whatever (settle p (stored l q c w.state.store) w) _ (fine_settle p (stored l q c w.state.store) w) (λ a _ w1. tt)
 
-  holds_fine : Holds ⊤ twice N N
+  pub holds_fine : Holds ⊤ twice N N
   holds_fine = plainly ⊤ twice N (record {
     scope = any_scope l;
     same = same_names (λ u. Any) AnySpot l;
@@ -103,13 +103,13 @@ module _ (l : Linkage) (call : ℕ → List Spot → World → Out ⊤) (IsFound
     takes = λ f ok h step w. fine_bind Whatever Whatever (settle f.there (h w.state.tape) w) (λ r w1. Gives r.0 (taping r.1 w1)) (fine_settle f.there (h w.state.tape) w) (λ a _ w1. tt);
   }) (λ A m1 m2 h w. h (ticked S w)) (λ u x v ps used e fair. finds v ps (used v e))
 
-  abbrev both : Frame → Frames
+  abbrev pub both : Frame → Frames
   both f = record { unit = f.unit; actuals = f.actuals; here = f.place; there = f.place }
 
-  free : (f : Frames) → Good twice f
+  pub free : (f : Frames) → Good twice f
   free f = record { places = tt; actuals = any_fair f.actuals }
 
-  many_fine : (n : ℕ) (f : Frames) (x : Text) (k : LoopParameters) (m2 : World → Out ⊤) → ((w : World) → Fine Whatever (m2 w)) → (w : World) → Fine Whatever (item_turns n S (two f) x k m2 w)
+  pub many_fine : (n : ℕ) (f : Frames) (x : Text) (k : LoopParameters) (m2 : World → Out ⊤) → ((w : World) → Fine Whatever (m2 w)) → (w : World) → Fine Whatever (item_turns n S (two f) x k m2 w)
   many_fine zero f x k m2 h w = tt
   many_fine (suc n) f x k m2 h w =
       fine_bind Whatever Whatever (m2 (counted w)) _ (h (counted w)) (λ _ _ w2.

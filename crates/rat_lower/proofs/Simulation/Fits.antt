@@ -10,14 +10,14 @@ use Rattle.f66_tree.specs.Syntax.{Text, Formula, Formulas, NoFormula, AndFormula
 use Rattle.f66_tree.specs.World.{World, counted, End, Ended, GoesOn, Lost, Out, Gives, Halts, bind, settle, choose, shown}
 use Rattle.f66_tree.specs.Uses.{Using, NamesBy, NamesOfAllBy, NamesOfActBy}
 use Rattle.f66_tree.specs.Execution.{past_end}
-use Rattle.f66_tree.specs.Units.{is_note, Spot, Linkage, Setting, Frame, moved_to}
-use Rattle.f66_tree.specs.Evaluation.{asked, operate, truth_in, value_of, asks}
+use Rattle.f66_tree.specs.Units.{is_note, name_of, Spot, Linkage, Setting, Frame, moved_to}
+use Rattle.f66_tree.specs.Evaluation.{asked, base, operate, truth_in, store_at, value_of, asks}
 use Rattle.f66_tree.specs.Statements.{Exit, Normal, To, Back, LoopParameters, loop_start, loop_turn, does}
 use Rattle.rat_tree.specs.Syntax.{Command, Empty, Block, If, IfElse, While, For, Repeat, RepeatUntil, Do, Switch, Break, Next, Plain, Labelled, Commands, NoCommand, AndCommand, Clauses, NoClause, AndClause}
 use Rattle.rat_tree.specs.Uses.{NamesIfAnyBy, ActIfAnyBy, NamesOfCommandBy, NamesOfCommandsBy, NamesOfClausesBy}
 use Rattle.rat_tree.specs.Meaning.{Course, Went, Jumps, Backs, Leave, Again, course_of, Flow, Continuation, went, stays, after, then_do, after_turn, turned, turns, always, has_own_label, stands, landing, landed, decides, plain_statement, passed_label, tested, performed, stepped, until, do_turns, is_case, fits_case, meaning, run_from, picked, defaulted, all_meaning, ended_by, ended}
 use Rattle.rat_lower.specs.Checked.{IsBuilt, AreBuilt, ClausesBuilt, Fits, AllFit, ClausesFit, stands_in, ActLands, ActLandsIfAny, Lands, AllLand, ClausesLand}
-use Rattle.rat_lower.proofs.Simulation.Exits.{Fine, Whatever, fine_bind, fine_settle, S, AsCalled, value_fine, asks_fine, start_fine, turn_fine, ExitLands, does_fine}
+use Rattle.rat_lower.proofs.Simulation.Exits.{Fine, Whatever, fine_bind, fine_settle, S, AsCalled, stores_fine, value_fine, asks_fine, start_fine, turn_fine, ExitLands, does_fine}
 use Rattle.rat_tree.specs.Syntax as ratfor_tree
 
 -- where d loops stand around, and these lists
@@ -95,17 +95,22 @@ module _ (l : Linkage) (call : ℕ → List Spot → World → Out ⊤) (IsFound
     decides_fits : (p : Place) (e : Formula) → NamesBy U e → (yea nay : Continuation) → ThenFits d around yea → ThenFits d around nay → ThenFits d around (decides s f p e yea nay)
     decides_fits p e used yea nay y n w = fine_bind Whatever (CourseFits d around) (asks s (moved_to p f) e w) _ (asks_fine l call IsFound finds b (λ n1. n1 + 1) (moved_to p f) e used w) (λ v _ w1. chosen_fits v w1 yea nay y n)
 
-    plainly_fits : (p : Place) (a : Act) → NamesOfActBy U a → ActLands around a → ThenFits d around (plain_statement s f p a)
-    plainly_fits p a used h w = by_note (is_note a)
+    -- a plain statement that has been counted
+    begun_fits : (p : Place) (a : Act) → NamesOfActBy U a → ActLands around a → ThenFits d around (λ w. bind (does s (moved_to p f) a w) (λ y w1. Gives (course_of y) w1))
+    begun_fits p a used h w =
+        fine_bind (ExitLands l call IsFound finds b (λ n1. n1 + 1) around) (CourseFits d around) (does s (moved_to p f) a w) (λ y w1. Gives (course_of y) w1) (does_fine l call IsFound finds b (λ n1. n1 + 1) around (moved_to p f) a used w h) exits
       where
         exits : (y : Exit) → ExitLands l call IsFound finds b (λ n1. n1 + 1) around y → (w1 : World) → CourseFits d around (course_of y)
         exits Normal ok w1 = tt
         exits (To m) ok w1 = ok
         exits Back ok w1 = tt
 
+    plainly_fits : (p : Place) (a : Act) → NamesOfActBy U a → ActLands around a → ThenFits d around (plain_statement s f p a)
+    plainly_fits p a used h w = by_note (is_note a)
+      where
         by_note : (v : Bool) → Fine (CourseFits d around) (if v then Gives Went w else bind (does s (moved_to p f) a (counted w)) (λ y w1. Gives (course_of y) w1))
         by_note true = tt
-        by_note false = fine_bind (ExitLands l call IsFound finds b (λ n1. n1 + 1) around) (CourseFits d around) (does s (moved_to p f) a (counted w)) (λ y w1. Gives (course_of y) w1) (does_fine l call IsFound finds b (λ n1. n1 + 1) around (moved_to p f) a used (counted w) h) exits
+        by_note false = begun_fits p a used h (counted w)
 
     labelled_fits : (o : Option ℕ) (p : Place) (a : Act) → NamesOfActBy U a → ActLands around a → ThenFits d around (passed_label s f o p a)
     labelled_fits None p a used h w = plainly_fits p a used h w
@@ -182,7 +187,10 @@ module _ (l : Linkage) (call : ℕ → List Spot → World → Out ⊤) (IsFound
     meaning_fits (Next p zero) used d around bu fi la w = absurd (omega (arith, fi.0))
     meaning_fits (Next p (suc n)) used d around bu fi la w = fi.1
     meaning_fits (ratfor_tree.Return p None) used d around bu fi la w = plainly_fits d around p Return tt tt w
-    meaning_fits (ratfor_tree.Return p (Some e)) used d around bu fi la w = absurd bu
+    meaning_fits (ratfor_tree.Return p (Some e)) used d around bu fi la w =
+        fine_bind Whatever (CourseFits d around) (settle p (base s f (name_of (l.context f.unit).header)) (counted w)) _ (fine_settle p (base s f (name_of (l.context f.unit).header)) (counted w)) (λ q _ w1.
+        fine_bind Whatever (CourseFits d around) (value_of s (moved_to p f) e w1) _ (value_fine l call IsFound finds b (λ n1. n1 + 1) (moved_to p f) e used w1) (λ v _ w2.
+        fine_bind Whatever (CourseFits d around) (store_at s (moved_to p f) q v w2) _ (stores_fine l call IsFound finds b (λ n1. n1 + 1) p q v w2) (λ _ _ w3. begun_fits d around p Return tt tt w3)))
     meaning_fits (Plain o p a) used d around bu fi la w = labelled_fits d around o p a used la w
     meaning_fits (Labelled m p c) used d around bu fi la w = meaning_fits c used d around bu fi la (counted w)
 

@@ -1,7 +1,7 @@
 -- From one statement of a unit to another the target follows the source. Follows says where a part t of the target comes to,
 -- from a state that the source has too: if the source goes on, t comes to the statements next; if it goes to a label, to the
 -- statements from there; if it leaves or turns a loop, to the label that the rings give. On the way it has begun d
--- statements, d + x at most 32 times the work: x is what was begun before, and slack. A jump has begun at least j, and a
+-- statements, d + x at most 32 times the work, and one more where the run ends: x is what was begun before, and slack. A jump has begun at least j, and a
 -- source that stops at its bound at least b. DO loops from the key top on keep what they have, and spare units those of
 -- greater rank.
 use Rattle.std.proofs.Common.{◌≡◌, ℕ, zero, suc, ◌+◌, ◌*◌, ◌≤◌, ◌<◌, List, [], ◌∷◌, refl, ap, ◌∙◌, subst, arith}
@@ -12,11 +12,11 @@ use Rattle.f66_tree.specs.World.{Store, State, World, Ended, GoesOn, Lost, Out, 
 use Rattle.f66_tree.specs.Units.{Spot, Setting, moved_to}
 use Rattle.f66_tree.specs.Execution.{stand, Progress, from_label, closers, close, target, exec}
 use Rattle.f66_tree.proofs.Posts.{AllFair}
-use Rattle.f66_tree.proofs.Comes.{at, still, Part, Comes, comes_here, comes_on, one}
+use Rattle.f66_tree.proofs.Comes.{at, Part, Comes, comes_here, comes_on, one}
 use Rattle.rat_tree.specs.Meaning.{Went, Jumps, Backs, Leave, Again, Flow, Continuation, then_do, turned}
 use Rattle.rat_lower.specs.Code.{Rings, label_behind, label_again, jump, here}
 use Rattle.rat_lower.proofs.Simulation.Spared.{Lowering, spared, near, Kept, kept_self, kept_on, kept_more, own_rank, code, F}
-use Rattle.rat_lower.proofs.Simulation.Tracks.{Tracks, TW, same_fuel}
+use Rattle.rat_lower.proofs.Simulation.Tracks.{Tracks, same_fuel, Answers}
 
 -- what the target has besides the source's state: its DO loops in progress, and what the spare units hold
 pub record Extra : Type 0 where
@@ -60,7 +60,7 @@ module _ (g : Lowering) where
   -- what calls do in the source, where the target follows those of units of lesser rank
   pub record Calls (b : ℕ) : Type 0 where
     pub does : ℕ → List Spot → World → Out ⊤
-    pub track : (u : ℕ) (ps : List Spot) → g.rank u < own_rank g → AllFair g.Fair ps → TW ℕ same_fuel g b ⊤ (λ n. (Under n).call u ps) (does u ps)
+    pub track : (u : ℕ) (ps : List Spot) → g.rank u < own_rank g → AllFair g.Fair ps → (v : Store) (w : World) (x : ℕ) → x ≤ 32 * w.count → Answers ℕ same_fuel g b v w.state w.count x (λ n. (Under n).call u ps) (does u ps w)
 
   -- what a flow of the source says of the part t, where next comes after it
   abbrev pub FollowsBy : (j b top : ℕ) (ls : Rings) (pr : Extra) (t : Part) (s : State) (x : ℕ) (next : List Line) → Flow → Type 0
@@ -69,8 +69,8 @@ module _ (g : Lowering) where
   FollowsBy j b top ls pr t s x next (Gives (Leave k) w) = (d : ℕ) × (d + x ≤ 32 * w.count) × (pr1 : Extra) × Keeps g top pr pr1 × Comes t s (Run (from_label (label_behind ls k) (code g)) pr1) w.state d
   FollowsBy j b top ls pr t s x next (Gives (Again k) w) = (d : ℕ) × (d + x ≤ 32 * w.count) × (pr1 : Extra) × Keeps g top pr pr1 × Comes t s (Run (from_label (label_again ls k) (code g)) pr1) w.state d
   FollowsBy j b top ls pr t s x next (Gives Backs w) = (d : ℕ) × (d + x ≤ 32 * w.count) × (v : Store) × Kept g (1 + own_rank g) pr.spare v × ((n k c : ℕ) → d + k < n → t n (at s (d + k) c) ≡ Gives tt (near g v w.state k (c + d)))
-  FollowsBy j b top ls pr t s x next (Halts (Ended e) w) = (d : ℕ) × (d + x ≤ 32 * w.count) × (v : Store) × ((n k c : ℕ) → d + k < n → t n (at s (d + k) c) ≡ Halts (Ended e) (near g v w.state k (c + d)))
-  FollowsBy j b top ls pr t s x next (Halts GoesOn w) = (d : ℕ) × (d + x ≤ 32 * w.count) × (b ≤ d) × (v : Store) × ((n c : ℕ) → d < n → t n (at s d c) ≡ Halts GoesOn (near g v w.state 0 (c + d)))
+  FollowsBy j b top ls pr t s x next (Halts (Ended e) w) = (d : ℕ) × (d + x ≤ 1 + 32 * w.count) × (v : Store) × ((n k c : ℕ) → d + k < n → t n (at s (d + k) c) ≡ Halts (Ended e) (near g v w.state k (c + d)))
+  FollowsBy j b top ls pr t s x next (Halts GoesOn w) = (d : ℕ) × (d + x ≤ 1 + 32 * w.count) × (b ≤ d) × (v : Store) × ((n c : ℕ) → d < n → t n (at s d c) ≡ Halts GoesOn (near g v w.state 0 (c + d)))
   FollowsBy j b top ls pr t s x next (Halts Lost w) = ⊤
 
   pub record Follows (j b top : ℕ) (ls : Rings) (pr : Extra) (t : Part) (s : State) (x : ℕ) (next : List Line) (o : Flow) : Type 0 where

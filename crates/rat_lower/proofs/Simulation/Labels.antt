@@ -124,24 +124,24 @@ starts_act : (p : Place) (o : Option Act) (next : List Line) → Starts next →
 starts_act p None next h = h
 starts_act p (Some a) next h = starts_line _ next h
 
-module _ (made : ℕ → ℕ) (spare : Text) where
-  pub within_tests : (cs : Clauses) (m : ℕ) (next : List Line) → Within next (tests made spare cs m next)
+module _ (made : ℕ → ℕ) (spare own : Text) where
+  pub within_tests : (cs : Clauses) (m : ℕ) (next : List Line) → Within next (tests made spare own cs m next)
   within_tests NoClause m next = within_self next
-  within_tests (AndClause es d ss p cs) m next = within_in (within_tests cs (m + 1 + all_labels ss) next) (within_each spare p es (made m) (tests made spare cs (m + 1 + all_labels ss) next))
+  within_tests (AndClause es d ss p cs) m next = within_in (within_tests cs (m + 1 + all_labels ss) next) (within_each spare p es (made m) (tests made spare own cs (m + 1 + all_labels ss) next))
 
   mutual
-    pub within_code : (s : Command) (n : ℕ) (ls : Rings) (next : List Line) → Within next (code_of made spare s n ls next)
+    pub within_code : (s : Command) (n : ℕ) (ls : Rings) (next : List Line) → Within next (code_of made spare own s n ls next)
     within_code (Empty p) n ls next = within_self next
     within_code (Block p ss) n ls next = within_all ss n ls next
     within_code (If p e s) n ls next = within_cons _ (within_in (within_cons _ (within_self next)) (within_code s (n + 1) ls (here (made n) p ∷ next)))
     within_code (IfElse p e s t) n ls next =
-        within_cons _ (within_in (within_cons _ (within_cons _ (within_in (within_cons _ (within_self next)) (within_code t (n + 2 + labels s) ls (here (made (n + 1)) p ∷ next))))) (within_code s (n + 2) ls (jump p (made (n + 1)) ∷ here (made n) p ∷ code_of made spare t (n + 2 + labels s) ls (here (made (n + 1)) p ∷ next))))
+        within_cons _ (within_in (within_cons _ (within_cons _ (within_in (within_cons _ (within_self next)) (within_code t (n + 2 + labels s) ls (here (made (n + 1)) p ∷ next))))) (within_code s (n + 2) ls (jump p (made (n + 1)) ∷ here (made n) p ∷ code_of made spare own t (n + 2 + labels s) ls (here (made (n + 1)) p ∷ next))))
     within_code (While p e s) n ls next =
         within_cons _ (within_cons _ (within_in (within_cons _ (within_cons _ (within_cons _ (within_self next)))) (within_code s (n + 3) ((made (n + 2), made (n + 1)) ∷ ls) (here (made (n + 1)) p ∷ jump p (made n) ∷ here (made (n + 2)) p ∷ next))))
     within_code (For p first e step s) n ls next =
         let out = jump p (made n) ∷ here (made (n + 2)) p ∷ next in
         let mid = here (made (n + 1)) p ∷ with_act p step out in
-        let inner = code_of made spare s (n + 3) ((made (n + 2), made (n + 1)) ∷ ls) mid in
+        let inner = code_of made spare own s (n + 3) ((made (n + 2), made (n + 1)) ∷ ls) mid in
         let a : Within next mid = within_cons _ (within_in (within_cons _ (within_cons _ (within_self next))) (within_act p step out)) in
         let b = within_in a (within_code s (n + 3) ((made (n + 2), made (n + 1)) ∷ ls) mid) in
         within_in (within_cons (here (made n) p) (within_in b (within_test p e (made (n + 2)) inner))) (within_act p first (here (made n) p ∷ with_test p e (made (n + 2)) inner))
@@ -152,7 +152,7 @@ module _ (made : ℕ → ℕ) (spare : Text) where
     within_code (Do p x a b c s) n ls next =
         within_cons _ (within_in (within_cons _ (within_cons _ (within_self next))) (within_code s (n + 2) ((made (n + 1), made n) ∷ ls) (here (made n) p ∷ here (made (n + 1)) p ∷ next)))
     within_code (Switch p e cs) n ls next =
-        within_cons _ (within_in (within_cons _ (within_in (within_cons _ (within_self next)) (within_bodies cs (n + 1) (made n) ls (here (made n) p ∷ next)))) (within_tests cs (n + 1) (jump p (default_label made spare cs (n + 1) (made n)) ∷ bodies made spare cs (n + 1) (made n) ls (here (made n) p ∷ next))))
+        within_cons _ (within_in (within_cons _ (within_in (within_cons _ (within_self next)) (within_bodies cs (n + 1) (made n) ls (here (made n) p ∷ next)))) (within_tests cs (n + 1) (jump p (default_label made spare own cs (n + 1) (made n)) ∷ bodies made spare own cs (n + 1) (made n) ls (here (made n) p ∷ next))))
     within_code (Break p k) n ls next = within_cons _ (within_self next)
     within_code (Next p k) n ls next = within_cons _ (within_self next)
     within_code (ratfor_tree.Return p None) n ls next = within_cons _ (within_self next)
@@ -160,17 +160,17 @@ module _ (made : ℕ → ℕ) (spare : Text) where
     within_code (Plain m p a) n ls next = within_cons _ (within_self next)
     within_code (Labelled m p s) n ls next = within_cons _ (within_code s n ls next)
 
-    pub within_all : (ss : Commands) (n : ℕ) (ls : Rings) (next : List Line) → Within next (all_code made spare ss n ls next)
+    pub within_all : (ss : Commands) (n : ℕ) (ls : Rings) (next : List Line) → Within next (all_code made spare own ss n ls next)
     within_all NoCommand n ls next = within_self next
-    within_all (AndCommand s ss) n ls next = within_in (within_all ss (n + labels s) ls next) (within_code s n ls (all_code made spare ss (n + labels s) ls next))
+    within_all (AndCommand s ss) n ls next = within_in (within_all ss (n + labels s) ls next) (within_code s n ls (all_code made spare own ss (n + labels s) ls next))
 
-    pub within_bodies : (cs : Clauses) (m out : ℕ) (ls : Rings) (next : List Line) → Within next (bodies made spare cs m out ls next)
+    pub within_bodies : (cs : Clauses) (m out : ℕ) (ls : Rings) (next : List Line) → Within next (bodies made spare own cs m out ls next)
     within_bodies NoClause m out ls next = within_self next
     within_bodies (AndClause es d ss p cs) m out ls next =
-        within_cons _ (within_in (within_cons _ (within_bodies cs (m + 1 + all_labels ss) out ls next)) (within_all ss (m + 1) ls (jump p out ∷ bodies made spare cs (m + 1 + all_labels ss) out ls next)))
+        within_cons _ (within_in (within_cons _ (within_bodies cs (m + 1 + all_labels ss) out ls next)) (within_all ss (m + 1) ls (jump p out ∷ bodies made spare own cs (m + 1 + all_labels ss) out ls next)))
 
   mutual
-    pub starts_code : (s : Command) (n : ℕ) (ls : Rings) (next : List Line) → Starts next → Starts (code_of made spare s n ls next)
+    pub starts_code : (s : Command) (n : ℕ) (ls : Rings) (next : List Line) → Starts next → Starts (code_of made spare own s n ls next)
     starts_code (Empty p) n ls next h = h
     starts_code (Block p ss) n ls next h = starts_all ss n ls next h
     starts_code (If p e s) n ls next h = (_, _, refl)
@@ -188,7 +188,7 @@ module _ (made : ℕ → ℕ) (spare : Text) where
     starts_code (Plain m p a) n ls next h = starts_line _ next h
     starts_code (Labelled m p s) n ls next h = (_, _, refl)
 
-    pub starts_all : (ss : Commands) (n : ℕ) (ls : Rings) (next : List Line) → Starts next → Starts (all_code made spare ss n ls next)
+    pub starts_all : (ss : Commands) (n : ℕ) (ls : Rings) (next : List Line) → Starts next → Starts (all_code made spare own ss n ls next)
     starts_all NoCommand n ls next h = h
     starts_all (AndCommand s ss) n ls next h = starts_code s n ls _ (starts_all ss (n + labels s) ls next h)
 

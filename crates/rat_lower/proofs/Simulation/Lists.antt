@@ -7,14 +7,16 @@ use Rattle.f66_tree.specs.Syntax.{Text, Line}
 use Rattle.f66_tree.specs.World.{State, World, counted, Ended, GoesOn, Lost, Gives, Halts}
 use Rattle.f66_tree.specs.Units.{is_note}
 use Rattle.f66_tree.specs.Execution.{has_label, runnable, from_label, closers}
-use Rattle.f66_tree.proofs.Comes.{Part, Comes, comes_on}
+use Rattle.f66_tree.proofs.Comes.{at, Part, Comes, comes_on, none_begun}
 use Rattle.rat_tree.specs.Syntax.{Command, Empty, Block, If, IfElse, While, For, Repeat, RepeatUntil, Do, Switch, Break, Next, Return, Plain, Labelled, Commands, NoCommand, AndCommand}
 use Rattle.rat_tree.specs.Meaning.{Went, Jumps, Backs, Leave, Again, Flow, went, then_do, has_own_label, stands, landed, fits_case, meaning, run_from}
 use Rattle.rat_lower.specs.Code.{Rings, here, labels}
-use Rattle.rat_lower.proofs.Simulation.Spared.{Lowering, code}
+use Rattle.rat_lower.proofs.Simulation.Spared.{Lowering, own_name, code}
 use Rattle.rat_lower.proofs.Simulation.Follows.{Extra, keeps_self, Calls, first, weaker, then_follows, past_here}
 use Rattle.rat_lower.proofs.Simulation.Counts.{ends, all_heads}
 use Rattle.rat_lower.proofs.Simulation.Labels.{AreUnique, Within, within_in, within_code, found, found_line, longer_in, Starts}
+use Rattle.rat_lower.proofs.Simulation.Idle.{idle, all_idle, credit, first_idle, rest_idle}
+use Rattle.rat_lower.proofs.Simulation.Parts.{note_skipped, note_means}
 use Rattle.rat_lower.proofs.Simulation.Words.{words}
 use Rattle.rat_lower.proofs.Simulation.Loops.{waits}
 
@@ -43,8 +45,8 @@ module _ (g : Lowering) (b : ℕ) (call : Calls g b) (made : ℕ → ℕ) (spare
   marked_at q (Next p k) n ls next is has = absurd (true≢false (sym is))
   marked_at q (Return p e) n ls next is has = absurd (true≢false (sym is))
 
-  within_rest : (s : Command) (ss : Commands) (n : ℕ) (ls : Rings) (next : List Line) → Within (acd (AndCommand s ss) n ls next) co → Within (acd ss (n + labels s) ls next) co
-  within_rest s ss n ls next has = within_in (within_code made spare s n ls (acd ss (n + labels s) ls next)) has
+  pub within_rest : (s : Command) (ss : Commands) (n : ℕ) (ls : Rings) (next : List Line) → Within (acd (AndCommand s ss) n ls next) co → Within (acd ss (n + labels s) ls next) co
+  within_rest s ss n ls next has = within_in (within_code made spare (own_name g) s n ls (acd ss (n + labels s) ls next)) has
 
   stands_at : (q : ℕ) (ss : Commands) (n : ℕ) (ls : Rings) (next : List Line) → stands q ss ≡ true → Within (acd ss n ls next) co → Starts (from_label q co)
   stands_at q NoCommand n ls next is has = absurd (true≢false (sym is))
@@ -58,7 +60,7 @@ module _ (g : Lowering) (b : ℕ) (call : Calls g b) (made : ℕ → ℕ) (spare
   smaller {m} o le h = weaker g {b1 = b} o (omega arith) le (omega arith) h
 
   -- at most k jumps within a list
-  landed_follows : (ss : Commands) (n : ℕ) (ls : Rings) (next : List Line) → Within (acd ss n ls next) co → ((q : ℕ) → ends q co + all_heads made q ss n ≤ 1) → (top : ℕ) → length (acd ss n ls next) ≤ top → FromRight ss →
+  pub landed_follows : (ss : Commands) (n : ℕ) (ls : Rings) (next : List Line) → Within (acd ss n ls next) co → ((q : ℕ) → ends q co + all_heads made q ss n ≤ 1) → (top : ℕ) → length (acd ss n ls next) ≤ top → FromRight ss →
       (k : ℕ) → k ≤ b → (o : Flow) {x : ℕ} {pr : Extra} {t : Part} {s : State} → Fo b top ls pr t s x next o → Fo k top ls pr t s x next (landed k ss (λ q. run_from So f0 b ss (Some q)) o)
   landed_follows ss n ls next has clear top fits_case from zero le (Gives Went w) h = smaller (Gives Went w) le h
   landed_follows ss n ls next has clear top fits_case from (suc k) le (Gives Went w) h = smaller (Gives Went w) le h
@@ -108,7 +110,60 @@ module _ (g : Lowering) (b : ℕ) (call : Calls g b) (made : ℕ → ℕ) (spare
   more_right s ss r rs n ls next has clear top fits_case pr w x le =
       let rest = acd ss (n + labels s) ls next in
       then_follows g {b = b} 0 (meaning So f0 b s w) (run_from So f0 b ss None) (omega arith) (r n ls rest has (λ q. omega (arith, clear q)) top fits_case pr w (0 + x) (omega arith))
-      (λ pr1 w1 x1 kp le1. rs (n + labels s) ls next (within_rest s ss n ls next has) (λ q. omega (arith, clear q)) top (omega (arith, fits_case, longer_in (within_code made spare s n ls rest))) pr1 w1 x1 (omega arith))
+      (λ pr1 w1 x1 kp le1. rs (n + labels s) ls next (within_rest s ss n ls next has) (λ q. omega (arith, clear q)) top (omega (arith, fits_case, longer_in (within_code made spare (own_name g) s n ls rest))) pr1 w1 x1 (omega arith))
+
+  -- from a list whose first statement is executed on, one statement more may have begun before
+  pub active_more : (s : Command) (ss : Commands) → Right s → AllRight ss → idle s ≡ false → (n : ℕ) (ls : Rings) (next : List Line) → Within (acd (AndCommand s ss) n ls next) co → ((q : ℕ) → ends q co + all_heads made q (AndCommand s ss) n ≤ 1) → (top : ℕ) → length (acd (AndCommand s ss) n ls next) ≤ top →
+      (pr : Extra) (w : World) (x : ℕ) → x ≤ 32 * w.count → Fo b top ls pr (R (acd (AndCommand s ss) n ls next) pr) w.state (1 + x) next (run_from So f0 b (AndCommand s ss) None w)
+  active_more s ss r rs is n ls next has clear top fits_case pr w x le =
+      let rest = acd ss (n + labels s) ls next in
+      then_follows g {b = b} 0 (meaning So f0 b s w) (run_from So f0 b ss None) (omega arith) (r n ls rest has (λ q. omega (arith, clear q)) top fits_case pr w (0 + (1 + x)) (omega (arith, le, ap credit is)))
+      (λ pr1 w1 x1 kp le1. rs (n + labels s) ls next (within_rest s ss n ls next has) (λ q. omega (arith, clear q)) top (omega (arith, fits_case, longer_in (within_code made spare (own_name g) s n ls rest))) pr1 w1 x1 (omega arith))
+
+  -- one that is not executed is passed over
+  pub idle_means : (s : Command) → idle s ≡ true → (w : World) → meaning So f0 b s w ≡ Gives Went w
+  idle_means (Plain m p a) is w = note_means g b call m p a w is
+  idle_means (Labelled m p s) is w = absurd (true≢false (sym is))
+  idle_means (Empty p) is w = absurd (true≢false (sym is))
+  idle_means (Block p ss) is w = absurd (true≢false (sym is))
+  idle_means (If p e s) is w = absurd (true≢false (sym is))
+  idle_means (IfElse p e s t) is w = absurd (true≢false (sym is))
+  idle_means (While p e s) is w = absurd (true≢false (sym is))
+  idle_means (For p i e j s) is w = absurd (true≢false (sym is))
+  idle_means (Repeat p s) is w = absurd (true≢false (sym is))
+  idle_means (RepeatUntil p s e r) is w = absurd (true≢false (sym is))
+  idle_means (Do p y a z d s) is w = absurd (true≢false (sym is))
+  idle_means (Switch p e cs) is w = absurd (true≢false (sym is))
+  idle_means (Break p k) is w = absurd (true≢false (sym is))
+  idle_means (Next p k) is w = absurd (true≢false (sym is))
+  idle_means (Return p e) is w = absurd (true≢false (sym is))
+
+  idle_code : (s : Command) → idle s ≡ true → (n : ℕ) (ls : Rings) (next : List Line) (pr : Extra) (s1 : State) → (i k c : ℕ) → R (cd s n ls next) pr i (at s1 k c) ≡ R next pr i (at s1 k c)
+  idle_code (Plain m p a) is n ls next pr s1 = note_skipped g b call m p a next pr s1 is
+  idle_code (Labelled m p s) is n ls next pr s1 = absurd (true≢false (sym is))
+  idle_code (Empty p) is n ls next pr s1 = absurd (true≢false (sym is))
+  idle_code (Block p ss) is n ls next pr s1 = absurd (true≢false (sym is))
+  idle_code (If p e s) is n ls next pr s1 = absurd (true≢false (sym is))
+  idle_code (IfElse p e s t) is n ls next pr s1 = absurd (true≢false (sym is))
+  idle_code (While p e s) is n ls next pr s1 = absurd (true≢false (sym is))
+  idle_code (For p i e j s) is n ls next pr s1 = absurd (true≢false (sym is))
+  idle_code (Repeat p s) is n ls next pr s1 = absurd (true≢false (sym is))
+  idle_code (RepeatUntil p s e r) is n ls next pr s1 = absurd (true≢false (sym is))
+  idle_code (Do p y a z d s) is n ls next pr s1 = absurd (true≢false (sym is))
+  idle_code (Switch p e cs) is n ls next pr s1 = absurd (true≢false (sym is))
+  idle_code (Break p k) is n ls next pr s1 = absurd (true≢false (sym is))
+  idle_code (Next p k) is n ls next pr s1 = absurd (true≢false (sym is))
+  idle_code (Return p e) is n ls next pr s1 = absurd (true≢false (sym is))
+
+  pub all_idle_means : (ss : Commands) → all_idle ss ≡ true → (w : World) → run_from So f0 b ss None w ≡ Gives Went w
+  all_idle_means NoCommand is w = refl
+  all_idle_means (AndCommand s ss) is w = ap (λ o. then_do o (run_from So f0 b ss None)) (idle_means s (first_idle (idle s) (all_idle ss) is) w) ∙ all_idle_means ss (rest_idle (idle s) (all_idle ss) is) w
+
+  pub idle_more : (s : Command) (ss : Commands) → idle s ≡ true → (n : ℕ) (ls : Rings) (next : List Line) (top : ℕ) (pr : Extra) (w : World) (x : ℕ) →
+      Fo b top ls pr (R (acd ss (n + labels s) ls next) pr) w.state x next (run_from So f0 b ss None w) → Fo b top ls pr (R (acd (AndCommand s ss) n ls next) pr) w.state x next (run_from So f0 b (AndCommand s ss) None w)
+  idle_more s ss is n ls next top pr w x h =
+      subst (λ o. Fo b top ls pr (R (acd (AndCommand s ss) n ls next) pr) w.state x next (then_do o (run_from So f0 b ss None))) (sym (idle_means s is w))
+      (first g {j1 = 1} {b1 = b} {x1 = x} (run_from So f0 b ss None w) (keeps_self g top pr) (none_begun (R (acd (AndCommand s ss) n ls next) pr) (R (acd ss (n + labels s) ls next) pr) w.state (idle_code s is n ls (acd ss (n + labels s) ls next) pr w.state)) (omega arith) (omega arith) (omega arith) h)
 
   pub from_more : (s : Command) (ss : Commands) → Right s → AllRight ss → FromRight ss → FromRight (AndCommand s ss)
   from_more s ss r rs from q is n ls next has clear top fits_case pr w x le = go (has_own_label q s) refl
@@ -122,7 +177,7 @@ module _ (g : Lowering) (b : ℕ) (call : Calls g b) (made : ℕ → ℕ) (spare
           subst (λ z. Fo b top ls pr (R z pr) w.state x next (then_do (meaning So f0 b s w) (run_from So f0 b ss None))) (sym a.0) (more_right s ss r rs n ls next has clear top fits_case pr w x le)
       go false e =
           let is1 : stands q ss ≡ true = sym (ap (λ v. v || stands q ss) e) ∙ is in
-          from q is1 (n + labels s) ls next (within_rest s ss n ls next has) (λ q1. omega (arith, clear q1)) top (omega (arith, fits_case, longer_in (within_code made spare s n ls rest))) pr w x le
+          from q is1 (n + labels s) ls next (within_rest s ss n ls next has) (λ q1. omega (arith, clear q1)) top (omega (arith, fits_case, longer_in (within_code made spare (own_name g) s n ls rest))) pr w x le
 
   pub together_right : (p : Place) (ss : Commands) → AllRight ss → FromRight ss → Right (Block p ss)
   together_right p ss r from n ls next has clear top fits_case pr w x le = list_right ss r from n ls next has clear top fits_case pr (counted w) x (omega arith)

@@ -13,7 +13,8 @@ use Rattle.rat_tree.specs.Uses.{NamesIfAnyBy, ActIfAnyBy}
 use Rattle.rat_lower.specs.Code.{Rings, jump, unless, here, with_test, with_act}
 use Rattle.rat_lower.specs.Checked.{IsPlainIfAny}
 use Rattle.rat_lower.proofs.Simulation.Spared.{Lowering, near, spared, code, F, Own}
-use Rattle.rat_lower.proofs.Simulation.Tracks.{fewer, same_fuel, track_turn}
+use Rattle.rat_lower.proofs.Simulation.Tracks.{fewer, same_fuel}
+use Rattle.rat_lower.proofs.Simulation.Values.{track_turn}
 use Rattle.rat_lower.proofs.Simulation.Follows.{Extra, spare_as, Keeps, keeps_self, Calls, Raw, Run, Under, Follows, first, bind_follows, past_jump, past_here, turned_follows}
 use Rattle.rat_lower.proofs.Simulation.Parts.{Src, unless_follows, tested_follows, performed_follows}
 use Rattle.rat_lower.proofs.Simulation.Labels.{Starts}

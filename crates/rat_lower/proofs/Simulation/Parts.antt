@@ -7,7 +7,7 @@ use Rattle.ground.specs.Content.{Content, Nothing, Whole, Truth}
 use Rattle.f66_tree.specs.declared.expression.Operator.TheVariants.{Eq}
 use Rattle.f66_tree.specs.Syntax.{Text, Act, Assign, Goto, Computed, Sign, When, Loop, Invoke, Continue, Stop, Return, Read, Write, Format, Typed, Dimension, Common, Equivalence, Preset, Formula, Ref, Line, unlabelled_line}
 use Rattle.f66_tree.specs.World.{Store, State, World, counted, put_in, holding, Out, Gives, Halts, bind, Try, Yields, Traps, Fails, settle, choose}
-use Rattle.f66_tree.specs.Units.{is_note, position, dummies_of, kind_of, Held, Setting, Frame, moved_to}
+use Rattle.f66_tree.specs.Units.{is_note, position, dummies_of, kind_of, Spot, Held, Setting, Frame, moved_to}
 use Rattle.f66_tree.specs.Uses.{NamesBy, NamesOfActBy}
 use Rattle.f66_tree.specs.Evaluation.{base_by, load, asked, operate, denied, truth_in, variable_in, store_at, value_of, asks}
 use Rattle.f66_tree.specs.Statements.{Exit, Normal, To, Back, does}
@@ -19,12 +19,21 @@ use Rattle.rat_tree.specs.Uses.{NamesIfAnyBy, ActIfAnyBy}
 use Rattle.rat_lower.specs.Code.{Rings, unless, with_test, with_act, case_test}
 use Rattle.rat_lower.specs.Checked.{IsPlain, IsPlainIfAny}
 use Rattle.rat_lower.proofs.Simulation.Spared.{Lowering, over, read_spare, put_spare, near, still_near, spared, Kept, own_rank, code, F, Own, Source}
-use Rattle.rat_lower.proofs.Simulation.Tracks.{fewer, same_fuel, track_value, track_asks, track_does, track_case}
+use Rattle.rat_lower.proofs.Simulation.Tracks.{fewer, same_fuel}
+use Rattle.rat_lower.proofs.Simulation.Values.{track_value, track_asks, track_does, track_case}
+use Rattle.rat_lower.proofs.Simulation.Idle.{credit}
 use Rattle.rat_lower.proofs.Simulation.Follows.{Extra, spare_as, Keeps, keeps_self, keeps_on, keeps_spares, Calls, Raw, Run, Under, Follows, first, bind_follows, then_follows, past_jump}
 
-bind_assoc : {A B C : Type 0} (o : Out A) (h : A → World → Out B) (k : B → World → Out C) → bind (bind o h) k ≡ bind o (λ a w. bind (h a w) k)
+pub bind_assoc : {A B C : Type 0} (o : Out A) (h : A → World → Out B) (k : B → World → Out C) → bind (bind o h) k ≡ bind o (λ a w. bind (h a w) k)
 bind_assoc (Gives a w) h k = refl
 bind_assoc (Halts e w) h k = refl
+
+-- a value is stored, and then comes what follows
+pub stored_then : {B C : Type 0} (p : Place) (o : Try Spot) (h : Spot → World → Out Content) (k : Spot → Content → World → Out B) (go : B → World → Out C) (w : World) →
+    bind (bind (settle p o w) (λ q w1. bind (h q w1) (λ a w2. k q a w2))) go ≡ bind (settle p o w) (λ q w1. bind (h q w1) (λ a w2. bind (k q a w2) go))
+stored_then p (Yields q) h k go w = bind_assoc (h q w) (k q) go
+stored_then p (Traps t) h k go w = refl
+stored_then p Fails h k go w = refl
 
 -- a condition that is denied
 flip : {B : Type 0} (p : Place) (o : Out Content) (K : Bool → World → Out B) → bind (bind (bind o (λ x w1. settle p (denied x) w1)) (λ v w1. settle p (truth_in v) w1)) (λ y w1. K y w1) ≡ bind (bind o (λ v w1. settle p (truth_in v) w1)) (λ y w1. K (not y) w1)
@@ -84,14 +93,15 @@ module _ (g : Lowering) (b : ℕ) (call : Calls g b) where
   tested_follows {top = top} {pr = pr} z p None q w yea nay used few le hy hn = hy pr w _ (keeps_self g top pr) (omega arith)
   tested_follows z p (Some e) q w yea nay used few le hy hn = unless_follows z p e q w yea nay used few le hy hn
 
-  does_follows : {top x : ℕ} {ls : Rings} {pr : Extra} {next : List Line} (o : Option ℕ) (p : Place) (a : Act) (w : World) → NamesOfActBy (Own g) a → closers_at o (code g) ≡ [] → 2 + x ≤ 32 * (w.count + 1) →
+  -- a plain statement that has been counted
+  pub does_follows : {top x : ℕ} {ls : Rings} {pr : Extra} {next : List Line} (o : Option ℕ) (p : Place) (a : Act) (w : World) → NamesOfActBy (Own g) a → closers_at o (code g) ≡ [] → 2 + x ≤ 32 * w.count →
       ((n k c : ℕ) → R (record { label = o; place = p; act = a } ∷ next) pr (suc n) (at w.state (suc k) c) ≡ bind (does (U n) (moved_to p f0) a (near g pr.spare w.state k (c + 1))) (λ y w2. leads (U n) (moved_to p f0) (code g) o next (exec g.target g.codes n f0) pr.loops y w2)) →
-      Fo 1 b top ls pr (R (record { label = o; place = p; act = a } ∷ next) pr) w.state x next (bind (does Src (moved_to p f0) a (counted w)) (λ y w1. Gives (course_of y) w1))
+      Fo 1 b top ls pr (R (record { label = o; place = p; act = a } ∷ next) pr) w.state x next (bind (does Src (moved_to p f0) a w) (λ y w1. Gives (course_of y) w1))
   does_follows {top} {x} {ls} {pr} {next} o p a w used ends le is =
-      first g {j1 = 0} {b1 = b} {x1 = 1 + x} (bind (does Src (moved_to p f0) a (counted w)) (λ y w1. Gives (course_of y) w1)) (keeps_self g top pr)
+      first g {j1 = 0} {b1 = b} {x1 = 1 + x} (bind (does Src (moved_to p f0) a w) (λ y w1. Gives (course_of y) w1)) (keeps_self g top pr)
       (one (R (record { label = o; place = p; act = a } ∷ next) pr) (λ n w1. bind (does (U n) (moved_to p f0) a (spared g pr.spare w1)) (λ y w2. leads (U n) (moved_to p f0) (code g) o next (exec g.target g.codes n f0) pr.loops y w2)) w.state is) (omega arith) (omega arith) (omega arith)
-      (bind_follows g 0 (λ n. does (U n) (moved_to p f0) a) (does Src (moved_to p f0) a (counted w)) (λ y n w2. leads (U n) (moved_to p f0) (code g) o next (exec g.target g.codes n f0) pr.loops y w2) (λ y w1. Gives (course_of y) w1)
-      (track_does g b (λ n. n + 1) up (λ n. (U n).call) call.does call.track p a used pr.spare (counted w) (0 + (1 + x)) (omega arith)) exits)
+      (bind_follows g 0 (λ n. does (U n) (moved_to p f0) a) (does Src (moved_to p f0) a w) (λ y n w2. leads (U n) (moved_to p f0) (code g) o next (exec g.target g.codes n f0) pr.loops y w2) (λ y w1. Gives (course_of y) w1)
+      (track_does g b (λ n. n + 1) up (λ n. (U n).call) call.does call.track p a used pr.spare w (0 + (1 + x)) (omega arith)) exits)
     where
       exits : (y : Exit) (v : Store) (w1 : World) (y1 : ℕ) → Kept g (own_rank g) pr.spare v → 0 + y1 ≤ 32 * w1.count → Fo 0 b top ls (spare_as pr v) (λ n w2. leads (U n) (moved_to p f0) (code g) o next (exec g.target g.codes n f0) pr.loops y (spared g v w2)) w1.state y1 next (Gives (course_of y) w1)
       exits Normal v w1 y1 kp ok =
@@ -102,43 +112,48 @@ module _ (g : Lowering) (b : ℕ) (call : Calls g b) where
       exits (To m) v w1 y1 kp ok = let pr1 = spare_as pr v in record { by = (0, omega arith, omega arith, pr1, keeps_self g top pr1, comes_here (R (from_label m (code g)) pr1) w1.state) }
       exits Back v w1 y1 kp ok = record { by = (0, omega arith, v, (keeps_self g top (spare_as pr v)).kept, λ n k c lt. ap (λ w2. Gives tt w2) (still_near g v w1.state k c)) }
 
-  note_follows : {top x : ℕ} {ls : Rings} {pr : Extra} {next : List Line} (o : Option ℕ) (p : Place) (a : Act) (w : World) → x ≤ 32 * w.count → is_note a ≡ true → Fo 1 b top ls pr (R (record { label = o; place = p; act = a } ∷ next) pr) w.state x next (Gives Went w)
-  note_follows {top} {x} {ls} {pr} {next} o p a w le is = record { by = (0, omega arith, pr, keeps_self g top pr, none_begun _ (R next pr) w.state skipped) }
-    where
-      skipped : (n k c : ℕ) → R (record { label = o; place = p; act = a } ∷ next) pr n (at w.state k c) ≡ R next pr n (at w.state k c)
-      skipped zero k c = refl
-      skipped (suc n) k c = ap (λ v. fetch (U n) f0 (code g) (if v then runnable next else (record { label = o; place = p; act = a } ∷ next)) (exec g.target g.codes n f0) pr.loops (near g pr.spare w.state k c)) is
+  -- a statement that is not executed is passed over, and does nothing
+  pub note_skipped : (o : Option ℕ) (p : Place) (a : Act) (next : List Line) (pr : Extra) (s : State) → is_note a ≡ true → (n k c : ℕ) → R (record { label = o; place = p; act = a } ∷ next) pr n (at s k c) ≡ R next pr n (at s k c)
+  note_skipped o p a next pr s is zero k c = refl
+  note_skipped o p a next pr s is (suc n) k c = ap (λ v. fetch (U n) f0 (code g) (if v then runnable next else (record { label = o; place = p; act = a } ∷ next)) (exec g.target g.codes n f0) pr.loops (near g pr.spare s k c)) is
 
-  pub plain_follows : {top x : ℕ} {ls : Rings} {pr : Extra} {next : List Line} (o : Option ℕ) (p : Place) (a : Act) (w : World) → IsPlain a → NamesOfActBy (Own g) a → closers_at o (code g) ≡ [] → x ≤ 32 * w.count →
+  pub note_means : (o : Option ℕ) (p : Place) (a : Act) (w : World) → is_note a ≡ true → passed_label Src f0 o p a w ≡ Gives Went w
+  note_means None p a w is = ap (λ v. if v then Gives Went w else bind (does Src (moved_to p f0) a (counted w)) (λ y w1. Gives (course_of y) w1)) is
+  note_means (Some m) p a w is = ap (λ v. if v then Gives Went w else plain_statement Src f0 p a (counted w)) is
+
+  note_follows : {top x : ℕ} {ls : Rings} {pr : Extra} {next : List Line} (o : Option ℕ) (p : Place) (a : Act) (w : World) → x ≤ 32 * w.count → is_note a ≡ true → Fo 1 b top ls pr (R (record { label = o; place = p; act = a } ∷ next) pr) w.state x next (Gives Went w)
+  note_follows {top} {x} {ls} {pr} {next} o p a w le is = record { by = (0, omega arith, pr, keeps_self g top pr, none_begun _ (R next pr) w.state (note_skipped o p a next pr w.state is)) }
+
+  pub plain_follows : {top x : ℕ} {ls : Rings} {pr : Extra} {next : List Line} (o : Option ℕ) (p : Place) (a : Act) (w : World) → IsPlain a → NamesOfActBy (Own g) a → closers_at o (code g) ≡ [] → x ≤ credit (is_note a) + 32 * w.count →
       Fo 1 b top ls pr (R (record { label = o; place = p; act = a } ∷ next) pr) w.state x next (plain_statement Src f0 p a w)
-  plain_follows o p (Assign y e) w is used ends le = does_follows o p (Assign y e) w used ends (omega arith) (λ n k c. refl)
-  plain_follows o p (Goto m) w is used ends le = does_follows o p (Goto m) w used ends (omega arith) (λ n k c. refl)
-  plain_follows o p (Computed ms y) w is used ends le = does_follows o p (Computed ms y) w used ends (omega arith) (λ n k c. refl)
-  plain_follows o p (Sign e i1 i2 i3) w is used ends le = does_follows o p (Sign e i1 i2 i3) w used ends (omega arith) (λ n k c. refl)
+  plain_follows o p (Assign y e) w is used ends le = does_follows o p (Assign y e) (counted w) used ends (omega arith) (λ n k c. refl)
+  plain_follows o p (Goto m) w is used ends le = does_follows o p (Goto m) (counted w) used ends (omega arith) (λ n k c. refl)
+  plain_follows o p (Computed ms y) w is used ends le = does_follows o p (Computed ms y) (counted w) used ends (omega arith) (λ n k c. refl)
+  plain_follows o p (Sign e i1 i2 i3) w is used ends le = does_follows o p (Sign e i1 i2 i3) (counted w) used ends (omega arith) (λ n k c. refl)
   plain_follows o p (When e a) w is used ends le = absurd is
   plain_follows o p (Loop m y i1 i2 i3) w is used ends le = absurd is
-  plain_follows o p (Invoke y es) w is used ends le = does_follows o p (Invoke y es) w used ends (omega arith) (λ n k c. refl)
-  plain_follows o p Continue w is used ends le = does_follows o p Continue w used ends (omega arith) (λ n k c. refl)
-  plain_follows o p (Stop i) w is used ends le = does_follows o p (Stop i) w used ends (omega arith) (λ n k c. refl)
-  plain_follows o p Return w is used ends le = does_follows o p Return w used ends (omega arith) (λ n k c. refl)
-  plain_follows o p (Read i m es) w is used ends le = does_follows o p (Read i m es) w used ends (omega arith) (λ n k c. refl)
-  plain_follows o p (Write i m es) w is used ends le = does_follows o p (Write i m es) w used ends (omega arith) (λ n k c. refl)
-  plain_follows o p (Format fs) w is used ends le = note_follows o p (Format fs) w le refl
-  plain_follows o p (Typed t es) w is used ends le = note_follows o p (Typed t es) w le refl
-  plain_follows o p (Dimension es) w is used ends le = note_follows o p (Dimension es) w le refl
-  plain_follows o p (Common es) w is used ends le = note_follows o p (Common es) w le refl
-  plain_follows o p (Equivalence es) w is used ends le = note_follows o p (Equivalence es) w le refl
-  plain_follows o p (Preset es) w is used ends le = note_follows o p (Preset es) w le refl
+  plain_follows o p (Invoke y es) w is used ends le = does_follows o p (Invoke y es) (counted w) used ends (omega arith) (λ n k c. refl)
+  plain_follows o p Continue w is used ends le = does_follows o p Continue (counted w) used ends (omega arith) (λ n k c. refl)
+  plain_follows o p (Stop i) w is used ends le = does_follows o p (Stop i) (counted w) used ends (omega arith) (λ n k c. refl)
+  plain_follows o p Return w is used ends le = does_follows o p Return (counted w) used ends (omega arith) (λ n k c. refl)
+  plain_follows o p (Read i m es) w is used ends le = does_follows o p (Read i m es) (counted w) used ends (omega arith) (λ n k c. refl)
+  plain_follows o p (Write i m es) w is used ends le = does_follows o p (Write i m es) (counted w) used ends (omega arith) (λ n k c. refl)
+  plain_follows o p (Format fs) w is used ends le = note_follows o p (Format fs) w (omega arith) refl
+  plain_follows o p (Typed t es) w is used ends le = note_follows o p (Typed t es) w (omega arith) refl
+  plain_follows o p (Dimension es) w is used ends le = note_follows o p (Dimension es) w (omega arith) refl
+  plain_follows o p (Common es) w is used ends le = note_follows o p (Common es) w (omega arith) refl
+  plain_follows o p (Equivalence es) w is used ends le = note_follows o p (Equivalence es) w (omega arith) refl
+  plain_follows o p (Preset es) w is used ends le = note_follows o p (Preset es) w (omega arith) refl
 
   -- the label of a plain statement is passed with it
-  pub labelled_follows : {top x : ℕ} {ls : Rings} {pr : Extra} {next : List Line} (o : Option ℕ) (p : Place) (a : Act) (w : World) → IsPlain a → NamesOfActBy (Own g) a → closers_at o (code g) ≡ [] → x ≤ 32 * w.count →
+  pub labelled_follows : {top x : ℕ} {ls : Rings} {pr : Extra} {next : List Line} (o : Option ℕ) (p : Place) (a : Act) (w : World) → IsPlain a → NamesOfActBy (Own g) a → closers_at o (code g) ≡ [] → x ≤ credit (is_note a) + 32 * w.count →
       Fo 1 b top ls pr (R (record { label = o; place = p; act = a } ∷ next) pr) w.state x next (passed_label Src f0 o p a w)
   labelled_follows None p a w is used ends le = plain_follows None p a w is used ends le
   labelled_follows {top} {x} {ls} {pr} {next} (Some m) p a w is used ends le = by_note (is_note a) refl
     where
       by_note : (v : Bool) → is_note a ≡ v → Fo 1 b top ls pr (R (record { label = Some m; place = p; act = a } ∷ next) pr) w.state x next (if v then Gives Went w else plain_statement Src f0 p a (counted w))
-      by_note true e = note_follows (Some m) p a w le e
-      by_note false e = plain_follows (Some m) p a (counted w) is used ends (omega arith)
+      by_note true e = note_follows (Some m) p a w (omega (arith, le, ap credit e)) e
+      by_note false e = plain_follows (Some m) p a (counted w) is used ends (omega (arith, le, ap credit e))
 
   pub performed_follows : {m top x : ℕ} {ls : Rings} {pr : Extra} {rest next : List Line} (z : ℕ) (p : Place) (o : Option Act) (w : World) (go : Continuation) → IsPlainIfAny o → ActIfAnyBy (Own g) o → m ≤ b → z + x ≤ 32 * w.count →
       ((pr1 : Extra) (w1 : World) (y : ℕ) → Keeps g top pr pr1 → z + y ≤ 32 * w1.count → Fo 1 m top ls pr1 (R rest pr1) w1.state y next (go w1)) → Fo 1 m top ls pr (R (with_act p o rest) pr) w.state x next (performed Src f0 p o go w)

@@ -6,7 +6,7 @@ use Rattle.std.specs.Prelude.{nat_eq, if◌then◌else◌, ⊤}
 use Rattle.ground.specs.Content.{Content}
 use Rattle.f66_tree.specs.Syntax.{Text, Line}
 use Rattle.f66_tree.specs.World.{Store, put_in, State, World, Out, counted, holding, Gives}
-use Rattle.f66_tree.specs.Units.{Spot, Held, Lent, Linkage, Setting, Frame}
+use Rattle.f66_tree.specs.Units.{name_of, Spot, Held, Lent, Linkage, Setting, Frame}
 use Rattle.f66_tree.specs.Uses.{Using}
 use Rattle.f66_tree.specs.Evaluation.{held, AFunction, sort_of}
 use Rattle.f66_tree.specs.Execution.{nowhere}
@@ -29,7 +29,7 @@ pub record Lowering : Type 1 where
   pub Fair : Spot → Type 0
   pub scope : IsScope K Fair source
   pub same : SameNames K Fair target source
-  pub numbers : (u : ℕ) (x : Text) (o : ℕ) → target.number u x o ≡ source.number u x o
+  pub numbers : (u : ℕ) (x : Text) (o : ℕ) → Fair (Held u x o) → target.number u x o ≡ source.number u x o
   pub apart : (u : ℕ) (x : Text) (o : ℕ) → Fair (Held u x o) → spare (source.number u x o) ≡ false
   pub fair : AllFair Fair actuals
 
@@ -87,7 +87,7 @@ module _ (g : Lowering) where
 
   -- the source reads the same
   pub same_held : (p : Spot) (h st : Store) → g.Fair p → held g.target p (over g.spare h st) ≡ held g.source p st
-  same_held (Held u x o) h st fair = ap (over g.spare h st) (g.numbers u x o) ∙ read_source g.spare h st (g.source.number u x o) (g.apart u x o fair)
+  same_held (Held u x o) h st fair = ap (over g.spare h st) (g.numbers u x o fair) ∙ read_source g.spare h st (g.source.number u x o) (g.apart u x o fair)
   same_held (Lent c) h st fair = refl
 
   -- the rank of the unit, its code and its frame
@@ -96,6 +96,10 @@ module _ (g : Lowering) where
 
   abbrev pub code : List Line
   code = g.codes g.unit
+
+  -- the name in its header
+  abbrev pub own_name : Text
+  own_name = name_of (g.source.context g.unit).header
 
   abbrev pub F : Frame
   F = record { unit = g.unit; actuals = g.actuals; place = nowhere }

@@ -1,32 +1,40 @@
 -- Within one statement the target follows the source: values and plain statements. Where a part of the source gives a result
 -- or ends, the part of the target does the same from a near world, having begun d statements; d is at most 32 times the work
--- that is done so far, less x. What the spare units hold changes on the way in those of lesser rank alone.
-use Rattle.std.proofs.Common.{◌≡◌, true, false, Bool, ℕ, zero, suc, ◌+◌, ◌*◌, ◌-◌, ◌≤◌, ◌<◌, List, refl, ap, ◌∙◌, subst, arith}
+-- that is done so far, less x, and one more where the run ends. What the spare units hold changes on the way in those of lesser
+-- rank alone. A call may do nothing but begin one statement, its RETURN. The node or the statement that it stands in pays for
+-- that; where nodes count nothing, the function's value is not there, so that the run ends.
+use Rattle.std.proofs.Common.{◌≡◌, ℕ, ◌+◌, ◌*◌, ◌≤◌, ◌<◌, List, Some, ◌⊎◌, inl, inr, refl, sym, ap, ◌∙◌, subst, arith}
 use Rattle.std.specs.Prelude.{⊤}
 use Rattle.ground.specs.declared.place.Place.{Place}
-use Rattle.ground.specs.declared.trap.Trap.TheVariants.{ValueArgument}
+use Rattle.ground.specs.declared.trap.Trap.TheVariants.{Undefined, ValueArgument}
 use Rattle.ground.specs.declared.value.Kind.{Kind}
-use Rattle.ground.specs.declared.value.Kind.TheVariants.{Integer}
-use Rattle.ground.specs.Content.{Content}
-use Rattle.f66_tree.specs.declared.expression.Operator.TheVariants.{Eq}
-use Rattle.f66_tree.specs.Syntax.{Text, Act, Formula, Par}
-use Rattle.f66_tree.specs.Uses.{NamesBy, NameOfPar, NamesOfActBy}
-use Rattle.f66_tree.specs.World.{Store, put_in, State, Tape, World, counted, taping, Finish, Trapped, Wrong, Ended, GoesOn, Lost, Out, Gives, Halts, bind, Try, Yields, Traps, Fails, Move, Moves, Breaks, Misses, settle, moving, holding, take_one, choose}
-use Rattle.f66_tree.specs.Units.{Spot, Held, Lent, Setting}
-use Rattle.f66_tree.specs.Evaluation.{asked, held, store_at, load, operate, truth_in, value_of, asks}
-use Rattle.f66_tree.specs.Statements.{Exit, LoopParameters, loop_start, loop_turn, taped, taken_content, item_turns, does}
+use Rattle.ground.specs.declared.value.Kind.TheVariants.{Integer, Logical}
+use Rattle.ground.specs.Content.{Content, Nothing}
+use Rattle.f66_tree.specs.Syntax.{Text}
+use Rattle.f66_tree.specs.World.{Store, put_in, State, Tape, World, counted, taping, Finish, Trapped, Wrong, Ended, GoesOn, Lost, Out, Gives, Halts, bind, Try, Yields, Traps, Fails, Move, Moves, Breaks, Misses, settle, moving, holding, take_one}
+use Rattle.f66_tree.specs.Units.{Spot, Held, Lent}
+use Rattle.f66_tree.specs.Evaluation.{asked, held, store_at, load}
+use Rattle.f66_tree.specs.Statements.{taped, taken_content}
 use Rattle.f66_tree.proofs.Posts.{IfGives, AllFair, post_any}
-use Rattle.f66_tree.proofs.Related.{Sides, side1, side2, Frames, one, two, Good, Parts, Holds, thens, settles, does_holds, asks_hold, value_holds, start_holds, turn_holds}
+use Rattle.f66_tree.proofs.Related.{Sides, side1, side2, Frames, one, two, Good, Parts, Holds, answered1, answered2, paid}
+use Rattle.f66_tree.proofs.Stores.{read_same}
 use Rattle.f66_tree.proofs.Comes.{at}
-use Rattle.rat_tree.specs.Meaning.{is_case}
-use Rattle.rat_lower.proofs.Simulation.Spared.{Lowering, over, put_source, near, still_near, Kept, kept_self, kept_on, same_held, own_rank, Listed, Called, Own}
+use Rattle.rat_lower.proofs.Simulation.Spared.{Lowering, over, put_source, near, still_near, Kept, kept_self, kept_on, same_held, own_rank, Listed, Called}
+
+-- the fuel of a run
+abbrev pub same_fuel : ℕ → ℕ
+same_fuel n = n
+
+-- a call has paid for d statements; or it began one at most, and its work and its state are those before it
+abbrev pub IsPaid : ℕ → ℕ → ℕ → State → World → Type 0
+IsPaid n d x s w = (d + x ≤ 32 * w.count) ⊎ ((d ≤ 1) × (n ≤ w.count) × (w.state ≡ s))
 
 module _ (I : Type 0) (bound : I → ℕ) (g : Lowering) where
   -- a part t of the target's run, by what bounds its fuel, follows a part of the source's, which gave o
   abbrev pub TracksBy : {A : Type 0} → ℕ → Store → State → ℕ → (I → World → Out A) → Out A → Type 0
   TracksBy b v s x t (Gives a w) = (d : ℕ) × (d + x ≤ 32 * w.count) × (v1 : Store) × Kept g (own_rank g) v v1 × ((i : I) (k c : ℕ) → d + k < bound i → t i (near g v s (d + k) c) ≡ Gives a (near g v1 w.state k (c + d)))
-  TracksBy b v s x t (Halts (Ended e) w) = (d : ℕ) × (d + x ≤ 32 * w.count) × (v1 : Store) × ((i : I) (k c : ℕ) → d + k < bound i → t i (near g v s (d + k) c) ≡ Halts (Ended e) (near g v1 w.state k (c + d)))
-  TracksBy b v s x t (Halts GoesOn w) = (d : ℕ) × (d + x ≤ 32 * w.count) × (b ≤ d) × (v1 : Store) × ((i : I) (c : ℕ) → d < bound i → t i (near g v s d c) ≡ Halts GoesOn (near g v1 w.state 0 (c + d)))
+  TracksBy b v s x t (Halts (Ended e) w) = (d : ℕ) × (d + x ≤ 1 + 32 * w.count) × (v1 : Store) × ((i : I) (k c : ℕ) → d + k < bound i → t i (near g v s (d + k) c) ≡ Halts (Ended e) (near g v1 w.state k (c + d)))
+  TracksBy b v s x t (Halts GoesOn w) = (d : ℕ) × (d + x ≤ 1 + 32 * w.count) × (b ≤ d) × (v1 : Store) × ((i : I) (c : ℕ) → d < bound i → t i (near g v s d c) ≡ Halts GoesOn (near g v1 w.state 0 (c + d)))
   TracksBy b v s x t (Halts Lost w) = ⊤
 
   pub record Tracks {A : Type 0} (b : ℕ) (v : Store) (s : State) (x : ℕ) (t : I → World → Out A) (o : Out A) : Type 0 where
@@ -88,11 +96,36 @@ module _ (I : Type 0) (bound : I → ℕ) (g : Lowering) where
   fewer (Halts GoesOn w1) le h = record { by = (h.by.0, h.by.1, omega (arith, h.by.2), h.by.3, h.by.4) }
   fewer (Halts Lost w1) le h = record { by = tt }
 
-  pub same_tracks : {A : Type 0} {b x : ℕ} {v : Store} {s : State} {t t1 : I → World → Out A} (o : Out A) → ((i : I) (k c : ℕ) → t1 i (near g v s k c) ≡ t i (near g v s k c)) → Tracks b v s x t o → Tracks b v s x t1 o
+  pub same_tracks : {A : Type 0} {b x : ℕ} {v : Store} {s s1 : State} {t t1 : I → World → Out A} (o : Out A) → ((i : I) (k c : ℕ) → t1 i (near g v s1 k c) ≡ t i (near g v s k c)) → Tracks b v s x t o → Tracks b v s1 x t1 o
   same_tracks (Gives a w1) e h = record { by = (h.by.0, h.by.1, h.by.2, h.by.3, λ i k c lt. e i (h.by.0 + k) c ∙ h.by.4 i k c lt) }
   same_tracks (Halts (Ended f) w1) e h = record { by = (h.by.0, h.by.1, h.by.2, λ i k c lt. e i (h.by.0 + k) c ∙ h.by.3 i k c lt) }
   same_tracks (Halts GoesOn w1) e h = record { by = (h.by.0, h.by.1, h.by.2, h.by.3, λ i c lt. e i h.by.0 c ∙ h.by.4 i c lt) }
   same_tracks (Halts Lost w1) e h = record { by = tt }
+
+  -- What a call gives, from n of work and the state s on: it pays for itself, or it does nothing.
+  abbrev pub AnswersBy : ℕ → Store → State → ℕ → ℕ → (I → World → Out ⊤) → Out ⊤ → Type 0
+  AnswersBy b v s n x t (Gives a w) = (d : ℕ) × IsPaid n d x s w × (v1 : Store) × Kept g (own_rank g) v v1 × ((i : I) (k c : ℕ) → d + k < bound i → t i (near g v s (d + k) c) ≡ Gives a (near g v1 w.state k (c + d)))
+  AnswersBy b v s n x t (Halts e w) = TracksBy b v s x t (Halts e w)
+
+  pub record Answers (b : ℕ) (v : Store) (s : State) (n x : ℕ) (t : I → World → Out ⊤) (o : Out ⊤) : Type 0 where
+    pub by : AnswersBy b v s n x t o
+
+  -- what the call stands in pays for one statement
+  paid_for : {b n x : ℕ} {v : Store} {s : State} {t : I → World → Out ⊤} (o : Out ⊤) → 1 + x ≤ 32 * n → Answers b v s n (1 + x) t o → Tracks b v s x t o
+  paid_for {n = n} {x = x} {s = s} (Gives a w) le h = record { by = (h.by.0, enough h.by.1, h.by.2, h.by.3, h.by.4) }
+    where
+      enough : IsPaid n h.by.0 (1 + x) s w → h.by.0 + x ≤ 32 * w.count
+      enough (inl q) = omega (arith, q)
+      enough (inr q) = omega (arith, q.0, q.1)
+  paid_for (Halts (Ended f) w) le h = record { by = (h.by.0, omega (arith, h.by.1), h.by.2, h.by.3) }
+  paid_for (Halts GoesOn w) le h = record { by = (h.by.0, omega (arith, h.by.1), h.by.2, h.by.3, h.by.4) }
+  paid_for (Halts Lost w) le h = record { by = tt }
+
+  pub fewer_answers : {b m n x : ℕ} {v : Store} {s : State} {t : I → World → Out ⊤} (o : Out ⊤) → m ≤ b → Answers b v s n x t o → Answers m v s n x t o
+  fewer_answers (Gives a w1) le h = record { by = h.by }
+  fewer_answers (Halts (Ended f) w1) le h = record { by = h.by }
+  fewer_answers (Halts GoesOn w1) le h = record { by = (h.by.0, h.by.1, omega (arith, h.by.2), h.by.3, h.by.4) }
+  fewer_answers (Halts Lost w1) le h = record { by = tt }
 
   -- where nothing is begun
   gives_now : {A : Type 0} {b x : ℕ} {v : Store} (a : A) (w : World) {t : I → World → Out A} {s : State} → x ≤ 32 * w.count → ((i : I) (k c : ℕ) → t i (near g v s k c) ≡ Gives a (near g v w.state k c)) → Tracks b v s x t (Gives a w)
@@ -109,8 +142,7 @@ module _ (I : Type 0) (bound : I → ℕ) (g : Lowering) where
   abbrev pub TW : ℕ → (A : Type 0) → (I → World → Out A) → (World → Out A) → Type 0
   TW b A m1 m2 = (v : Store) (w : World) (x : ℕ) → 1 + x ≤ 32 * w.count → Tracks b v w.state x m1 (m2 w)
 
-module _ (g : Lowering) (I : Type 0) (bound : I → ℕ) (b turns_most : ℕ) (tick2 : ℕ → ℕ) (up : (n : ℕ) → n + 1 ≤ tick2 n) (call1 : I → ℕ → List Spot → World → Out ⊤) (most1 : I → ℕ) (call2 : ℕ → List Spot → World → Out ⊤)
-    (calls : (u : ℕ) (ps : List Spot) → g.rank u < own_rank g → AllFair g.Fair ps → TW I bound g b ⊤ (λ i. call1 i u ps) (call2 u ps)) where
+module _ (g : Lowering) (I : Type 0) (bound : I → ℕ) (b turns_most : ℕ) (tick2 : ℕ → ℕ) (call1 : I → ℕ → List Spot → World → Out ⊤) (most1 : I → ℕ) (call2 : ℕ → List Spot → World → Out ⊤) where
   -- both sides, at the same places
   abbrev pub sides : Sides I
   sides = record {
@@ -148,7 +180,7 @@ module _ (g : Lowering) (I : Type 0) (bound : I → ℕ) (b turns_most : ℕ) (t
   put : (f : Frames) → Good sides f → (p : Spot) → g.Fair p → (c : Content) → TI ⊤ (λ i. store_at (side1 sides i) (one f) p c) (store_at (side2 sides) (two f) p c)
   put f ok (Held u y o) fair a v w x le =
       gives_now I bound g tt (holding (put_in (g.source.number u y o) a w.state.store) w) le
-      (λ i k c. ap (λ st. Gives tt (holding st (at w.state k c))) (ap (λ n. put_in n a (over g.spare v w.state.store)) (g.numbers u y o) ∙ put_source g.spare v w.state.store (g.source.number u y o) a (g.apart u y o fair)))
+      (λ i k c. ap (λ st. Gives tt (holding st (at w.state k c))) (ap (λ n. put_in n a (over g.spare v w.state.store)) (g.numbers u y o fair) ∙ put_source g.spare v w.state.store (g.source.number u y o) a (g.apart u y o fair)))
   put f ok (Lent d) fair a v w x le =
       halts_now I bound g (Trapped ValueArgument f.there) w le (λ i k c. ap (λ q. Halts (Ended (Trapped ValueArgument q)) (near g v w.state k c)) ok.places)
 
@@ -177,146 +209,82 @@ module _ (g : Lowering) (I : Type 0) (bound : I → ℕ) (b turns_most : ℕ) (t
     takes = λ f ok h step v w x le. subst (λ q. Tracks I bound g b v w.state x (λ i. taken_content f.here h) (taken_content q h w)) ok.places (took_tracks f.here h (h w.state.tape) v w x refl le);
   }
 
-  pub tracks_hold : Holds I sides (T I bound g b) (TW I bound g b)
-  tracks_hold = record {
-    parts = tracks_parts;
-    within = λ h v w x le. h v w x (omega (arith, le));
-    then_within = λ {A} {B} {P} {m1} {m2} {g1} {g2} h post k v w x le. tracks_after I bound g P {x1 = 1 + x} (omega arith) (m2 w) (λ a w1. g2 a w1) g1 (h v w (1 + x) le) (post w) (λ a ok v1 w1 d le1. k a ok v1 w1 (d + x) (omega (arith, le1)));
-    within_then = λ {A} {B} {m1} {m2} {g1} {g2} h k v w x le. tracks_bind I bound g (λ _. ⊤) (m2 w) (λ a w1. g2 a w1) g1 (h v w x le) (post_any (m2 w)) (λ a _ v1 w1 y le1. k a v1 w1 y le1);
-    ticks = λ {A} {m1} {m2} h v w x le. same_tracks I bound g (m2 (record { state = w.state; left = w.left; count = tick2 w.count })) (λ i k c. refl) (h v (record { state = w.state; left = w.left; count = tick2 w.count }) x (omega (arith, up w.count)));
-    calls = λ u x v ps used e fair. calls v ps (used.1 v e) fair;
-  }
+  -- what is asked of calls of units of lesser rank
+  abbrev pub Answered : Type 0
+  Answered = (u : ℕ) (ps : List Spot) → g.rank u < own_rank g → AllFair g.Fair ps → (v : Store) (w : World) (x : ℕ) → x ≤ 32 * w.count → Answers I bound g b v w.state w.count x (λ i. call1 i u ps) (call2 u ps w)
 
--- ---- implied DO loops, whose turns are bounded besides ----
+  module _ (calls : Answered) where
+    statement_pays : (u : ℕ) (ps : List Spot) → g.rank u < own_rank g → AllFair g.Fair ps → TW I bound g b ⊤ (λ i. call1 i u ps) (call2 u ps)
+    statement_pays u ps lt fair v w x le = paid_for I bound g (call2 u ps w) le (calls u ps lt fair v w (1 + x) le)
 
--- what bounds an implied DO: the fuel, and the turns that are left
-record Both : Type 0 where
-  fuel : ℕ
-  turns : ℕ
-  most : ℕ
-  is1 : most ≤ fuel
-  is2 : most ≤ turns
+    -- where nodes count
+    pub tracks_hold : ((n : ℕ) → n + 1 ≤ tick2 n) → Holds I sides (T I bound g b) (TW I bound g b)
+    tracks_hold up = paid I sides (T I bound g b) (TW I bound g b) (record {
+      parts = tracks_parts;
+      within = λ h v w x le. h v w x (omega (arith, le));
+      then_within = λ {A} {B} {P} {m1} {m2} {g1} {g2} h post k v w x le. tracks_after I bound g P {x1 = 1 + x} (omega arith) (m2 w) (λ a w1. g2 a w1) g1 (h v w (1 + x) le) (post w) (λ a ok v1 w1 d le1. k a ok v1 w1 (d + x) (omega (arith, le1)));
+      within_then = λ {A} {B} {m1} {m2} {g1} {g2} h k v w x le. tracks_bind I bound g (λ _. ⊤) (m2 w) (λ a w1. g2 a w1) g1 (h v w x le) (post_any (m2 w)) (λ a _ v1 w1 y le1. k a v1 w1 y le1);
+      ticks = λ {A} {m1} {m2} h v w x le. same_tracks I bound g (m2 (record { state = w.state; left = w.left; count = tick2 w.count })) (λ i k c. refl) (h v (record { state = w.state; left = w.left; count = tick2 w.count }) x (omega (arith, up w.count)));
+      calls = λ u x v ps used e fair. statement_pays v ps (used.1 v e) fair;
+    })
 
-abbrev pub same_fuel : ℕ → ℕ
-same_fuel n = n
+    asked_nothing : (k : Kind) → asked k Nothing ≡ Traps Undefined
+    asked_nothing Integer = refl
+    asked_nothing Logical = refl
 
-abbrev most_of : Both → ℕ
-most_of j = j.most
-
-module _ (g : Lowering) where
-  module _ {A : Type 0} (t : ℕ → ℕ → World → Out A) where
-    fold : {b x : ℕ} {v : Store} {s : State} (o : Out A) → Tracks Both most_of g b v s x (λ j. t j.turns j.fuel) o → Tracks ℕ same_fuel g b v s x (λ f. t f f) o
-    fold (Gives a w) h = record { by = (h.by.0, h.by.1, h.by.2, h.by.3, λ f k c lt. h.by.4 (record { fuel = f; turns = f; most = f; is1 = omega arith; is2 = omega arith }) k c lt) }
-    fold (Halts (Ended e) w) h = record { by = (h.by.0, h.by.1, h.by.2, λ f k c lt. h.by.3 (record { fuel = f; turns = f; most = f; is1 = omega arith; is2 = omega arith }) k c lt) }
-    fold (Halts GoesOn w) h = record { by = (h.by.0, h.by.1, h.by.2, h.by.3, λ f c lt. h.by.4 (record { fuel = f; turns = f; most = f; is1 = omega arith; is2 = omega arith }) c lt) }
-    fold (Halts Lost w) h = record { by = tt }
-
-    -- a turn begins
-    shift : {m x : ℕ} {v : Store} {s : State} (t1 : ℕ → ℕ → World → Out A) (o : Out A) → ((n f k c : ℕ) → t (suc n) f (near g v s (suc k) c) ≡ t1 n f (near g v s k (c + 1))) → Tracks Both most_of g m v s (1 + x) (λ j. t1 j.turns j.fuel) o → Tracks Both most_of g (suc m) v s x (λ j. t j.turns j.fuel) o
-    shift {m} {x} {v} {s} t1 (Gives a w) is h = record { by = (h.by.0 + 1, omega (arith, h.by.1), h.by.2, h.by.3, λ j k c lt. go j.turns j.fuel j.most j.is1 j.is2 k c lt) }
+    -- Where nodes count nothing a call has paid for itself, or it has not stored the function's value.
+    quietly : (f : Frames) → Good sides f → (y : Text) (u : ℕ) (ps : List Spot) (k : Kind) → Called g f.unit y → g.source.find y ≡ Some u → AllFair g.Fair ps → TI Content (answered1 I sides (T I bound g b) (TW I bound g b) f y u ps k) (answered2 I sides (T I bound g b) (TW I bound g b) f y u ps k)
+    quietly f ok y u ps k used e all v w x le =
+        let st : Store = put_in (g.source.number u y 0) Nothing w.state.store in
+        let w1 : World = holding st w in
+        same_tracks I bound g (bind (call2 u ps w1) (λ _ w2. load (side2 sides) (two f) k spot w2))
+        (λ i j c. ap (λ q. bind (call1 i u ps (holding q (at w.state j c))) (λ _ w2. load (side1 sides i) (one f) k spot w2))
+        (ap (λ n. put_in n Nothing (over g.spare v w.state.store)) (g.numbers u y 0 own) ∙ put_source g.spare v w.state.store (g.source.number u y 0) Nothing (g.apart u y 0 own)))
+        (by_answer st w1 (call2 u ps w1) le refl (calls u ps (used.1 u e) all v w1 x le))
       where
-        go : (n f q : ℕ) → q ≤ f → q ≤ n → (k c : ℕ) → h.by.0 + 1 + k < q → t n f (near g v s (h.by.0 + 1 + k) c) ≡ Gives a (near g h.by.2 w.state k (c + (h.by.0 + 1)))
-        go zero f q le1 le2 k c lt = absurd (omega arith)
-        go (suc n) f q le1 le2 k c lt =
-            let e : h.by.0 + 1 + k ≡ suc (h.by.0 + k) = omega arith in
-            let e2 : c + 1 + h.by.0 ≡ c + (h.by.0 + 1) = omega arith in
-            ap (λ u. t (suc n) f (near g v s u c)) e ∙ is n f (h.by.0 + k) c ∙ h.by.4 (record { fuel = f; turns = n; most = h.by.0 + k + 1; is1 = omega arith; is2 = omega arith }) k (c + 1) (omega arith) ∙ ap (λ u. Gives a (near g h.by.2 w.state k u)) e2
-    shift {m} {x} {v} {s} t1 (Halts (Ended e0) w) is h = record { by = (h.by.0 + 1, omega (arith, h.by.1), h.by.2, λ j k c lt. go j.turns j.fuel j.most j.is1 j.is2 k c lt) }
-      where
-        go : (n f q : ℕ) → q ≤ f → q ≤ n → (k c : ℕ) → h.by.0 + 1 + k < q → t n f (near g v s (h.by.0 + 1 + k) c) ≡ Halts (Ended e0) (near g h.by.2 w.state k (c + (h.by.0 + 1)))
-        go zero f q le1 le2 k c lt = absurd (omega arith)
-        go (suc n) f q le1 le2 k c lt =
-            let e : h.by.0 + 1 + k ≡ suc (h.by.0 + k) = omega arith in
-            let e2 : c + 1 + h.by.0 ≡ c + (h.by.0 + 1) = omega arith in
-            ap (λ u. t (suc n) f (near g v s u c)) e ∙ is n f (h.by.0 + k) c ∙ h.by.3 (record { fuel = f; turns = n; most = h.by.0 + k + 1; is1 = omega arith; is2 = omega arith }) k (c + 1) (omega arith) ∙ ap (λ u. Halts (Ended e0) (near g h.by.2 w.state k u)) e2
-    shift {m} {x} {v} {s} t1 (Halts GoesOn w) is h = record { by = (h.by.0 + 1, omega (arith, h.by.1), omega (arith, h.by.2), h.by.3, λ j c lt. go j.turns j.fuel j.most j.is1 j.is2 c lt) }
-      where
-        go : (n f q : ℕ) → q ≤ f → q ≤ n → (c : ℕ) → h.by.0 + 1 < q → t n f (near g v s (h.by.0 + 1) c) ≡ Halts GoesOn (near g h.by.3 w.state 0 (c + (h.by.0 + 1)))
-        go zero f q le1 le2 c lt = absurd (omega arith)
-        go (suc n) f q le1 le2 c lt =
-            let e : h.by.0 + 1 ≡ suc h.by.0 = omega arith in
-            let e2 : c + 1 + h.by.0 ≡ c + (h.by.0 + 1) = omega arith in
-            ap (λ u. t (suc n) f (near g v s u c)) e ∙ is n f h.by.0 c ∙ h.by.4 (record { fuel = f; turns = n; most = h.by.0 + 1; is1 = omega arith; is2 = omega arith }) (c + 1) (omega arith) ∙ ap (λ u. Halts GoesOn (near g h.by.3 w.state 0 u)) e2
-    shift t1 (Halts Lost w) is h = record { by = tt }
+        spot : Spot
+        spot = Held u y 0
 
-  lift : {A : Type 0} {b x : ℕ} {v : Store} {s : State} {t : ℕ → World → Out A} (o : Out A) → Tracks ℕ same_fuel g b v s x t o → Tracks Both most_of g b v s x (λ j. t j.fuel) o
-  lift (Gives a w) h = record { by = (h.by.0, h.by.1, h.by.2, h.by.3, λ j k c lt. h.by.4 j.fuel k c (omega (arith, j.is1))) }
-  lift (Halts (Ended e) w) h = record { by = (h.by.0, h.by.1, h.by.2, λ j k c lt. h.by.3 j.fuel k c (omega (arith, j.is1))) }
-  lift (Halts GoesOn w) h = record { by = (h.by.0, h.by.1, h.by.2, h.by.3, λ j c lt. h.by.4 j.fuel c (omega (arith, j.is1))) }
-  lift (Halts Lost w) h = record { by = tt }
+        own : g.Fair spot
+        own = g.scope.callee f.unit y u used.0 e
 
-module _ (g : Lowering) (b : ℕ) (tick2 : ℕ → ℕ) (up : (n : ℕ) → n + 1 ≤ tick2 n) (call1 : ℕ → ℕ → List Spot → World → Out ⊤) (call2 : ℕ → List Spot → World → Out ⊤)
-    (calls : (u : ℕ) (ps : List Spot) → g.rank u < own_rank g → AllFair g.Fair ps → TW ℕ same_fuel g b ⊤ (λ i. call1 i u ps) (call2 u ps)) where
-  abbrev S : Sides ℕ
-  S = sides g ℕ same_fuel b b tick2 up call1 (λ f. f) call2 calls
+        by_answer : (st : Store) (w1 : World) (o : Out ⊤) → x ≤ 32 * w1.count → w1.state.store ≡ put_in (g.source.number u y 0) Nothing w.state.store → Answers I bound g b v w1.state w1.count x (λ i. call1 i u ps) o →
+            Tracks I bound g b v w1.state x (λ i w2. bind (call1 i u ps w2) (λ _ w3. load (side1 sides i) (one f) k spot w3)) (bind o (λ _ w3. load (side2 sides) (two f) k spot w3))
+        by_answer st w1 (Gives a w2) small is h = by_paid h.by.1
+          where
+            by_paid : IsPaid w1.count h.by.0 x w1.state w2 → Tracks I bound g b v w1.state x (λ i w3. bind (call1 i u ps w3) (λ _ w4. load (side1 sides i) (one f) k spot w4)) (load (side2 sides) (two f) k spot w2)
+            by_paid (inl enough) =
+                tracks_bind I bound g (λ _. ⊤) (Gives a w2) (λ _ w3. load (side2 sides) (two f) k spot w3) (λ _ i w3. load (side1 sides i) (one f) k spot w3) (record { by = (h.by.0, enough, h.by.2, h.by.3, h.by.4) }) tt
+                (λ _ _ v1 w3 y1 le1. loaded f ok k spot own v1 w3 y1 le1)
+            by_paid (inr q) =
+                let nothing : held g.source spot w2.state.store ≡ Nothing = ap (λ (t : State). t.store (g.source.number u y 0)) q.2 ∙ ap (λ (t : Store). t (g.source.number u y 0)) is ∙ read_same (g.source.number u y 0) Nothing w.state.store in
+                subst (λ o. Tracks I bound g b v w1.state x (λ i w3. bind (call1 i u ps w3) (λ _ w4. load (side1 sides i) (one f) k spot w4)) (settle f.there o w2)) (sym (ap (asked k) nothing ∙ asked_nothing k))
+                (record {
+                  by = (
+                    h.by.0,
+                    omega (arith, q.0, q.1, small),
+                    h.by.2,
+                    λ i j c lt.
+                        ap (λ o. bind o (λ _ w4. load (side1 sides i) (one f) k spot w4)) (h.by.4 i j c lt)
+                        ∙ ap (λ o. settle f.here o (near g h.by.2 w2.state j (c + h.by.0))) (ap (asked k) (same_held g spot h.by.2 w2.state.store own ∙ nothing) ∙ asked_nothing k)
+                        ∙ ap (λ p. Halts (Ended (Trapped Undefined p)) (near g h.by.2 w2.state j (c + h.by.0))) ok.places,
+                  );
+                })
+        by_answer st w1 (Halts (Ended e1) w2) small is h = record { by = (h.by.0, h.by.1, h.by.2, λ i j c lt. ap (λ o. bind o (λ _ w3. load (side1 sides i) (one f) k spot w3)) (h.by.3 i j c lt)) }
+        by_answer st w1 (Halts GoesOn w2) small is h = record { by = (h.by.0, h.by.1, h.by.2, h.by.3, λ i c lt. ap (λ o. bind o (λ _ w3. load (side1 sides i) (one f) k spot w3)) (h.by.4 i c lt)) }
+        by_answer st w1 (Halts Lost w2) small is h = record { by = tt }
 
-  abbrev S1 : ℕ → Setting
-  S1 f = side1 S f
-
-  abbrev S2 : Setting
-  S2 = side2 S
-
-  abbrev TR : (A : Type 0) → (ℕ → World → Out A) → (World → Out A) → Type 0
-  TR A m1 m2 = T ℕ same_fuel g b A m1 m2
-
-  pub hold : Holds ℕ S (T ℕ same_fuel g b) (TW ℕ same_fuel g b)
-  hold = tracks_hold g ℕ same_fuel b b tick2 up call1 (λ f. f) call2 calls
-
-  abbrev TS : (A : Type 0) → (ℕ → World → Out A) → (World → Out A) → Type 0
-  TS A m1 m2 = TW ℕ same_fuel g b A m1 m2
-
-  -- a statement's frame, on both sides
-  abbrev pub both : Place → Frames
-  both p = record { unit = g.unit; actuals = g.actuals; here = p; there = p }
-
-  pub fine : (p : Place) → Good S (both p)
-  fine p = record { places = refl; actuals = g.fair }
-
-  turns_track : (f : Frames) → Good S f → (y : Text) → g.K f.unit y → (lp : LoopParameters) (body1 : ℕ → World → Out ⊤) (body2 : World → Out ⊤) → TR ⊤ body1 body2 → (m r : ℕ) → r ≤ m → r ≤ b → (v : Store) (w : World) (x : ℕ) → x ≤ 32 * w.count → Tracks Both most_of g r v w.state x (λ j. item_turns j.turns (S1 j.fuel) (one f) y lp (body1 j.fuel)) (item_turns m S2 (two f) y lp body2 w)
-  turns_track f ok y used lp body1 body2 h zero r lr le v w x small = record { by = (0, omega arith, omega arith, v, λ j c lt. go j.turns j.most j.is2 c lt j.fuel) }
-    where
-      go : (n q : ℕ) → q ≤ n → (c : ℕ) → 0 < q → (fu : ℕ) → item_turns n (S1 fu) (one f) y lp (body1 fu) (near g v w.state 0 c) ≡ Halts GoesOn (near g v w.state 0 (c + 0))
-      go zero q le2 c lt fu = absurd (omega arith)
-      go (suc n) q le2 c lt fu = let e : c ≡ c + 0 = omega arith in ap (λ u. Halts GoesOn (near g v w.state 0 u)) e
-  turns_track f ok y used lp body1 body2 h (suc m) r lr le v w x small =
-      fewer Both most_of g {b = suc (r - 1)} (item_turns (suc m) S2 (two f) y lp body2 w) (omega arith) (shift g (λ n fu. item_turns n (S1 fu) (one f) y lp (body1 fu)) (λ n fu w1. bind (body1 fu w1) (λ _ w2. bind (loop_turn (S1 fu) (one f) y lp w2) (λ on w3. choose on (item_turns n (S1 fu) (one f) y lp (body1 fu) w3) (Gives tt w3))))
-      (bind (body2 (counted w)) (λ _ w2. bind (loop_turn S2 (two f) y lp w2) (λ on w3. choose on (item_turns m S2 (two f) y lp body2 w3) (Gives tt w3)))) (λ n fu k c. refl)
-      (tracks_bind Both most_of g (λ _. ⊤) {t = λ j w1. body1 j.fuel w1} (body2 (counted w)) (λ _ w2. bind (loop_turn S2 (two f) y lp w2) (λ on w3. choose on (item_turns m S2 (two f) y lp body2 w3) (Gives tt w3)))
-      (λ _ j w2. bind (loop_turn (S1 j.fuel) (one f) y lp w2) (λ on w3. choose on (item_turns j.turns (S1 j.fuel) (one f) y lp (body1 j.fuel) w3) (Gives tt w3)))
-      (fewer Both most_of g (body2 (counted w)) (omega arith) (lift g (body2 (counted w)) (h v (counted w) (1 + x) (omega arith)))) (post_any (body2 (counted w)))
-      (λ _ _ v2 w2 y2 ok2. tracks_bind Both most_of g (λ _. ⊤) {t = λ j w3. loop_turn (S1 j.fuel) (one f) y lp w3} (loop_turn S2 (two f) y lp w2) (λ on w3. choose on (item_turns m S2 (two f) y lp body2 w3) (Gives tt w3))
-      (λ on j w3. choose on (item_turns j.turns (S1 j.fuel) (one f) y lp (body1 j.fuel) w3) (Gives tt w3))
-      (fewer Both most_of g (loop_turn S2 (two f) y lp w2) (omega arith) (lift g (loop_turn S2 (two f) y lp w2) (turn_holds ℕ S (T ℕ same_fuel g b) (TW ℕ same_fuel g b) hold f ok y used lp v2 w2 y2 ok2))) (post_any (loop_turn S2 (two f) y lp w2))
-      (λ on _ v3 w3 y3 ok3. chosen on v3 w3 y3 ok3 (turns_track f ok y used lp body1 body2 h m (r - 1) (omega arith) (omega arith) v3 w3 y3 ok3)))))
-    where
-      chosen : (q : Bool) (v3 : Store) (w3 : World) (y3 : ℕ) → y3 ≤ 32 * w3.count → Tracks Both most_of g (r - 1) v3 w3.state y3 (λ j. item_turns j.turns (S1 j.fuel) (one f) y lp (body1 j.fuel)) (item_turns m S2 (two f) y lp body2 w3) →
-          Tracks Both most_of g (r - 1) v3 w3.state y3 (λ j w4. choose q (item_turns j.turns (S1 j.fuel) (one f) y lp (body1 j.fuel) w4) (Gives tt w4)) (choose q (item_turns m S2 (two f) y lp body2 w3) (Gives tt w3))
-      chosen true v3 w3 y3 ok3 h1 = h1
-      chosen false v3 w3 y3 ok3 h1 = record { by = (0, omega arith, v3, kept_self g (own_rank g) v3, λ j k c lt. ap (λ w5. Gives tt w5) (still_near g v3 w3.state k c)) }
-
-  many_track : (f : Frames) → Good S f → (y : Text) → g.K f.unit y → (lp : LoopParameters) (body1 : ℕ → World → Out ⊤) (body2 : World → Out ⊤) → TR ⊤ body1 body2 → TR ⊤ (λ i. item_turns i (S1 i) (one f) y lp (body1 i)) (item_turns b S2 (two f) y lp body2)
-  many_track f ok y used lp body1 body2 h v w x small =
-      fold g (λ n fu. item_turns n (S1 fu) (one f) y lp (body1 fu)) (item_turns b S2 (two f) y lp body2 w) (turns_track f ok y used lp body1 body2 h b b (omega arith) (omega arith) v w x small)
-
-  pub track_value : (p : Place) (e : Formula) → NamesBy (Own g) e → TR Content (λ i. value_of (S1 i) (one (both p)) e) (value_of S2 (two (both p)) e)
-  track_value p e used = value_holds ℕ S (T ℕ same_fuel g b) (TW ℕ same_fuel g b) hold (both p) (fine p) e used
-
-  pub track_asks : (p : Place) (e : Formula) → NamesBy (Own g) e → TR Bool (λ i. asks (S1 i) (one (both p)) e) (asks S2 (two (both p)) e)
-  track_asks p e used = asks_hold ℕ S (T ℕ same_fuel g b) (TW ℕ same_fuel g b) hold (both p) (fine p) e used
-
-  pub track_start : (p : Place) (y : Text) (a z d : Par) → g.K g.unit y → NameOfPar (g.K g.unit) a → NameOfPar (g.K g.unit) z → NameOfPar (g.K g.unit) d → TR LoopParameters (λ i. loop_start (S1 i) (one (both p)) y a z d) (loop_start S2 (two (both p)) y a z d)
-  track_start p y a z d used ua uz ud = start_holds ℕ S (T ℕ same_fuel g b) (TW ℕ same_fuel g b) hold (both p) (fine p) y a z d used ua uz ud
-
-  pub track_turn : (p : Place) (y : Text) → g.K g.unit y → (k : LoopParameters) → TR Bool (λ i. loop_turn (S1 i) (one (both p)) y k) (loop_turn S2 (two (both p)) y k)
-  track_turn p y used k = turn_holds ℕ S (T ℕ same_fuel g b) (TW ℕ same_fuel g b) hold (both p) (fine p) y used k
-
-  pub track_does : (p : Place) (a : Act) → NamesOfActBy (Own g) a → TS Exit (λ i. does (S1 i) (one (both p)) a) (does S2 (two (both p)) a)
-  track_does p a used = does_holds ℕ S (T ℕ same_fuel g b) (TW ℕ same_fuel g b) hold many_track (both p) (fine p) a used
-
-  -- a case expression against the value of a switch
-  pub track_case : (p : Place) (a : Content) (e : Formula) → NamesBy (Own g) e → TR Bool (λ i w. bind (settle p (asked Integer a) w) (λ v1 w1. bind (value_of (S1 i) (one (both p)) e w1) (λ u w2. bind (settle p (operate Eq v1 u) w2) (λ t w3. settle p (truth_in t) w3)))) (is_case S2 (two (both p)) p a e)
-  track_case p a e used =
-      thens ℕ S (T ℕ same_fuel g b) (TW ℕ same_fuel g b) hold (settles ℕ S (T ℕ same_fuel g b) (TW ℕ same_fuel g b) hold (both p) (fine p) (asked Integer a)) (λ v1.
-      thens ℕ S (T ℕ same_fuel g b) (TW ℕ same_fuel g b) hold (track_value p e used) (λ u.
-      thens ℕ S (T ℕ same_fuel g b) (TW ℕ same_fuel g b) hold (settles ℕ S (T ℕ same_fuel g b) (TW ℕ same_fuel g b) hold (both p) (fine p) (operate Eq v1 u)) (λ t.
-      settles ℕ S (T ℕ same_fuel g b) (TW ℕ same_fuel g b) hold (both p) (fine p) (truth_in t))))
+    -- where nodes count nothing
+    pub quiet_hold : ((n : ℕ) → n ≤ tick2 n) → Holds I sides (T I bound g b) (TW I bound g b)
+    quiet_hold up = record {
+      parts = tracks_parts;
+      Node = T I bound g b;
+      node = λ h. h;
+      then_node = λ {A} {B} {P} {m1} {m2} {g1} {g2} h post k v w x le. tracks_bind I bound g P (m2 w) (λ a w1. g2 a w1) g1 (h v w x le) (post w) (λ a ok v1 w1 y le1. k a ok v1 w1 y le1);
+      ticks = λ {A} {m1} {m2} h v w x le. same_tracks I bound g (m2 (record { state = w.state; left = w.left; count = tick2 w.count })) (λ i k c. refl) (h v (record { state = w.state; left = w.left; count = tick2 w.count }) x (omega (arith, le, up w.count)));
+      functions = quietly;
+      within = λ h v w x le. h v w x (omega (arith, le));
+      then_within = λ {A} {B} {P} {m1} {m2} {g1} {g2} h post k v w x le. tracks_after I bound g P {x1 = 1 + x} (omega arith) (m2 w) (λ a w1. g2 a w1) g1 (h v w (1 + x) le) (post w) (λ a ok v1 w1 d le1. k a ok v1 w1 (d + x) (omega (arith, le1)));
+      within_then = λ {A} {B} {m1} {m2} {g1} {g2} h k v w x le. tracks_bind I bound g (λ _. ⊤) (m2 w) (λ a w1. g2 a w1) g1 (h v w x le) (post_any (m2 w)) (λ a _ v1 w1 y le1. k a v1 w1 y le1);
+      calls = λ u x v ps used e fair. statement_pays v ps (used.1 v e) fair;
+    }

@@ -1,22 +1,23 @@
--- A program of two units, whose main calls the other, a function that uses its own name as a variable: what is asked of a program
--- can be met.
+-- A program of two units, whose main calls the other, a function that uses its own name as a variable and returns a value: what
+-- is asked of a program can be met.
 use Rattle.std.proofs.Common.{◌≡◌, ℕ, zero, suc, ◌+◌, ◌<◌, Bool, true, false, true≢false, List, [], ◌∷◌, Option, Some, None, refl, sym, subst, arith}
 use Rattle.std.specs.Prelude.{codes, if◌then◌else◌, ⊤}
 use Rattle.std.specs.Str.{bytes_eq}
-use Rattle.f66_tree.specs.Syntax.{Text, Header, MainUnit, FuncUnit, Act, Assign, Ref, Item, NoFormula, AndFormula, Line}
+use Rattle.f66_tree.specs.Syntax.{Text, Header, MainUnit, FuncUnit, Assign, Ref, Item, NoFormula, AndFormula, Line}
 use Rattle.f66_tree.specs.World.{Record, fresh}
-use Rattle.f66_tree.specs.Units.{is_main, Linkage}
+use Rattle.f66_tree.specs.Units.{Linkage}
 use Rattle.f66_tree.specs.Execution.{nowhere, f66}
 use Rattle.f66_tree.specs.Agreement.{Agrees}
 use Rattle.f66_tree.specs.OneUnit.{list_number}
 use Rattle.f66_tree.proofs.Related.{same_names}
 use Rattle.f66_tree.proofs.AnyNames.{Any, AnySpot, any_scope}
-use Rattle.rat_tree.specs.Syntax.{Commands, NoCommand, AndCommand, Plain}
+use Rattle.rat_tree.specs.Syntax.{Commands, NoCommand, AndCommand, Return, Plain}
 use Rattle.rat_tree.specs.Meaning.{Ours, ratfor}
 use Rattle.rat_tree.specs.Uses.{NamesOfCommandsBy}
-use Rattle.rat_lower.specs.Code.{all_code, end_unless}
+use Rattle.rat_lower.specs.Code.{unit_code}
 use Rattle.rat_lower.specs.Checked.{IsChecked}
 use Rattle.rat_lower.proofs.Simulation.Spared.{Own}
+use Rattle.rat_lower.proofs.Simulation.Whole.{IsCode}
 use Rattle.rat_lower.proofs.Simulation.CheckedUnits.{checked_code}
 use Rattle.rat_lower.proofs.Simulation.Programs.{Program, entered, IsLowered, program_agrees}
 
@@ -35,19 +36,16 @@ two = record {
   first = fresh [];
 }
 
--- I = NF(I), and NF = J
-abbrev act_at : ℕ → Act
-act_at zero = Assign (Ref (codes "I")) (Item (codes "NF") (AndFormula (Ref (codes "I")) NoFormula))
-act_at (suc u) = Assign (Ref (codes "NF")) (Ref (codes "J"))
-
+-- i = nf(i), and nf = j; return (nf)
 abbrev body_at : ℕ → Commands
-body_at u = AndCommand (Plain None nowhere (act_at u)) NoCommand
+body_at zero = AndCommand (Plain None nowhere (Assign (Ref (codes "I")) (Item (codes "NF") (AndFormula (Ref (codes "I")) NoFormula)))) NoCommand
+body_at (suc u) = AndCommand (Plain None nowhere (Assign (Ref (codes "NF")) (Ref (codes "J")))) (AndCommand (Return nowhere (Some (Ref (codes "NF")))) NoCommand)
 
 abbrev made : ℕ → ℕ
 made i = 23000 + i
 
 abbrev code_at : ℕ → List Line
-code_at u = all_code made [] (body_at u) 0 [] (end_unless (is_main (header_at u)) false nowhere)
+code_at u = unit_code made [] (header_at u) nowhere nowhere (body_at u)
 
 abbrev rank_at : ℕ → ℕ
 rank_at zero = 1
@@ -58,7 +56,7 @@ program = record {
   target = two;
   source = two;
   codes = code_at;
-  bodies = body_at;
+  bodies = λ u. Ours (body_at u);
   spare = λ q. false;
   level = λ q. 0;
   rank = rank_at;
@@ -66,13 +64,13 @@ program = record {
   Fair = AnySpot;
   scope = any_scope two;
   same = same_names (λ u. Any) AnySpot two;
-  numbers = λ u x o. refl;
+  numbers = λ u x o fair. refl;
   apart = λ u x o fair. refl;
 }
 
-checked : (u : ℕ) → IsChecked made [] (body_at u)
+checked : (u : ℕ) → IsChecked made [] (header_at u) (body_at u)
 checked zero = record { built = (tt, tt); fits = (tt, tt); lands = (tt, tt); once = λ l. omega arith; rises = λ i j lt. omega arith; unused = λ i. refl; spared = λ there. absurd (true≢false (sym there)) }
-checked (suc u) = record { built = (tt, tt); fits = (tt, tt); lands = (tt, tt); once = λ l. omega arith; rises = λ i j lt. omega arith; unused = λ i. refl; spared = λ there. absurd (true≢false (sym there)) }
+checked (suc u) = record { built = (tt, (tt, tt)); fits = (tt, (tt, tt)); lands = (tt, (tt, tt)); once = λ l. omega arith; rises = λ i j lt. omega arith; unused = λ i. refl; spared = λ there. absurd (true≢false (sym there)) }
 
 -- whatever a name leads to is the function
 leads_below : (x : Text) (v : ℕ) → two.find x ≡ Some v → rank_at v < 1
@@ -92,13 +90,15 @@ leads_below x v e = by_name (bytes_eq x (codes "NF")) e
 
 used : (u : ℕ) → NamesOfCommandsBy (Own (entered program u [] tt)) (body_at u)
 used zero = ((tt, ((tt, λ is v e. leads_below (codes "NF") v e), (tt, tt))), tt)
-used (suc u) = ((tt, tt), tt)
+used (suc u) = ((tt, tt), (tt, tt))
+
+unit_is_code : (u : ℕ) → IsCode (entered program u [] tt) (body_at u)
+unit_is_code zero = checked_code (entered program 0 [] tt) made [] false nowhere nowhere (body_at 0) (checked 0) false refl tt (used 0) (λ there. absurd (true≢false (sym there)))
+unit_is_code (suc u) = checked_code (entered program (suc u) [] tt) made [] true nowhere nowhere (body_at (suc u)) (checked (suc u)) false refl tt (used (suc u)) (λ there. absurd (true≢false (sym there)))
 
 lowered : IsLowered program
 lowered = record {
-  units = λ u le. checked_code (entered program u [] tt) made [] false nowhere nowhere (body_at u) (checked u) false refl (used u) (λ there. absurd (true≢false (sym there)));
-  fits = λ u le. (checked u).fits;
-  lands = λ u le. (checked u).lands;
+  units = λ u le. (unit_is_code u, (checked u).fits, (checked u).lands);
   main = refl;
   first = λ q e. refl;
   deep = omega arith;

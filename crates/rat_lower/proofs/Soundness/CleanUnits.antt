@@ -1,54 +1,56 @@
--- The unit that a main unit without a fault becomes is sound: what its source says is built and breaks no rule of names in it.
-use Rattle.std.proofs.Common.{◌≡◌, ◌≢◌, ℕ, zero, suc, ◌+◌, ◌<◌, ◌%◌, ◌/◌, Bool, true, false, true≢false, List, [], ◌∷◌, ◌++◌, length, inl, inr, Option, Some, None, refl, sym, ap, ◌∙◌, subst, arith}
-use Rattle.std.specs.Prelude.{not, ◌&&◌, ◌||◌, map, nat_le, if◌then◌else◌}
-use Rattle.std.specs.List.{slice_get, list_any, flat_map}
+-- The unit that a unit without a fault becomes is sound: what its source says breaks no rule of names in it.
+use Rattle.std.proofs.Common.{◌≡◌, ◌≢◌, ℕ, zero, suc, ◌+◌, ◌<◌, Bool, true, false, true≢false, List, [], ◌∷◌, ◌++◌, length, Option, Some, None, refl, sym, ap, ◌∙◌, subst, arith}
+use Rattle.std.specs.Prelude.{not, ◌&&◌, ◌||◌, map, if◌then◌else◌}
+use Rattle.std.specs.List.{slice_get, list_any}
+use Rattle.std.specs.Option.{option_or}
 use Rattle.std.specs.Str.{bytes_eq}
-use Rattle.std.proofs.lemmas.Bool.{or_from, or_parts, le-leb}
+use Rattle.std.proofs.lemmas.Bool.{or_from, or_parts}
 use Rattle.std.proofs.lemmas.Slice.Eq.{bytes_eq-Decides}
 use Rattle.ground.specs.declared.place.Place.{Place}
-use Rattle.rule_table.specs.Words.{repeats}
+use Rattle.rule_table.specs.Words.{find_map, is_some_and}
 use Rattle.rule_table.specs.declared.rule.Rule.{Rule}
-use Rattle.rule_table.specs.declared.rule.Rule.TheVariants.{DuplicateName}
+use Rattle.rule_table.specs.declared.rule.Rule.TheVariants.{Syntax, NameTooLong, OutOfProfileType, DuplicateName}
 use Rattle.f66_tree.specs.declared.declaration.TypeWord.{TypeWord}
-use Rattle.f66_tree.specs.declared.declaration.TypeWord.TheVariants.{Integer}
-use Rattle.f66_tree.specs.Syntax.{Text, Par, Declared, Act, Typed, Dimension, Common, MainUnit, Line}
-use Rattle.f66_tree.specs.Units.{is_note, Note, Context, notes_of, if_any, sizes_in, sizes_by, sizes_of, type_in, by_letter, kind_by}
+use Rattle.f66_tree.specs.declared.declaration.TypeWord.TheVariants.{Integer, Other}
+use Rattle.f66_tree.specs.Syntax.{Text, Formula, Par, Header, MainUnit, SubUnit, FuncUnit, DataUnit, Act, Typed, Common, Line, Routine}
+use Rattle.f66_tree.specs.Units.{is_main, name_of, is_note, Note, Context, notes_of, sizes_of, type_in, by_letter, by_header, kind_by, kind_of}
 use Rattle.f66_tree.specs.Evaluation.{AnIntrinsic, Intrinsic, known, intrinsics, array_or}
 use Rattle.name_alloc.specs.Numbers.{next_number}
 use Rattle.name_alloc.specs.MadeNames.{made_name, unused, keeping_all}
 use Rattle.name_alloc.proofs.KeptNames.{kept_letter}
-use Rattle.f66_names.specs.Shapes.{is_capital, is_digit, is_name}
-use Rattle.f66_names.specs.Sorts.{form_by, name_form, type_of, is_other, is_foreign, is_array_form, is_array_name}
-use Rattle.f66_names.specs.Declaring.{noted, context_by, typed_in, declared_in, sized_in, types, sizes}
-use Rattle.f66_names.specs.declared.name_form.Manner.TheVariants.{Alone}
-use Rattle.f66_names.specs.Uses.{Usage, usage, uses_in}
-use Rattle.f66_names.specs.NameRules.{redeclares, misuses}
-use Rattle.f66_names.specs.BuiltActs.{is_built_form, is_built}
-use Rattle.f66_names.specs.Rules.{breaks_name}
-use Rattle.f66_names.proofs.JumpLemmas.{IsScalar}
+use Rattle.f66_names.specs.Shapes.{is_name}
+use Rattle.f66_names.specs.Sorts.{form_by, given_by, type_of, is_other, is_foreign, is_real_by_letter, is_array_form, is_array_name}
+use Rattle.f66_names.specs.Declaring.{noted, context_by, declared_in, type_given}
+use Rattle.f66_names.specs.NameRules.{redeclares}
+use Rattle.f66_flow.specs.FlowRules.{breaks_flow, header_breaks_flow}
+use Rattle.f66_flow.specs.declared.scope.Scope.TheVariants.{Whole}
+use Rattle.unit_rules.specs.Heads.{header_values, gives_other, declares_own, breaks_header}
+use Rattle.unit_rules.specs.Roles.{role_in, mixes_roles}
+use Rattle.unit_rules.specs.Storage.{block_in, lists_again}
+use Rattle.unit_rules.specs.UnitRules.{breaks_rule}
 use Rattle.f66_soundness.specs.SoundUnits.{acts_in_unit}
-use Rattle.f66_check.specs.Answers.{IsSound}
-use Rattle.rat_tree.specs.Syntax.{Commands}
+use Rattle.f66_check.specs.UnitChecks.{breaks_statement, breaks_unit}
+use Rattle.f66_check.specs.Answers.{IsSoundUnit}
+use Rattle.rat_tree.specs.Syntax.{Commands, RatRoutine}
 use Rattle.rat_check.specs.Parts.{Form, Bare, RepeatHead, Statement, Condition, Selector, CaseList, ForHead, DoHead, LoopExit, ReturnHead, Part, unit_parts}
-use Rattle.rat_check.specs.Said.{said_by, said_in, context_of_parts}
+use Rattle.rat_check.specs.Said.{said_by, said_in, returned_act}
 use Rattle.rat_check.specs.Rules.{is_ratfor, nothing_before, UnitRules}
-use Rattle.rat_check.specs.FirstFault.{unit_whole, fault_of_parts}
-use Rattle.rat_check.proofs.CleanLemmas.{and_true}
-use Rattle.rat_check.proofs.SaidLemmas.{AllClean, said_clean}
-use Rattle.rat_lower.specs.Code.{have_switch, all_code, ends_so, stop_unless, declared_if, unit_code}
-use Rattle.rat_lower.specs.Emitted.{names_of, spare_name}
+use Rattle.rat_check.specs.FirstFault.{unit_whole}
+use Rattle.rat_check.proofs.CleanLemmas.{Passed}
+use Rattle.rat_check.proofs.SaidLemmas.{AllRight, said_right}
+use Rattle.rat_lower.specs.Code.{have_switch, all_code, ends_itself, end_unless, declared_if, unit_code}
+use Rattle.rat_lower.specs.Emitted.{unit_names, spare_name}
 use Rattle.rat_lower.proofs.Soundness.FlowRules.{KeepsFlow}
-use Rattle.rat_lower.proofs.Accepted.NoFault.{AllFine, AllOf, of_weaker, of_both, values_so, prepared_so}
-use Rattle.rat_lower.proofs.Accepted.ActNames.{AllUses, AllUsed, AllDeclared, Lacking, lacking_parts}
+use Rattle.rat_lower.proofs.Accepted.NoFault.{AllFine, AllOf, of_weaker, values_so, prepared_so}
+use Rattle.rat_lower.proofs.Accepted.ActNames.{AllDeclared, AllNamed}
 use Rattle.rat_lower.proofs.Accepted.PartNotes.{form_note, part_notes, unit_notes}
-use Rattle.rat_lower.proofs.Simulation.Notes.{notes_whole}
-use Rattle.rat_lower.proofs.Soundness.Kept.{good_unit}
-use Rattle.rat_lower.proofs.Soundness.KeptBack.{back_unit, store_in}
-use Rattle.rat_lower.proofs.Soundness.Alike.{classed, clean_alike, built_alike}
-use Rattle.rat_lower.proofs.Soundness.Classes.{Uses, uses_keep, uses_keep_values, uses_back, lines_used, used_lines, said_used, used_said, uses_more, use_there, Right, source_right, spare_right}
-use Rattle.rat_lower.proofs.Soundness.Redeclared.{redeclared, Anew, redeclares_at, anew_of, anew_at, declarations, declarations_anew, anew_declarations, of_declarations, declaration, anew_behind, never_itself}
-use Rattle.rat_lower.proofs.Soundness.Lines.{IsCleanAct, IsBuiltAct, unit_sound}
-use Rattle.rat_lower.proofs.Checks.{clean, fine, all_built, says, lacking}
+use Rattle.rat_lower.proofs.Simulation.Notes.{notes_ended}
+use Rattle.rat_lower.proofs.Soundness.Kept.{AllSay, KeepsValues, good_unit}
+use Rattle.rat_lower.proofs.Soundness.Roles.{IsUnmixed, unmixed_keeps, unmixed_values, source_unmixed, unit_unmixed, none_in}
+use Rattle.rat_lower.proofs.Soundness.Redeclared.{Anew, anew_of, anew_at, repeated, declarations, declarations_anew, anew_declarations, of_declarations, declaration, anew_behind, never_itself}
+use Rattle.rat_lower.proofs.Soundness.SpareNames.{made_is_name, IsApart, untyped, none_sized, unsaid}
+use Rattle.rat_lower.proofs.Soundness.Lines.{IsCleanAct, clean_alone, clean_at, clean_alike, IsScalar, return_clean, clean_keeps, clean_values, declaration_clean}
+use Rattle.rat_lower.proofs.Checks.{fine, says, header_apart, named}
 
 -- ---- the statements that are not executed ----
 
@@ -76,58 +78,29 @@ noted_act : (v : Bool) (l : Option ℕ) (a : Act) (more : List Act) (rest : List
 noted_act true l a more rest e = ap (λ ns. record { label = None; act = a } ∷ ns) e
 noted_act false l a more rest e = e
 
-noted_form : (l : Option ℕ) (form : Form) (more : List Act) (rest : List Note) → is_ratfor form ≡ true → noted more ≡ stripped rest → noted (said_by form ++ more) ≡ stripped (form_note l form rest)
-noted_form l Bare more rest is e = e
-noted_form l RepeatHead more rest is e = e
-noted_form l (Statement a) more rest is e = noted_act (is_note a) l a more rest e
-noted_form l (Condition f) more rest is e = e
-noted_form l (Selector f) more rest is e = e
-noted_form l (CaseList es second) more rest is e = noted_past (said_by (CaseList es second)) more (values_so Runs (λ f. refl) es) ∙ e
-noted_form l (ForHead a f b) more rest is e = noted_past (said_by (ForHead a f b)) more (prepared_so Runs (λ x g. refl) (λ g. refl) a f b is) ∙ e
-noted_form l (DoHead x a b c) more rest is e = e
-noted_form l (LoopExit n) more rest is e = e
-noted_form l ReturnHead more rest is e = e
+-- what is returned is none
+noted_return : (h : Header) (f : Formula) (more : List Act) → noted (returned_act h f ∷ more) ≡ noted more
+noted_return MainUnit f more = refl
+noted_return (SubUnit x ds) f more = refl
+noted_return (FuncUnit t x ds) f more = refl
+noted_return DataUnit f more = refl
 
-noted_said : (u : UnitRules) (vs : List Part) → AllFine u vs → noted (said_in vs) ≡ stripped (part_notes vs [])
+noted_form : (h : Header) (l : Option ℕ) (form : Form) (more : List Act) (rest : List Note) → is_ratfor form ≡ true → noted more ≡ stripped rest → noted (said_by h form ++ more) ≡ stripped (form_note l form rest)
+noted_form h l Bare more rest is e = e
+noted_form h l RepeatHead more rest is e = e
+noted_form h l (Statement a) more rest is e = noted_act (is_note a) l a more rest e
+noted_form h l (Condition f) more rest is e = e
+noted_form h l (Selector f) more rest is e = e
+noted_form h l (CaseList es second) more rest is e = noted_past (said_by h (CaseList es second)) more (values_so Runs (λ f. refl) es) ∙ e
+noted_form h l (ForHead a f b) more rest is e = noted_past (said_by h (ForHead a f b)) more (prepared_so Runs (λ x g. refl) (λ x es. refl) (λ g. refl) a f b is) ∙ e
+noted_form h l (DoHead x a b c) more rest is e = e
+noted_form h l (LoopExit n) more rest is e = e
+noted_form h l (ReturnHead None) more rest is e = e
+noted_form h l (ReturnHead (Some f)) more rest is e = noted_return h f more ∙ e
+
+noted_said : (u : UnitRules) (vs : List Part) → AllFine u vs → noted (said_in u.context.header vs) ≡ stripped (part_notes vs [])
 noted_said u [] h = refl
-noted_said u (v ∷ vs) h = noted_form v.label v.form (said_in vs) (part_notes vs []) h.0.ratfor (noted_said u vs h.1)
-
--- ---- the spare name ----
-
-digit_is_one : (m : ℕ) → (is_capital (48 + m % 10) || is_digit (48 + m % 10)) ≡ true
-digit_is_one m = or_right_true (is_capital (48 + m % 10)) (is_digit (48 + m % 10)) (both (nat_le 48 (48 + m % 10)) (nat_le (48 + m % 10) 57) (le-leb 48 (48 + m % 10) (omega arith)) (le-leb (48 + m % 10) 57 (omega arith)))
-  where
-    or_right_true : (a b : Bool) → b ≡ true → (a || b) ≡ true
-    or_right_true true b e = refl
-    or_right_true false b e = e
-
-    both : (a b : Bool) → a ≡ true → b ≡ true → (a && b) ≡ true
-    both a b e f = ap (λ v. v && b) e ∙ f
-
-made_is_name : (n : ℕ) → is_name (made_name 90 n) ≡ true
-made_is_name n =
-    all_true _ _ (digit_is_one (n / 10000)) (all_true _ _ (digit_is_one (n / 1000)) (all_true _ _ (digit_is_one (n / 100)) (all_true _ _ (digit_is_one (n / 10)) (all_true _ _ (digit_is_one (n / 1)) refl))))
-  where
-    all_true : (a b : Bool) → a ≡ true → b ≡ true → (a && b) ≡ true
-    all_true a b e f = ap (λ v. v && b) e ∙ f
-
-sizes_without : (q : Text) (ds : List Declared) (others : List Par) → AllDeclared (λ x. x ≢ q) ds → sizes_in q ds others ≡ others
-sizes_without q [] others h = refl
-sizes_without q (d ∷ ds) others h = ap (λ b. if b then if_any d.sizes (sizes_in q ds others) else sizes_in q ds others) (never_itself q d.name (λ e. h.0 (sym e))) ∙ sizes_without q ds others h.1
-
-act_without : (q : Text) (a : Act) (others : List Par) → is_built_form a ≡ true → AllDeclared (λ x. x ≢ q) (declared_in a) → sizes_by q a others ≡ others
-act_without q (Typed t ds) others is h = sizes_without q ds others h
-act_without q (Dimension ds) others is h = sizes_without q ds others h
-act_without q (Common areas) others is h = absurd (true≢false (sym is))
-act_without q _ others is h = refl
-
-none_sized : (c : Context) (q : Text) (acts : List Act) → AllOf (λ a. (is_built c a ≡ true) × Lacking q a) acts → sizes_of q (noted acts) ≡ []
-none_sized c q [] h = refl
-none_sized c q (a ∷ rest) h = by (is_note a) (none_sized c q rest h.1)
-  where
-    by : (v : Bool) → sizes_of q (noted rest) ≡ [] → sizes_of q (if v then (record { label = None; act = a } ∷ noted rest) else noted rest) ≡ []
-    by true e = act_without q a (sizes_of q (noted rest)) (and_true (is_built_form a) _ h.0.0).0 (lacking_parts q a h.0.1).0 ∙ e
-    by false e = e
+noted_said u (v ∷ vs) h = noted_form u.context.header v.label v.form (said_in u.context.header vs) (part_notes vs []) h.0.ratfor (noted_said u vs h.1)
 
 no_array : (es : List (Text × Intrinsic)) (q : Text) → is_array_form (form_by (known es q)) ≡ false
 no_array [] q = refl
@@ -137,237 +110,291 @@ no_array (e ∷ es) q = by (bytes_eq e.0 q) (no_array es q)
     by true h = refl
     by false h = h
 
--- ---- what the source says ----
+-- ---- lists of statements ----
 
--- a place in the source where the statement breaks no rule
-abbrev CleanThere : Context → List Act → Act → Type 0
-CleanThere c said a = (n : ℕ) × ((k : Rule) → breaks_name c said n a k ≡ false)
+acts_so : (Good : Act → Type 0) (lines : List Line) → AllSay Good lines → AllOf Good (acts_in_unit lines)
+acts_so Good [] h = tt
+acts_so Good (s ∷ rest) h = (h.0, acts_so Good rest h.1)
 
-clean_there : (c : Context) (said : List Act) (n : ℕ) (acts : List Act) → AllClean c said n acts → AllOf (CleanThere c said) acts
-clean_there c said n [] h = tt
-clean_there c said n (a ∷ rest) h = ((n, h.0), clean_there c said (n + 1) rest h.1)
-
-none_misused : (c : Context) (said : List Act) (us : List Usage) → list_any (misuses c said) us ≡ false → AllUses (λ u. misuses c said u ≡ false) us
-none_misused c said [] e = tt
-none_misused c said (u ∷ us) e = let k = or_parts (misuses c said u) (list_any (misuses c said) us) e in (k.0, none_misused c said us k.1)
-
-misused_none : (c : Context) (said : List Act) (us : List Usage) → AllUses (λ u. misuses c said u ≡ false) us → list_any (misuses c said) us ≡ false
-misused_none c said [] h = refl
-misused_none c said (u ∷ us) h = or_from (misuses c said u) _ h.0 (misused_none c said us h.1)
-
-no_misuse : (c : Context) (said : List Act) (a : Act) → CleanThere c said a → Uses (λ u. misuses c said u ≡ false) a
-no_misuse c said a h = none_misused c said (uses_in a) (or_parts (redeclares said h.0 a) _ (h.1 DuplicateName)).1
-
-none_any : (ds : List Declared) → list_any (λ d. false) ds ≡ false
-none_any [] = refl
-none_any (d ∷ ds) = none_any ds
-
--- a statement that declares nothing again does so before all others too
-first_anew : (front : List Act) (a : Act) → redeclared front a ≡ false → redeclared [] a ≡ false
-first_anew front a e =
-    let typed_front = list_any (λ (x : Declared). list_any (types x.name) front) (typed_in a) in
-    let typed_twice = repeats (map (λ (x : Declared). x.name) (typed_in a)) in
-    let sized_front = list_any (λ (x : Declared). list_any (sizes x.name) front) (sized_in a) in
-    let sized_twice = repeats (map (λ (x : Declared). x.name) (sized_in a)) in
-    let halves = or_parts (typed_front || typed_twice) (sized_front || sized_twice) e in
-    let typed = or_parts typed_front typed_twice halves.0 in
-    let sized = or_parts sized_front sized_twice halves.1 in
-    or_from (list_any (λ (x : Declared). false) (typed_in a) || typed_twice) (list_any (λ (x : Declared). false) (sized_in a) || sized_twice)
-    (or_from (list_any (λ (x : Declared). false) (typed_in a)) typed_twice (none_any (typed_in a)) typed.1)
-    (or_from (list_any (λ (x : Declared). false) (sized_in a)) sized_twice (none_any (sized_in a)) sized.1)
-
-all_first : (front acts : List Act) → Anew front acts → AllOf (λ a. redeclared [] a ≡ false) acts
-all_first front [] h = tt
-all_first front (a ∷ rest) h = (first_anew front a h.0, all_first (front ++ a ∷ []) rest h.1)
-
-uses_both : (P Q : Usage → Type 0) (us : List Usage) → AllUses P us → AllUses Q us → AllUses (λ u. P u × Q u) us
-uses_both P Q [] h k = tt
-uses_both P Q (u ∷ us) h k = ((h.0, k.0), uses_both P Q us h.1 k.1)
+of_at : (Good : Act → Type 0) (acts : List Act) (i : ℕ) (a : Act) → AllOf Good acts → slice_get acts i ≡ Some a → Good a
+of_at Good [] i a h e = absurd (cc)
+of_at Good (x ∷ rest) zero a h e = let same : x ≡ a = cc in subst Good same h.0
+of_at Good (x ∷ rest) (suc i) a h e = of_at Good rest i a h.1 e
 
 get_act : (code : List Line) (i : ℕ) (s : Line) → slice_get code i ≡ Some s → slice_get (acts_in_unit code) i ≡ Some s.act
 get_act [] i s e = absurd (cc)
 get_act (x ∷ rest) zero s e = let same : x ≡ s = cc in ap (λ (y : Line). Some y.act) same
 get_act (x ∷ rest) (suc i) s e = get_act rest i s e
 
+-- what statements give that are not executed, their declarations give
+find_declared : {V : Type 0} (f : Act → Option V) → ((a : Act) → is_note a ≡ false → f a ≡ None) → (acts : List Act) → find_map f acts ≡ find_map f (declarations acts)
+find_declared f none [] = refl
+find_declared f none (a ∷ rest) = by (is_note a) refl (find_declared f none rest)
+  where
+    by : (v : Bool) → is_note a ≡ v → find_map f rest ≡ find_map f (declarations rest) →
+        option_or (f a) (find_map f rest) ≡ find_map f (map (λ (n : Note). n.act) (if v then (record { label = None; act = a } ∷ noted rest) else noted rest))
+    by true e h = ap (option_or (f a)) h
+    by false e h = ap (λ o. option_or o (find_map f rest)) (none a e) ∙ h
+
+no_block : (x : Text) (a : Act) → is_note a ≡ false → block_in x a ≡ None
+no_block x (Common areas) e = absurd (true≢false e)
+no_block x _ e = refl
+
+no_type : (x : Text) (a : Act) → is_note a ≡ false → type_given x a ≡ None
+no_type x (Typed t ds) e = absurd (true≢false e)
+no_type x _ e = refl
+
+-- ---- what the source says ----
+
+clean_said : (c : Context) (said : List Act) (n : ℕ) (acts : List Act) → AllRight c said n acts → AllOf (IsCleanAct c said) acts
+clean_said c said n [] h = tt
+clean_said c said n (a ∷ rest) h = (clean_alone c said n a h.0, clean_said c said (n + 1) rest h.1)
+
+unmixed_said : (c : Context) (said : List Act) (n : ℕ) (acts : List Act) → AllRight c said n acts → AllOf (λ a. mixes_roles c said a ≡ false) acts
+unmixed_said c said n [] h = tt
+unmixed_said c said n (a ∷ rest) h =
+    let own = declares_own c.header a || mixes_roles c said a in
+    let once = or_parts (redeclares said n a) (lists_again c said n a || own) (h.0 DuplicateName) in
+    let listed = or_parts (lists_again c said n a) own once.1 in
+    ((or_parts (declares_own c.header a) (mixes_roles c said a) listed.1).1, unmixed_said c said (n + 1) rest h.1)
+
 -- ---- the unit ----
 
-module _ (ss : Commands) (accepted : fault_of_parts (unit_parts ss) ≡ None) (few : length (names_of ss) < 99999) (made : ℕ → ℕ) (first last : Place) where
-  abbrev q : Text
-  q = spare_name ss
+module _ (unit : RatRoutine) (accepted : Passed unit.header (unit_parts unit.body)) (few : length (unit_names unit) < 99999) (made : ℕ → ℕ) (last : Place) where
+  abbrev h : Header
+  h = unit.header
 
-  abbrev K : Text → Type 0
-  K x = x ≢ q
+  abbrev ss : Commands
+  ss = unit.body
+
+  abbrev q : Text
+  q = spare_name unit
 
   abbrev vs : List Part
   vs = unit_parts ss
 
+  abbrev rules : UnitRules
+  rules = unit_whole h vs
+
   abbrev said : List Act
-  said = said_in vs
+  said = said_in h vs
+
+  abbrev m : List Note
+  m = noted said
 
   abbrev c : Context
-  c = context_of_parts vs
+  c = context_by h said
+
+  abbrev own : Text
+  own = name_of h
 
   abbrev added : Bool
-  added = ends_so false (all_code made q ss 0 [] [])
+  added = ends_itself h (all_code made q own ss 0 [] [])
 
   abbrev code1 : List Line
-  code1 = all_code made q ss 0 [] (stop_unless added last)
+  code1 = all_code made q own ss 0 [] (end_unless (is_main h) added last)
 
   abbrev lines_by : Bool → List Line
-  lines_by v = declared_if v first q code1
+  lines_by v = declared_if v unit.place q code1
 
   abbrev acts_by : Bool → List Act
   acts_by v = acts_in_unit (lines_by v)
 
+  abbrev n : Bool → List Note
+  n v = noted (acts_by v)
+
   abbrev d : Bool → Context
-  d v = context_by MainUnit (acts_by v)
+  d v = context_by h (acts_by v)
 
-  built_lacking : AllOf (λ a. (is_built c a ≡ true) × Lacking q a) said
-  built_lacking = of_both (λ a. is_built c a ≡ true) (Lacking q) said (all_built ss accepted) (lacking ss accepted few)
+  others : AllOf (AllNamed (λ x. x ≢ q)) said
+  others = named unit accepted few
 
-  declared_others : AllOf (λ a. AllDeclared K (declared_in a)) said
-  declared_others = of_weaker (λ a. AllDeclared K (declared_in a)) (Lacking q) said (λ a h. (lacking_parts q a h).0) (lacking ss accepted few)
+  head_apart : IsApart q h
+  head_apart = header_apart unit accepted few
 
-  used_others : AllOf (λ a. AllUsed K (uses_in a)) said
-  used_others = of_weaker (λ a. AllUsed K (uses_in a)) (Lacking q) said (λ a h. (lacking_parts q a h).1) (lacking ss accepted few)
-
-  said_is_clean : AllClean c said 0 said
-  said_is_clean = said_clean (unit_whole vs) nothing_before vs (clean ss accepted).keep
+  right : AllRight c said 0 said
+  right = said_right rules nothing_before vs accepted.keep
 
   -- ---- names mean the same ----
 
-  same_notes : noted (acts_in_unit code1) ≡ noted said
+  same_notes : noted (acts_in_unit code1) ≡ m
   same_notes =
-      noted_lines code1 ∙ ap stripped (notes_whole made q ss added last ∙ unit_notes (unit_whole vs) ss (fine ss accepted)) ∙ sym (noted_said (unit_whole vs) vs (fine ss accepted))
+      noted_lines code1 ∙ ap stripped (notes_ended made q own ss (is_main h) added last ∙ unit_notes rules ss (fine h ss accepted)) ∙ sym (noted_said rules vs (fine h ss accepted))
 
-  either_way : (w : Bool) (others : List Par) → (if w then others else others) ≡ others
-  either_way true others = refl
-  either_way false others = refl
+  either_way : (w : Bool) (rest : List Par) → (if w then rest else rest) ≡ rest
+  either_way true rest = refl
+  either_way false rest = refl
 
-  same_sizes : (v : Bool) (x : Text) → sizes_of x (noted (acts_by v)) ≡ sizes_of x (noted said)
+  pub same_sizes : (v : Bool) (x : Text) → sizes_of x (n v) ≡ sizes_of x m
   same_sizes true x = either_way (bytes_eq x q) (sizes_of x (noted (acts_in_unit code1))) ∙ ap (sizes_of x) same_notes
   same_sizes false x = ap (sizes_of x) same_notes
 
   -- with whatever type where none is declared
-  typed_alike : (v : Bool) (unsaid : TypeWord) (x : Text) → K x → type_in x (noted (acts_by v)) unsaid ≡ type_in x (noted said) unsaid
-  typed_alike true unsaid x k = ap (λ b. if b || false then Integer else type_in x (noted (acts_in_unit code1)) unsaid) (never_itself x q k) ∙ ap (λ ns. type_in x ns unsaid) same_notes
-  typed_alike false unsaid x k = ap (λ ns. type_in x ns unsaid) same_notes
-
-  same_types : (v : Bool) (x : Text) → K x → type_of (d v) x ≡ type_of c x
-  same_types v x k = typed_alike v (by_letter x) x k
-
-  same_foreign : (v : Bool) (x : Text) → K x → is_foreign (d v) x ≡ is_foreign c x
-  same_foreign v x k = ap is_other (typed_alike v Integer x k)
-
-  same_forms : (v : Bool) (x : Text) → name_form (d v) x ≡ name_form c x
-  same_forms v x = ap (λ ns. form_by (array_or ns x)) (same_sizes v x)
-
-  plain : (v : Bool) → is_array_name (d v) q ≡ false
-  plain v = ap is_array_form (same_forms v q) ∙ ap (λ ns. is_array_form (form_by (array_or ns q))) (none_sized c q said built_lacking) ∙ no_array intrinsics q
-
-  -- ---- names are used in their classes ----
-
-  used_right : AllUses (λ u. (u.name ≢ q) × (misuses c said u ≡ false)) (flat_map uses_in said)
-  used_right =
-      uses_both (λ u. u.name ≢ q) (λ u. misuses c said u ≡ false) (flat_map uses_in said) (said_used (λ u. u.name ≢ q) said used_others)
-      (said_used (λ u. misuses c said u ≡ false) said (of_weaker (Uses (λ u. misuses c said u ≡ false)) (CleanThere c said) said (no_misuse c said) (clean_there c said 0 said said_is_clean)))
-
-  code_right : AllUses (Right c said q) (flat_map uses_in (acts_in_unit code1))
-  code_right =
-      lines_used (Right c said q) code1
-      (good_unit (Uses (Right c said q)) made q (uses_keep (Right c said q)) ss added last (λ e. uses_keep_values (Right c said q) q (inl refl))
-      (says ss accepted (Uses (Right c said q)) (used_said (Right c said q) said (uses_more (λ u. (u.name ≢ q) × (misuses c said u ≡ false)) (Right c said q) (flat_map uses_in said) (λ u i h. inr h) used_right))))
-
-  acts_right : (v : Bool) → AllUses (Right c said q) (flat_map uses_in (acts_by v))
-  acts_right true = code_right
-  acts_right false = code_right
-
-  back_said : (N : Usage → Type 0) (v : Bool) → AllUses N (flat_map uses_in (acts_by v)) → AllUses N (flat_map uses_in said)
-  back_said N true h = said_used N said (back_unit (Uses N) made q (uses_back N q) ss added last (used_lines N code1 h))
-  back_said N false h = said_used N said (back_unit (Uses N) made q (uses_back N q) ss added last (used_lines N code1 h))
-
-  said_right : (v : Bool) → AllUses (λ u. misuses (d v) (acts_by v) u ≡ false) (flat_map uses_in said)
-  said_right v =
-      uses_more (λ u. (u.name ≢ q) × (misuses c said u ≡ false)) (λ u. misuses (d v) (acts_by v) u ≡ false) (flat_map uses_in said)
-      (λ u i h.
-      source_right c (d v) said (acts_by v) q (classed c (d v) K (λ x k. same_forms v x) (same_types v) (same_foreign v) refl) (acts_right v) u
-      (λ f none. use_there (λ w. f w ≡ None) (flat_map uses_in said) u (back_said (λ w. f w ≡ None) v none) i) h.0 h.1)
-      used_right
-
-  -- ---- what the source says is clean and built ----
-
-  first_declared : (v : Bool) (a : Act) → redeclared [] a ≡ false → redeclares (acts_by v) 0 a ≡ false
-  first_declared v a e = redeclares_at [] (acts_by v) a ∙ e
-
-  record Item (v : Bool) (a : Act) : Type 0 where
-    pub there : CleanThere c said a
-    pub names : AllUsed K (uses_in a) × AllDeclared K (declared_in a)
-    pub once : redeclared [] a ≡ false
-    pub right : Uses (λ u. misuses (d v) (acts_by v) u ≡ false) a
-
-  items : (v : Bool) (acts : List Act) → AllOf (CleanThere c said) acts → AllOf (λ a. AllUsed K (uses_in a)) acts → AllOf (λ a. AllDeclared K (declared_in a)) acts → AllOf (λ a. redeclared [] a ≡ false) acts →
-      AllOf (Uses (λ u. misuses (d v) (acts_by v) u ≡ false)) acts → AllOf (Item v) acts
-  items v [] h1 h2 h3 h4 h5 = tt
-  items v (a ∷ rest) h1 h2 h3 h4 h5 = (record { there = h1.0; names = (h2.0, h3.0); once = h4.0; right = h5.0 }, items v rest h1.1 h2.1 h3.1 h4.1 h5.1)
-
-  item_clean : (v : Bool) (a : Act) → Item v a → IsCleanAct (d v) (acts_by v) a
-  item_clean v a h k =
-      clean_alike c (d v) K (λ x e. same_forms v x) (same_types v) (same_foreign v) refl (acts_by v) said h.there.0 0 a h.names.0 h.names.1 h.there.1
-      (or_from (redeclares (acts_by v) 0 a) _ (first_declared v a h.once) (misused_none (d v) (acts_by v) (uses_in a) h.right)) k
-
-  anew_said : Anew [] said
-  anew_said = anew_of c [] said said_is_clean
-
-  clean_said : (v : Bool) → AllOf (IsCleanAct (d v) (acts_by v)) said
-  clean_said v =
-      of_weaker (IsCleanAct (d v) (acts_by v)) (Item v) said (item_clean v)
-      (items v said (clean_there c said 0 said said_is_clean) used_others declared_others (all_first [] said anew_said) (used_said (λ u. misuses (d v) (acts_by v) u ≡ false) said (said_right v)))
-
-  built_said : (v : Bool) → AllOf (IsBuiltAct (d v)) said
-  built_said v =
-      of_weaker (IsBuiltAct (d v)) (λ a. (is_built c a ≡ true) × AllUsed K (uses_in a)) said (λ a h. built_alike c (d v) K (λ x k. same_forms v x) (same_types v) (same_foreign v) refl a h.1 ∙ h.0)
-      (of_both (λ a. is_built c a ≡ true) (λ a. AllUsed K (uses_in a)) said (all_built ss accepted) used_others)
-
-  -- ---- nothing is declared again ----
-
-  same_declarations : declarations (acts_in_unit code1) ≡ declarations said
-  same_declarations = ap (map (λ (n : Note). n.act)) same_notes
-
-  all_anew : (v : Bool) → Anew [] (acts_by v)
-  all_anew true =
-      anew_declarations [] (acts_by true)
-      (refl, subst (λ acts. Anew (declaration q ∷ []) acts) (sym same_declarations) (anew_behind q [] (declarations said) (of_declarations (λ a. AllDeclared K (declared_in a)) said declared_others) (declarations_anew [] said anew_said)))
-  all_anew false = anew_declarations [] (acts_by false) (subst (λ acts. Anew [] acts) (sym same_declarations) (declarations_anew [] said anew_said))
-
-  lines_anew : (v : Bool) (i : ℕ) (s : Line) → slice_get (lines_by v) i ≡ Some s → redeclares (acts_by v) i s.act ≡ false
-  lines_anew v i s e =
-      let there : 0 + i ≡ i = omega arith in
-      subst (λ n. redeclares (acts_by v) n s.act ≡ false) there (anew_at [] (acts_by v) i s.act (all_anew v) (get_act (lines_by v) i s e))
-
-  -- ---- the spare name is an integer variable ----
+  typed_alike : (v : Bool) (unsaid : TypeWord) (x : Text) → x ≢ q → type_in x (n v) unsaid ≡ type_in x m unsaid
+  typed_alike true unsaid x other = ap (λ b. if b || false then Integer else type_in x (noted (acts_in_unit code1)) unsaid) (never_itself x q other) ∙ ap (λ ns. type_in x ns unsaid) same_notes
+  typed_alike false unsaid x other = ap (λ ns. type_in x ns unsaid) same_notes
 
   itself : bytes_eq q q ≡ true
   itself = (bytes_eq-Decides q q).1 refl
 
-  typed_integer : (unsaid : TypeWord) → type_in q (noted (acts_by true)) unsaid ≡ Integer
+  typed_integer : (unsaid : TypeWord) → type_in q (n true) unsaid ≡ Integer
   typed_integer unsaid = ap (λ b. if b || false then Integer else type_in q (noted (acts_in_unit code1)) unsaid) itself
 
-  spare_there : have_switch ss ≡ true → (N : Usage → Type 0) → AllUses N (flat_map uses_in (acts_by true)) → N (usage q Alone)
-  spare_there e N h = (store_in (Uses N) made q (uses_back N q) ss 0 [] (stop_unless added last) e (used_lines N code1 h)).1.0
+  -- it begins with a Z
+  real : by_letter q ≡ Other
+  real = ap (λ l. by_letter (made_name l (next_number (keeping_all (unit_names unit) unused).numbers))) (kept_letter (unit_names unit) unused)
 
-  scalar : have_switch ss ≡ true → IsScalar (d true) (acts_by true) q
-  scalar e = record {
-    named = ap (λ l. is_name (made_name l (next_number (keeping_all (names_of ss) unused).numbers))) (kept_letter (names_of ss) unused) ∙ made_is_name (next_number (keeping_all (names_of ss) unused).numbers);
+  untyped_spare : (w : TypeWord) → type_in q m w ≡ w
+  untyped_spare w = untyped q said w others
+
+  either : {A : Type 0} (x : Text) → (x ≡ q → A) → (x ≢ q → A) → A
+  either {A = A} x there else_where = by (bytes_eq x q) refl
+    where
+      by : (v : Bool) → bytes_eq x q ≡ v → A
+      by true e = there ((bytes_eq-Decides x q).0 e)
+      by false e = else_where (λ same. true≢false (sym ((bytes_eq-Decides x q).1 same) ∙ e))
+
+  spare_kind : (v : Bool) → kind_of (d v) q ≡ kind_of c q
+  spare_kind true = ap kind_by (typed_integer (by_header q h)) ∙ sym (ap kind_by (untyped_spare (by_header q h) ∙ head_apart.letter ∙ real))
+  spare_kind false = ap (λ ns. kind_by (type_in q ns (by_header q h))) same_notes
+
+  same_kinds : (v : Bool) (x : Text) → kind_of (d v) x ≡ kind_of c x
+  same_kinds v x = either x (λ same. subst (λ y. kind_of (d v) y ≡ kind_of c y) (sym same) (spare_kind v)) (λ other. ap kind_by (typed_alike v (by_header x h) x other))
+
+  spare_foreign : (v : Bool) → is_foreign (d v) q ≡ is_foreign c q
+  spare_foreign true = ap is_other (typed_integer (given_by q h)) ∙ sym (ap is_other (untyped_spare (given_by q h) ∙ head_apart.given))
+  spare_foreign false = ap (λ ns. is_other (type_in q ns (given_by q h))) same_notes
+
+  same_foreign : (v : Bool) (x : Text) → is_foreign (d v) x ≡ is_foreign c x
+  same_foreign v x = either x (λ same. subst (λ y. is_foreign (d v) y ≡ is_foreign c y) (sym same) (spare_foreign v)) (λ other. ap is_other (typed_alike v (given_by x h) x other))
+
+  spare_letters : (v : Bool) → is_real_by_letter c q ≡ false → is_real_by_letter (d v) q ≡ false
+  spare_letters true e = ap (λ t. is_other t && not (is_foreign (d true) q)) (typed_integer (by_header q h))
+  spare_letters false e = ap (λ ns. is_real_by_letter (record { header = h; notes = ns }) q) same_notes ∙ e
+
+  same_letters : (v : Bool) (x : Text) → is_real_by_letter c x ≡ false → is_real_by_letter (d v) x ≡ false
+  same_letters v x =
+      either x (λ same. subst (λ y. is_real_by_letter c y ≡ false → is_real_by_letter (d v) y ≡ false) (sym same) (spare_letters v))
+      (λ other e. ap (λ t. is_other t && not (is_foreign (d v) x)) (typed_alike v (by_header x h) x other) ∙ ap (λ b. is_other (type_of c x) && not b) (same_foreign v x) ∙ e)
+
+  same_declarations : declarations (acts_in_unit code1) ≡ declarations said
+  same_declarations = ap (map (λ (n : Note). n.act)) same_notes
+
+  same_found : {V : Type 0} (f : Act → Option V) → ((a : Act) → is_note a ≡ false → f a ≡ None) → find_map f (acts_in_unit code1) ≡ find_map f said
+  same_found f none = find_declared f none (acts_in_unit code1) ∙ ap (find_map f) same_declarations ∙ sym (find_declared f none said)
+
+  same_blocks : (v : Bool) (x : Text) → find_map (block_in x) (acts_by v) ≡ find_map (block_in x) said
+  same_blocks true x = same_found (block_in x) (no_block x)
+  same_blocks false x = same_found (block_in x) (no_block x)
+
+  same_given : (v : Bool) (x : Text) → x ≢ q → find_map (type_given x) (acts_by v) ≡ find_map (type_given x) said
+  same_given true x other = ap (λ b. option_or (if b || false then Some Integer else None) (find_map (type_given x) (acts_in_unit code1))) (never_itself x q other) ∙ same_found (type_given x) (no_type x)
+  same_given false x other = same_found (type_given x) (no_type x)
+
+  -- ---- the spare name is an integer variable ----
+
+  plain : (v : Bool) → is_array_name (d v) q ≡ false
+  plain v = ap (λ ns. is_array_form (form_by (array_or ns q))) (same_sizes v q ∙ none_sized q said others) ∙ no_array intrinsics q
+
+  scalar : IsScalar (d true) q
+  scalar = record {
+    named = ap (λ l. is_name (made_name l (next_number (keeping_all (unit_names unit) unused).numbers))) (kept_letter (unit_names unit) unused) ∙ made_is_name (next_number (keeping_all (unit_names unit) unused).numbers);
     short = refl;
-    typed = ap (λ t. is_other t && not (is_foreign (d true) q)) (typed_integer (by_letter q));
-    own = ap is_other (typed_integer Integer);
-    kind = ap kind_by (typed_integer (by_letter q));
+    typed = ap (λ t. is_other t && not (is_foreign (d true) q)) (typed_integer (by_header q h));
+    own = ap is_other (typed_integer (given_by q h));
+    kind = ap kind_by (typed_integer (by_header q h));
     plain = plain true;
-    used = spare_right c (d true) said (acts_by true) q (classed c (d true) K (λ x k. same_forms true x) (same_types true) (same_foreign true) refl) (acts_right true) (plain true) (λ f none. spare_there e (λ w. f w ≡ None) none);
+    unsettled = head_apart.unsettled;
   }
 
-  pub unit_is_sound : (place : Place) → KeepsFlow (unit_code made q first last ss) → IsSound (record { header = MainUnit; lines = unit_code made q first last ss; place = place })
-  unit_is_sound place flow =
-      let v = have_switch ss in
-      unit_sound made q first last place ss flow (says ss accepted (IsBuiltAct (d v)) (built_said v)) (says ss accepted (IsCleanAct (d v) (acts_by v)) (clean_said v)) (lines_anew v)
-      (λ e. subst (λ b. IsScalar (d b) (acts_by b) q) (sym e) (scalar e))
+  values : (v : Bool) → have_switch ss ≡ v → have_switch ss ≡ true → KeepsValues (IsCleanAct (d v) (acts_by v)) q
+  values true is e = clean_values (d true) (acts_by true) q scalar
+  values false is e = absurd (true≢false (sym e ∙ is))
+
+  -- ---- each statement breaks no rule ----
+
+  clean_code1 : (v : Bool) → have_switch ss ≡ v → AllSay (IsCleanAct (d v) (acts_by v)) code1
+  clean_code1 v is =
+      good_unit (IsCleanAct (d v) (acts_by v)) made q own (clean_keeps (d v) (acts_by v)) ss (is_main h) added last (λ e. return_clean (d v) (acts_by v)) (values v is)
+      (says h ss accepted (IsCleanAct (d v) (acts_by v)) (return_clean (d v) (acts_by v))
+      (of_weaker (IsCleanAct (d v) (acts_by v)) (IsCleanAct c said) said (clean_alike h m (n v) said (acts_by v) (same_sizes v) (same_blocks v) (same_kinds v) (same_foreign v) (same_letters v)) (clean_said c said 0 said right)))
+
+  clean_lines : (v : Bool) → have_switch ss ≡ v → AllSay (IsCleanAct (d v) (acts_by v)) (lines_by v)
+  clean_lines true is = (declaration_clean (d true) (acts_by true) q scalar, clean_code1 true is)
+  clean_lines false is = clean_code1 false is
+
+  abbrev Unmixed : Bool → Act → Type 0
+  Unmixed v = IsUnmixed h m (n v) (same_sizes v) said (acts_by v) q
+
+  none_said : find_map (role_in c q) said ≡ None
+  none_said = unsaid q c said others
+
+  unmixed_code1 : (v : Bool) → AllSay (Unmixed v) code1
+  unmixed_code1 v =
+      good_unit (Unmixed v) made q own (unmixed_keeps h m (n v) (same_sizes v) said (acts_by v) q) ss (is_main h) added last (λ e. refl) (λ e. unmixed_values h m (n v) (same_sizes v) said (acts_by v) q)
+      (says h ss accepted (Unmixed v) refl (of_weaker (Unmixed v) (λ a. mixes_roles c said a ≡ false) said (source_unmixed h m (n v) (same_sizes v) said (acts_by v) q head_apart.unheld none_said) (unmixed_said c said 0 said right)))
+
+  unmixed_lines : (v : Bool) → AllSay (Unmixed v) (lines_by v)
+  unmixed_lines true = (refl, unmixed_code1 true)
+  unmixed_lines false = unmixed_code1 false
+
+  unmixed_acts : (v : Bool) → AllOf (Unmixed v) (acts_by v)
+  unmixed_acts v = acts_so (Unmixed v) (lines_by v) (unmixed_lines v)
+
+  -- ---- nothing is declared again ----
+
+  declared_others : AllOf (λ a. AllDeclared (λ x. x ≢ q) (declared_in a)) said
+  declared_others = of_weaker (λ a. AllDeclared (λ x. x ≢ q) (declared_in a)) (AllNamed (λ x. x ≢ q)) said (λ a k. k.declared) others
+
+  anew_said : Anew [] said
+  anew_said = anew_of c [] said right
+
+  all_anew : (v : Bool) → Anew [] (acts_by v)
+  all_anew true =
+      anew_declarations [] (acts_by true)
+      (refl, subst (λ acts. Anew (declaration q ∷ []) acts) (sym same_declarations) (anew_behind q [] (declarations said) (of_declarations (λ a. AllDeclared (λ x. x ≢ q) (declared_in a)) said declared_others) (declarations_anew [] said anew_said)))
+  all_anew false = anew_declarations [] (acts_by false) (subst (λ acts. Anew [] acts) (sym same_declarations) (declarations_anew [] said anew_said))
+
+  lines_anew : (v : Bool) (i : ℕ) (a : Act) → slice_get (acts_by v) i ≡ Some a → repeated (acts_by v) i a ≡ false
+  lines_anew v i a e =
+      let there : 0 + i ≡ i = omega arith in
+      subst (λ k. repeated (acts_by v) k a ≡ false) there (anew_at [] (acts_by v) i a (all_anew v) e)
+
+  act_clean : (v : Bool) → have_switch ss ≡ v → (i : ℕ) (a : Act) → slice_get (acts_by v) i ≡ Some a → (k : Rule) → breaks_rule (d v) (acts_by v) i a k ≡ false
+  act_clean v is i a e =
+      clean_at (d v) (acts_by v) i a (of_at (IsCleanAct (d v) (acts_by v)) (acts_by v) i a (acts_so (IsCleanAct (d v) (acts_by v)) (lines_by v) (clean_lines v is)) e) (lines_anew v i a e)
+      (unit_unmixed h m (n v) (same_sizes v) said (acts_by v) q head_apart.unheld (unmixed_acts v) (same_given v) a (of_at (Unmixed v) (acts_by v) i a (unmixed_acts v) e)
+      (λ x unused. of_at (λ b. role_in c x b ≡ None) (acts_by v) i a (none_in (role_in c x) (acts_by v) unused) e))
+
+  -- ---- the header ----
+
+  values_none : (v : Bool) (xs : List Text) → list_any (is_real_by_letter c) xs ≡ false → list_any (is_real_by_letter (d v)) xs ≡ false
+  values_none v [] e = refl
+  values_none v (x ∷ xs) e = let k = or_parts (is_real_by_letter c x) _ e in or_from (is_real_by_letter (d v) x) _ (same_letters v x k.0) (values_none v xs k.1)
+
+  header_clean : (v : Bool) (k : Rule) → breaks_header (d v) k ≡ false
+  header_clean v Syntax = accepted.headed Syntax
+  header_clean v NameTooLong = accepted.headed NameTooLong
+  header_clean v OutOfProfileType = let k = or_parts (gives_other h) _ (accepted.headed OutOfProfileType) in or_from (gives_other h) _ k.0 (values_none v (header_values h) k.1)
+  header_clean v DuplicateName = accepted.headed DuplicateName
+  header_clean v _ = refl
+
+  -- ---- the whole ----
+
+  abbrev unit_by : Bool → Place → Routine
+  unit_by v place = record { header = h; lines = lines_by v; place = place }
+
+  line_clean : (v : Bool) → have_switch ss ≡ v → (i : ℕ) (o : Option Line) → slice_get (lines_by v) i ≡ o → (k : Rule) → is_some_and (λ s. breaks_flow Whole h (lines_by v) i s k) o ≡ false →
+      is_some_and (λ s. breaks_statement Whole (d v) (acts_by v) (lines_by v) i s k) o ≡ false
+  line_clean v is i None e k flow = refl
+  line_clean v is i (Some s) e k flow = or_from (breaks_flow Whole h (lines_by v) i s k) _ flow (act_clean v is i s.act (get_act (lines_by v) i s e) k)
+
+  sound_by : (v : Bool) → have_switch ss ≡ v → (place : Place) → KeepsFlow h (lines_by v) → IsSoundUnit (unit_by v place)
+  sound_by v is place flow = record { clean = part }
+    where
+      part : (j : ℕ) (k : Rule) → breaks_unit Whole (unit_by v place) j k ≡ false
+      part zero k = or_from (header_breaks_flow Whole h (lines_by v) k) _ (flow.header k) (header_clean v k)
+      part (suc i) k = line_clean v is i (slice_get (lines_by v) i) refl k (flow.statements i k)
+
+  pub unit_is_sound : (place : Place) → KeepsFlow h (unit_code made q h unit.place last ss) → IsSoundUnit (record { header = h; lines = unit_code made q h unit.place last ss; place = place })
+  unit_is_sound place flow = sound_by (have_switch ss) refl place flow

@@ -6,18 +6,19 @@ use Rattle.std.proofs.lemmas.Bool.Decides.{nat_tests}
 use Rattle.std.proofs.lemmas.Bool.{or_parts, or_from, and_left, and_right, le-ltb}
 use Rattle.ground.specs.declared.place.Place.{Place}
 use Rattle.rule_table.specs.Words.{first_place, is_below}
-use Rattle.f66_tree.specs.Syntax.{Text, Act, Format, Typed, Dimension, Common, Equivalence, Line}
+use Rattle.f66_tree.specs.Syntax.{Header, MainUnit, SubUnit, FuncUnit, DataUnit, Text, Formula, Act, Format, Typed, Dimension, Common, Equivalence, Line}
+use Rattle.f66_tree.specs.Units.{name_of}
 use Rattle.f66_flow.specs.Acts.{is_executable, is_specification, is_data, is_format}
 use Rattle.f66_flow.specs.FlowRules.{is_late as is_late_line}
 use Rattle.rat_tree.specs.Syntax.{Command, Empty, Block, If, IfElse, While, For, Repeat, RepeatUntil, Do, Switch, Break, Next, Return, Plain, Labelled, Commands, NoCommand, AndCommand}
 use Rattle.rat_check.specs.Parts.{Form, Bare, RepeatHead, Statement, Condition, Selector, CaseList, ForHead, DoHead, LoopExit, ReturnHead, Labels, Part, part, with_mark, with_labels, parts_of, parts_in, clause_parts}
-use Rattle.rat_check.specs.Said.{said_by}
+use Rattle.rat_check.specs.Said.{said_by, returned_act}
 use Rattle.rat_check.specs.Rules.{is_ratfor, Before, begins, behind, UnitRules, is_late_form}
 use Rattle.rat_check.proofs.CleanLemmas.{AllKeep}
-use Rattle.rat_lower.specs.Code.{Rings, labels, here, code_of, all_code, stop_unless}
+use Rattle.rat_lower.specs.Code.{Rings, labels, here, code_of, all_code, end_unless}
 use Rattle.rat_lower.proofs.Accepted.NoFault.{AllParts, split, Fine, AllFine, AllOf, SaysSo, values_so, prepared_so}
 use Rattle.rat_lower.proofs.Soundness.Kept.{AllSay, Keeps, KeepsValues, good_code}
-use Rattle.rat_lower.proofs.Soundness.Says.{both_good, good}
+use Rattle.rat_lower.proofs.Soundness.Says.{any_return, both_good, good}
 
 -- ---- lines ----
 
@@ -122,7 +123,7 @@ or_turned false false = refl
 
 pub early_parts : (u : UnitRules) (b : Before) (vs : List Part) → AllKeep u b vs → EarlyParts b.begun vs
 early_parts u b [] h = tt
-early_parts u b (v ∷ vs) h = (h.1.early, subst (λ x. EarlyParts x vs) (or_turned b.begun (begins v.label v.form)) (early_parts u (behind b v) vs h.2))
+early_parts u b (v ∷ vs) h = (h.0.early, subst (λ x. EarlyParts x vs) (or_turned b.begun (begins v.label v.form)) (early_parts u (behind u.context.header b v) vs h.1))
 
 early_split : (begun : Bool) (xs ys : List Part) → EarlyParts begun (xs ++ ys) → EarlyParts begun xs × EarlyParts (after begun xs) ys
 early_split begun [] ys h = (tt, h)
@@ -152,21 +153,28 @@ and_one : (a : Bool) → (a && true) ≡ false → a ≡ false
 and_one true e = e
 and_one false e = refl
 
-quiet_so : (form : Form) → is_ratfor form ≡ true → is_late_form true form ≡ false → AllOf NotSpecial (said_by form)
-quiet_so Bare is h = tt
-quiet_so RepeatHead is h = tt
-quiet_so (Statement a) is h = (and_one (is_specification a) h, tt)
-quiet_so (Condition e) is h = (refl, tt)
-quiet_so (Selector e) is h = (refl, tt)
-quiet_so (CaseList es second) is h = values_so NotSpecial (λ e. refl) es
-quiet_so (ForHead a e b) is h = prepared_so NotSpecial (λ x f. refl) (λ f. refl) a e b is
-quiet_so (DoHead x a b c) is h = (refl, tt)
-quiet_so (LoopExit n) is h = tt
-quiet_so ReturnHead is h = tt
+returned_quiet : (k : Header) (e : Formula) → NotSpecial (returned_act k e)
+returned_quiet MainUnit e = refl
+returned_quiet (SubUnit x ds) e = refl
+returned_quiet (FuncUnit t x ds) e = refl
+returned_quiet DataUnit e = refl
 
-all_quiet_so : (u : UnitRules) (vs : List Part) → AllFine u vs → AllParts Quiet vs → AllParts (SaysSo NotSpecial) vs
+quiet_so : (k : Header) (form : Form) → is_ratfor form ≡ true → is_late_form true form ≡ false → AllOf NotSpecial (said_by k form)
+quiet_so k Bare is h = tt
+quiet_so k RepeatHead is h = tt
+quiet_so k (Statement a) is h = (and_one (is_specification a) h, tt)
+quiet_so k (Condition e) is h = (refl, tt)
+quiet_so k (Selector e) is h = (refl, tt)
+quiet_so k (CaseList es second) is h = values_so NotSpecial (λ e. refl) es
+quiet_so k (ForHead a e b) is h = prepared_so NotSpecial (λ x f. refl) (λ x es. refl) (λ f. refl) a e b is
+quiet_so k (DoHead x a b c) is h = (refl, tt)
+quiet_so k (LoopExit n) is h = tt
+quiet_so k (ReturnHead None) is h = tt
+quiet_so k (ReturnHead (Some e)) is h = (returned_quiet k e, tt)
+
+all_quiet_so : (u : UnitRules) (vs : List Part) → AllFine u vs → AllParts Quiet vs → AllParts (SaysSo u.context.header NotSpecial) vs
 all_quiet_so u [] h q = tt
-all_quiet_so u (v ∷ vs) h q = (quiet_so v.form h.0.ratfor q.0, all_quiet_so u vs h.1 q.1)
+all_quiet_so u (v ∷ vs) h q = (quiet_so u.context.header v.form h.0.ratfor q.0, all_quiet_so u vs h.1 q.1)
 
 -- ---- which statements begin the executable ones ----
 
@@ -233,7 +241,7 @@ started (Do p x a b d c) k r l begun is h = behind_first begun (part k r l p (Do
 started (Switch p e cs) k r l begun is h = behind_first begun (part k r l p (Selector e)) (clause_parts k r false cs) (opened l (Selector e) refl) refl h
 started (Break p n) k r l begun is h = behind_first begun (part k r l p (LoopExit n)) [] (opened l (LoopExit n) refl) refl h
 started (Next p n) k r l begun is h = behind_first begun (part k r l p (LoopExit n)) [] (opened l (LoopExit n) refl) refl h
-started (Return p e) k r l begun is h = behind_first begun (part k r l p ReturnHead) [] (opened l ReturnHead refl) refl h
+started (Return p e) k r l begun is h = behind_first begun (part k r l p (ReturnHead e)) [] (opened l (ReturnHead e) refl) refl h
 started (Empty p) k r l begun is h = absurd (true≢false (sym is))
 started (Block p ss) k r l begun is h = absurd (true≢false (sym is))
 started (Plain m p a) k r l begun is h = absurd (true≢false (sym is))
@@ -264,20 +272,23 @@ abbrev Within : Bool → Bool → Type 0
 Within inner outer = inner ≡ true → outer ≡ true
 
 module _ (u : UnitRules) (made : ℕ → ℕ) (spare : Text) where
+  abbrev own : Text
+  own = name_of u.context.header
+
   abbrev P : Part → Type 0
   P = Fine u
 
   -- a statement that has begun, before others
   quiet_code : (c : Command) (k : ℕ) (r : Labels) (l : Option ℕ) (begun inner : Bool) (n : ℕ) (ls : Rings) (next : List Line) →
-      AllFine u (parts_of k r l c) → Begun begun (parts_of k r l c) → ((d : Bool) → Within d (after begun (parts_of k r l c)) → Early d next) → Early inner (code_of made spare c n ls next)
+      AllFine u (parts_of k r l c) → Begun begun (parts_of k r l c) → ((d : Bool) → Within d (after begun (parts_of k r l c)) → Early d next) → Early inner (code_of made spare own c n ls next)
   quiet_code c k r l begun inner n ls next fine h rest =
-      let says = good NotSpecial u c k r l (both_good NotSpecial u (parts_of k r l c) fine (all_quiet_so u (parts_of k r l c) fine h.quiet)) in
-      none_late inner (code_of made spare c n ls next)
-      (good_code NotSpecial made spare special_keeps c n ls next (λ e. special_values spare) says (all_begun true next refl (rest true (λ e. h.ends))))
+      let says = good NotSpecial u c k r l (both_good NotSpecial u (parts_of k r l c) fine (all_quiet_so u (parts_of k r l c) fine h.quiet) (any_return NotSpecial u refl (parts_of k r l c))) in
+      none_late inner (code_of made spare own c n ls next)
+      (good_code NotSpecial made spare own special_keeps c n ls next (λ e. special_values spare) says (all_begun true next refl (rest true (λ e. h.ends))))
 
   mutual
     early_code : (c : Command) (k : ℕ) (r : Labels) (l : Option ℕ) (begun inner : Bool) (n : ℕ) (ls : Rings) (next : List Line) → Within inner begun →
-        AllFine u (parts_of k r l c) → EarlyParts begun (parts_of k r l c) → ((d : Bool) → Within d (after begun (parts_of k r l c)) → Early d next) → Early inner (code_of made spare c n ls next)
+        AllFine u (parts_of k r l c) → EarlyParts begun (parts_of k r l c) → ((d : Bool) → Within d (after begun (parts_of k r l c)) → Early d next) → Early inner (code_of made spare own c n ls next)
     early_code (Empty p) k r l begun inner n ls next may fine h rest = rest inner (λ e. right_is (begins l Bare) begun (may e))
     early_code (Block p ss) k r l begun inner n ls next may fine h rest =
         early_all ss k (with_labels ss r) (begins l Bare || begun) inner n ls next (λ e. right_is (begins l Bare) begun (may e)) fine.1 h.1 rest
@@ -295,7 +306,7 @@ module _ (u : UnitRules) (made : ℕ → ℕ) (spare : Text) where
     early_code (Labelled m p c) k r l begun inner n ls next may fine h rest = marked l fine h rest
       where
         marked : (o : Option ℕ) → AllFine u (with_mark k r o p (parts_of k r (Some m) c)) → EarlyParts begun (with_mark k r o p (parts_of k r (Some m) c)) →
-            ((d : Bool) → Within d (after begun (with_mark k r o p (parts_of k r (Some m) c))) → Early d next) → Early inner (here m p ∷ code_of made spare c n ls next)
+            ((d : Bool) → Within d (after begun (with_mark k r o p (parts_of k r (Some m) c))) → Early d next) → Early inner (here m p ∷ code_of made spare own c n ls next)
         marked None f g go = (refl, quiet_code c k r (Some m) begun true n ls next f (labelled c k r m begun g) go)
         marked (Some o) f g go = (refl, quiet_code c k r (Some m) true true n ls next f.1 (labelled c k r m true g.1) go)
     early_code (If p e c) k r l begun inner n ls next may fine h rest = quiet_code (If p e c) k r l begun inner n ls next fine (started (If p e c) k r l begun refl h) rest
@@ -311,20 +322,22 @@ module _ (u : UnitRules) (made : ℕ → ℕ) (spare : Text) where
     early_code (Return p e) k r l begun inner n ls next may fine h rest = quiet_code (Return p e) k r l begun inner n ls next fine (started (Return p e) k r l begun refl h) rest
 
     early_all : (ss : Commands) (k : ℕ) (r : Labels) (begun inner : Bool) (n : ℕ) (ls : Rings) (next : List Line) → Within inner begun →
-        AllFine u (parts_in k r ss) → EarlyParts begun (parts_in k r ss) → ((d : Bool) → Within d (after begun (parts_in k r ss)) → Early d next) → Early inner (all_code made spare ss n ls next)
+        AllFine u (parts_in k r ss) → EarlyParts begun (parts_in k r ss) → ((d : Bool) → Within d (after begun (parts_in k r ss)) → Early d next) → Early inner (all_code made spare own ss n ls next)
     early_all NoCommand k r begun inner n ls next may fine h rest = rest inner may
     early_all (AndCommand c ss) k r begun inner n ls next may fine h rest =
-        let own = parts_of k r None c in
+        let these = parts_of k r None c in
         let others = parts_in k r ss in
-        let f = split P own others fine in
-        let g = early_split begun own others h in
-        early_code c k r None begun inner n ls (all_code made spare ss (n + labels c) ls next) may f.0 g.0
-        (λ d w. early_all ss k r (after begun own) d (n + labels c) ls next w f.1 g.1 (λ d1 w1. rest d1 (λ e. after_append begun own others ∙ w1 e)))
+        let f = split P these others fine in
+        let g = early_split begun these others h in
+        early_code c k r None begun inner n ls (all_code made spare own ss (n + labels c) ls next) may f.0 g.0
+        (λ d w. early_all ss k r (after begun these) d (n + labels c) ls next w f.1 g.1 (λ d1 w1. rest d1 (λ e. after_append begun these others ∙ w1 e)))
 
-  early_stop : (v d : Bool) (p : Place) → Early d (stop_unless v p)
-  early_stop true d p = tt
-  early_stop false d p = (refl, tt)
+  early_end : (main v d : Bool) (p : Place) → Early d (end_unless main v p)
+  early_end true true d p = tt
+  early_end true false d p = (refl, tt)
+  early_end false true d p = tt
+  early_end false false d p = (refl, tt)
 
   -- the statements of a whole unit, without a declaration before them
-  pub early_unit : (ss : Commands) (v : Bool) (p : Place) (r : Labels) → AllFine u (parts_in 0 r ss) → EarlyParts false (parts_in 0 r ss) → Early false (all_code made spare ss 0 [] (stop_unless v p))
-  early_unit ss v p r fine h = early_all ss 0 r false false 0 [] (stop_unless v p) (λ e. e) fine h (λ d w. early_stop v d p)
+  pub early_unit : (ss : Commands) (main v : Bool) (p : Place) (r : Labels) → AllFine u (parts_in 0 r ss) → EarlyParts false (parts_in 0 r ss) → Early false (all_code made spare own ss 0 [] (end_unless main v p))
+  early_unit ss main v p r fine h = early_all ss 0 r false false 0 [] (end_unless main v p) (λ e. e) fine h (λ d w. early_end main v d p)

@@ -8,10 +8,10 @@ use Rattle.rule_table.specs.declared.rule.Rule.{Rule}
 use Rattle.rule_table.specs.declared.rule.Rule.TheVariants.{Syntax, BadLabel, DoNesting}
 use Rattle.rule_table.specs.First.{IsClean}
 use Rattle.rule_table.specs.Words.{first_place, last_place, is_some_and, is_below, is_number}
-use Rattle.f66_tree.specs.Syntax.{MainUnit, Act, Loop, Line}
+use Rattle.f66_tree.specs.Syntax.{Header, MainUnit, SubUnit, FuncUnit, DataUnit, Act, Loop, Line}
 use Rattle.f66_tree.specs.Units.{is_note}
 use Rattle.f66_tree.specs.Execution.{has_label, from_label}
-use Rattle.f66_flow.specs.Acts.{is_executable, is_transfer, ends_no_range, branches, formats_named}
+use Rattle.f66_flow.specs.Acts.{is_executable, is_format, is_misplaced, is_transfer, ends_no_range, branches, formats_named}
 use Rattle.f66_flow.specs.Ranges as range_words
 use Rattle.f66_flow.specs.Ranges.{label_place, named, range_end, range_ends, end_at, holds, some_below}
 use Rattle.f66_flow.specs.FlowRules.{is_late, lacks_transfer, has_bad_label, leads_nowhere, names_no_format, leads_wrong, has_no_end, ends_wrong, overlaps, enters_at, enters, breaks_flow, breaks_flow_at, header_breaks_flow}
@@ -22,6 +22,7 @@ use Rattle.rat_lower.specs.Checked.{bit}
 use Rattle.rat_lower.specs.Code as code_words
 use Rattle.rat_lower.proofs.Simulation.Counts.{same_number, occurs, names, ends}
 use Rattle.rat_lower.proofs.Simulation.Labels.{AreUnique}
+use Rattle.rat_lower.proofs.Soundness.Kept.{AllSay}
 use Rattle.rat_lower.proofs.Soundness.Targets.{Target, AllTargets, Ending, EndsRight, Leads, AllLead}
 
 -- ---- the statements from a place on ----
@@ -174,22 +175,87 @@ none_first (x ∷ rest) e other = by (is_note x.act) refl (first_place Runs rest
     by true h (Some n) f later = absurd (let no : Some (n + 1) ≡ None = sym (ap (λ b. cond (not b) (Some 0) (option_map (λ n1. n1 + 1) (first_place Runs rest))) h ∙ ap (option_map (λ n1. n1 + 1)) f) ∙ e in cc)
     by false h o f later = absurd (let no : Some 0 ≡ None = sym (ap (λ b. cond (not b) (Some 0) (option_map (λ n1. n1 + 1) (first_place Runs rest))) h) ∙ e in cc)
 
+-- the last statement that is executed is a transfer
+finished_last : (code : List Line) → code_words.ends_so false code ≡ true → (i : ℕ) (s : Line) → slice_get code i ≡ Some s → lacks_transfer code i s.act ≡ false
+finished_last code finished i s is = by (last_place Runs code) refl
+  where
+    right : LastRight code false (last_place Runs code)
+    right = last_right code false finished
+
+    by : (o : Option ℕ) → last_place Runs code ≡ o → (is_number i (last_place Runs code) && not (is_transfer s.act)) ≡ false
+    by None f = and_left _ _ (ap (is_number i) f)
+    by (Some m) f = at (m == i) refl
+      where
+        equal : (a b : ℕ) → (a == b) ≡ true → a ≡ b
+        equal a b e = grind (arith, e)
+
+        at : (v : Bool) → (m == i) ≡ v → (is_number i (last_place Runs code) && not (is_transfer s.act)) ≡ false
+        at true e = and_right _ (not (is_transfer s.act)) (ap not (right.some m s f (ap (slice_get code) (equal m i e) ∙ is)))
+        at false e = and_left _ _ (ap (is_number i) f ∙ e)
+
+-- there is one
+finished_head : (code : List Line) → code_words.ends_so false code ≡ true → (k : Rule) → header_breaks_flow Whole MainUnit code k ≡ false
+finished_head code finished Syntax = by (first_place Runs code) refl
+  where
+    by : (o : Option ℕ) → first_place Runs code ≡ o → is_none o ≡ false
+    by None e = absurd (true≢false (sym finished ∙ none_first code e false))
+    by (Some n) e = refl
+finished_head code finished _ = refl
+
+-- BLOCK DATA has none
+abbrev pub IsPlaced : Header → Act → Type 0
+IsPlaced h a = is_misplaced h a ≡ false
+
+none_last : (code : List Line) → AllSay (IsPlaced DataUnit) code → last_place Runs code ≡ None
+none_last [] h = refl
+none_last (x ∷ rest) h =
+    ap (λ o. option_or (option_map (λ n. n + 1) o) (cond (is_executable x.act) (Some 0) None)) (none_last rest h.1)
+    ∙ ap (λ b. cond b (Some 0) None) (or_parts (is_executable x.act) (is_format x.act) h.0).0
+
+none_lacks : (code : List Line) → AllSay (IsPlaced DataUnit) code → (i : ℕ) (a : Act) → lacks_transfer code i a ≡ false
+none_lacks code h i a = and_left (is_number i (last_place Runs code)) (not (is_transfer a)) (ap (is_number i) (none_last code h))
+
+data_head : (code : List Line) (k : Rule) → header_breaks_flow Whole DataUnit code k ≡ false
+data_head code Syntax = refl
+data_head code _ = refl
+
 -- ---- the rules ----
 
 -- neither the header nor a statement breaks a rule on order, labels or DO ranges (X3.9-1966, sections 3.4, 7.1.2, 7.2 and 9.1)
-pub record KeepsFlow (lines : List Line) : Type 0 where
-  pub header : (k : Rule) → header_breaks_flow Whole MainUnit lines k ≡ false
-  pub statements : IsClean (breaks_flow_at Whole MainUnit lines)
+pub record KeepsFlow (h : Header) (lines : List Line) : Type 0 where
+  pub header : (k : Rule) → header_breaks_flow Whole h lines k ≡ false
+  pub statements : IsClean (breaks_flow_at Whole h lines)
 
 -- what is asked of the statements of a unit besides where they lead
-pub record Orderly (code : List Line) : Type 0 where
+pub record Orderly (h : Header) (code : List Line) : Type 0 where
   pub once : (l : ℕ) → ends l code ≤ 1
   pub ranged : (l : ℕ) → 1 ≤ occurs l code → (1 ≤ l) × (l ≤ 99999)
   pub early : (i : ℕ) (s : Line) → slice_get code i ≡ Some s → is_late code i s.act ≡ false
   pub formats : (i : ℕ) (s : Line) → slice_get code i ≡ Some s → list_any (names_no_format code) (formats_named s.act) ≡ false
-  pub last : code_words.ends_so false code ≡ true
+  pub placed : AllSay (IsPlaced h) code
+  pub last : code_words.ends_itself h code ≡ true
 
-module _ (code : List Line) (unique : AreUnique code) (IsEnd : ℕ → Type 0) (is_end : (q : ℕ) → 1 ≤ ends q code → IsEnd q) (orderly : Orderly code) (leads : AllLead code unique IsEnd code) where
+placed_at : (h : Header) (code : List Line) → AllSay (IsPlaced h) code → (i : ℕ) (s : Line) → slice_get code i ≡ Some s → is_misplaced h s.act ≡ false
+placed_at h [] k i s e = absurd (cc)
+placed_at h (x ∷ rest) k zero s e = let same : x ≡ s = cc in subst (λ (y : Line). is_misplaced h y.act ≡ false) same k.0
+placed_at h (x ∷ rest) k (suc i) s e = placed_at h rest k.1 i s e
+
+-- by the kind of the unit
+last_at : (h : Header) (code : List Line) → code_words.ends_itself h code ≡ true → AllSay (IsPlaced h) code → (i : ℕ) (s : Line) → slice_get code i ≡ Some s → lacks_transfer code i s.act ≡ false
+last_at MainUnit code e k i s is = finished_last code e i s is
+last_at (SubUnit x ds) code e k i s is = finished_last code e i s is
+last_at (FuncUnit t x ds) code e k i s is = finished_last code e i s is
+last_at DataUnit code e k i s is = none_lacks code k i s.act
+
+head_at : (h : Header) (code : List Line) → code_words.ends_itself h code ≡ true → (k : Rule) → header_breaks_flow Whole h code k ≡ false
+head_at MainUnit code e k = finished_head code e k
+head_at (SubUnit x ds) code e Syntax = finished_head code e Syntax
+head_at (SubUnit x ds) code e _ = refl
+head_at (FuncUnit t x ds) code e Syntax = finished_head code e Syntax
+head_at (FuncUnit t x ds) code e _ = refl
+head_at DataUnit code e k = data_head code k
+
+module _ (code : List Line) (unique : AreUnique code) (IsEnd : ℕ → Type 0) (is_end : (q : ℕ) → 1 ≤ ends q code → IsEnd q) (h : Header) (orderly : Orderly h code) (leads : AllLead code unique IsEnd code) where
   lead_at : (rest : List Line) → AllLead code unique IsEnd rest → (i : ℕ) (s : Line) → slice_get rest i ≡ Some s → Leads code unique IsEnd s (from (suc i) rest)
   lead_at [] k i s e = absurd (cc)
   lead_at (x ∷ rest) k zero s e = let same : x ≡ s = cc in subst (λ y. Leads code unique IsEnd y rest) same k.0
@@ -360,25 +426,8 @@ module _ (code : List Line) (unique : AreUnique code) (IsEnd : ℕ → Type 0) (
             let no : ¬ (p < i) = λ lt. absurd (omega (arith, labelled_past l p i t.line t.there t.has lt, labelled_at l i i s is mine (omega arith))) in
             le-ltb p i (omega arith)
 
-    not_last : lacks_transfer code i s.act ≡ false
-    not_last = by (last_place Runs code) refl
-      where
-        right : LastRight code false (last_place Runs code)
-        right = last_right code false orderly.last
-
-        by : (o : Option ℕ) → last_place Runs code ≡ o → (is_number i (last_place Runs code) && not (is_transfer s.act)) ≡ false
-        by None f = and_left _ _ (ap (is_number i) f)
-        by (Some m) f = at (m == i) refl
-          where
-            equal : (a b : ℕ) → (a == b) ≡ true → a ≡ b
-            equal a b e = grind (arith, e)
-
-            at : (v : Bool) → (m == i) ≡ v → (is_number i (last_place Runs code) && not (is_transfer s.act)) ≡ false
-            at true e = and_right _ (not (is_transfer s.act)) (ap not (right.some m s f (ap (slice_get code) (equal m i e) ∙ is)))
-            at false e = and_left _ _ (ap (is_number i) f ∙ e)
-
-    rule_kept : (k : Rule) → breaks_flow Whole MainUnit code i s k ≡ false
-    rule_kept Syntax = or_from (is_late code i s.act) _ (orderly.early i s is) not_last
+    rule_kept : (k : Rule) → breaks_flow Whole h code i s k ≡ false
+    rule_kept Syntax = or_from (is_misplaced h s.act) _ (placed_at h code orderly.placed i s is) (or_from (is_late code i s.act) _ (orderly.early i s is) (last_at h code orderly.last orderly.placed i s is))
     rule_kept BadLabel =
         let r = ranges_right s.act lead_here.ending in
         or_from (has_bad_label code i s) _ (label_right s.label refl)
@@ -390,20 +439,12 @@ module _ (code : List Line) (unique : AreUnique code) (IsEnd : ℕ → Type 0) (
     rule_kept _ = refl
 
   -- no rule is broken
-  statements_kept : (i : ℕ) (k : Rule) → breaks_flow_at Whole MainUnit code i k ≡ false
+  statements_kept : (i : ℕ) (k : Rule) → breaks_flow_at Whole h code i k ≡ false
   statements_kept i k = by (slice_get code i) refl
     where
-      by : (o : Option Line) → slice_get code i ≡ o → is_some_and (λ s. breaks_flow Whole MainUnit code i s k) o ≡ false
+      by : (o : Option Line) → slice_get code i ≡ o → is_some_and (λ s. breaks_flow Whole h code i s k) o ≡ false
       by None e = refl
       by (Some s) e = rule_kept i s e k
 
-  header_kept : (k : Rule) → header_breaks_flow Whole MainUnit code k ≡ false
-  header_kept Syntax = by (first_place Runs code) refl
-    where
-      by : (o : Option ℕ) → first_place Runs code ≡ o → is_none o ≡ false
-      by None e = absurd (true≢false (sym orderly.last ∙ none_first code e false))
-      by (Some n) e = refl
-  header_kept _ = refl
-
-  pub flow_kept : KeepsFlow code
-  flow_kept = record { header = header_kept; statements = statements_kept }
+  pub flow_kept : KeepsFlow h code
+  flow_kept = record { header = head_at h code orderly.last; statements = statements_kept }

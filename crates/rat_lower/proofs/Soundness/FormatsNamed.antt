@@ -5,14 +5,14 @@ use Rattle.std.specs.List.{slice_get, list_any, list_all}
 use Rattle.std.proofs.lemmas.Bool.{or_from}
 use Rattle.rule_table.specs.Words.{is_some_and}
 use Rattle.f66_tree.specs.Fields.{Fields}
-use Rattle.f66_tree.specs.Syntax.{Text, Act, When, Read, Write, Format, Line}
+use Rattle.f66_tree.specs.Syntax.{Header, MainUnit, SubUnit, FuncUnit, DataUnit, Text, Formula, Act, When, Read, Write, Format, Line}
 use Rattle.f66_tree.specs.Units.{is_note, Note, notes_of, format_by, format_of}
 use Rattle.f66_tree.specs.Execution.{has_label}
 use Rattle.f66_flow.specs.Acts.{is_format, formats_named}
 use Rattle.f66_flow.specs.Ranges.{named}
 use Rattle.f66_flow.specs.FlowRules.{names_no_format}
 use Rattle.rat_check.specs.Parts.{Form, Bare, RepeatHead, Statement, Condition, Selector, CaseList, ForHead, DoHead, LoopExit, ReturnHead, Part}
-use Rattle.rat_check.specs.Said.{said_by}
+use Rattle.rat_check.specs.Said.{said_by, returned_act}
 use Rattle.rat_check.specs.Rules.{is_plain, is_ratfor, UnitRules, finds_labels}
 use Rattle.rat_check.proofs.CleanLemmas.{and_true}
 use Rattle.rat_lower.specs.Checked.{bit}
@@ -101,18 +101,25 @@ module _ (u : UnitRules) (notes : List Note) (has : (m : ℕ) → u.formats m �
   act_formatted (When e a) reached plain found = absurd (true≢false (sym plain))
   act_formatted _ reached plain found = refl
 
-  form_formatted : (form : Form) (reached : Bool) → is_ratfor form ≡ true → finds_labels u.formats reached form ≡ true → AllOf (IsFormatted notes) (said_by form)
+  returned_formatted : (k : Header) (e : Formula) → IsFormatted notes (returned_act k e)
+  returned_formatted MainUnit e = refl
+  returned_formatted (SubUnit x ds) e = refl
+  returned_formatted (FuncUnit t x ds) e = refl
+  returned_formatted DataUnit e = refl
+
+  form_formatted : (form : Form) (reached : Bool) → is_ratfor form ≡ true → finds_labels u.formats reached form ≡ true → AllOf (IsFormatted notes) (said_by u.context.header form)
   form_formatted (Statement a) reached is found = (act_formatted a reached is found, tt)
   form_formatted Bare reached is found = tt
   form_formatted RepeatHead reached is found = tt
   form_formatted (Condition e) reached is found = (refl, tt)
   form_formatted (Selector e) reached is found = (refl, tt)
   form_formatted (CaseList es second) reached is found = values_so (IsFormatted notes) (λ e. refl) es
-  form_formatted (ForHead a e b) reached is found = prepared_so (IsFormatted notes) (λ x f. refl) (λ f. refl) a e b is
+  form_formatted (ForHead a e b) reached is found = prepared_so (IsFormatted notes) (λ x f. refl) (λ x es. refl) (λ f. refl) a e b is
   form_formatted (DoHead x a b d) reached is found = (refl, tt)
   form_formatted (LoopExit n) reached is found = tt
-  form_formatted ReturnHead reached is found = tt
+  form_formatted (ReturnHead None) reached is found = tt
+  form_formatted (ReturnHead (Some e)) reached is found = (returned_formatted u.context.header e, tt)
 
-  pub parts_formatted : (vs : List Part) → AllFine u vs → AllParts (SaysSo (IsFormatted notes)) vs
+  pub parts_formatted : (vs : List Part) → AllFine u vs → AllParts (SaysSo u.context.header (IsFormatted notes)) vs
   parts_formatted [] h = tt
   parts_formatted (v ∷ vs) h = (form_formatted v.form v.reached h.0.ratfor h.0.found, parts_formatted vs h.1)

@@ -1,160 +1,277 @@
--- The unit that a main unit becomes is sound where all that its source says is built and breaks no rule of names in it.
-use Rattle.std.proofs.Common.{◌≡◌, ℕ, zero, suc, Bool, true, false, List, [], ◌∷◌, ◌++◌, Option, Some, None, refl, ap, ◌∙◌, subst, arith}
-use Rattle.std.specs.Prelude.{◌+◌, ◌&&◌, ◌||◌, not, cond, option_map}
-use Rattle.std.specs.List.{slice_get, list_any}
-use Rattle.std.proofs.lemmas.Bool.{or_from, or_parts, le-ltb}
+-- What jumps, tests and stores of the spare name break: no more than the conditions and values that they are made of.
+use Rattle.std.proofs.Common.{◌≡◌, ℕ, Bool, true, false, List, [], ◌∷◌, ◌++◌, None, refl, ap, ◌∙◌}
+use Rattle.std.specs.Prelude.{◌&&◌, ◌||◌, not}
+use Rattle.std.specs.List.{list_any}
+use Rattle.std.proofs.lemmas.Bool.{or_from, or_parts}
 use Rattle.std.proofs.lemmas.List.{append-nil}
-use Rattle.ground.specs.declared.place.Place.{Place}
+use Rattle.ground.specs.declared.value.Kind.{Kind}
+use Rattle.ground.specs.declared.value.Kind.TheVariants.{Integer, Logical}
 use Rattle.rule_table.specs.declared.rule.Rule.{Rule}
 use Rattle.rule_table.specs.declared.rule.Rule.TheVariants.{Syntax, NameTooLong, OutOfProfileType, TypeClash, WrongCount, DuplicateName, BadConstant, BadFormat, NotAssignable, LargeArray}
-use Rattle.rule_table.specs.Words.{first_place, is_some_and, is_below}
-use Rattle.f66_tree.specs.Syntax.{Text, MainUnit, Act, Line, Routine}
-use Rattle.f66_tree.specs.Units.{Context}
-use Rattle.f66_names.specs.declared.name_form.NameForm.{NameForm}
-use Rattle.f66_names.specs.declared.name_form.NameForm.TheVariants as forms
-use Rattle.f66_names.specs.declared.name_form.Manner.TheVariants.{Alone}
-use Rattle.f66_names.specs.Declaring.{context_by, types}
-use Rattle.f66_names.specs.Sorts.{name_form}
-use Rattle.f66_names.specs.Uses.{uses_of}
-use Rattle.f66_names.specs.NameRules.{redeclares}
-use Rattle.f66_names.specs.Rules.{breaks_name}
-use Rattle.f66_names.specs.BuiltActs.{is_function_by, is_function, is_built}
-use Rattle.f66_names.proofs.JumpLemmas.{IsScalar, passes_clean, goes_clean, stops_clean, loops_alike, denied_breaks, compared_breaks, stored_breaks}
-use Rattle.f66_flow.specs.FlowRules.{breaks_flow}
-use Rattle.f66_flow.specs.declared.scope.Scope.TheVariants.{Whole}
-use Rattle.f66_soundness.specs.SoundUnits.{acts_in_unit}
-use Rattle.f66_check.specs.CheckRules.{breaks_at, breaks_line, unbuilt_line}
-use Rattle.f66_check.specs.Answers.{IsSound}
-use Rattle.rat_tree.specs.Syntax.{Commands}
-use Rattle.rat_lower.specs.Code.{have_switch, all_code, ends_so, stop_unless, declared_if, unit_code}
-use Rattle.rat_lower.proofs.Soundness.FlowRules.{KeepsFlow}
-use Rattle.rat_lower.proofs.Soundness.Kept.{AllSay, AllSayGood, Keeps, KeepsValues, good_unit}
-use Rattle.rat_lower.proofs.Soundness.Redeclared.{declaration}
+use Rattle.f66_tree.specs.Syntax.{Text, Formula, Ref, Item, Group, Not, Par, Header, Act, Assign, Goto, Sign, When, Loop, Continue, Stop, Return}
+use Rattle.f66_tree.specs.Units.{Note, Context, sizes_of, kind_of}
+use Rattle.f66_names.specs.Shapes.{is_name, stands}
+use Rattle.f66_names.specs.Sorts.{is_real_by_letter, is_foreign, is_array_name}
+use Rattle.f66_names.specs.Uses.{Usage, uses_of, uses_in}
+use Rattle.f66_names.specs.Declaring.{declared_in}
+use Rattle.f66_names.specs.Kinds.{same_kind, may_be}
+use Rattle.f66_names.specs.NameRules.{is_long, gives_other, miscounts, redeclares}
+use Rattle.f66_names.proofs.JumpLemmas.{and_true, or_false}
+use Rattle.rule_table.specs.Words.{find_map}
+use Rattle.unit_rules.specs.Listed.{common_in, equated_in, preset_in, more_names}
+use Rattle.unit_rules.specs.Types.{fits, assigns}
+use Rattle.unit_rules.specs.Heads.{is_settled, declares_own}
+use Rattle.unit_rules.specs.Roles.{mixes_roles}
+use Rattle.unit_rules.specs.Storage.{is_held, holds_place, block_in, is_open_block, may_hold, are_within, takes_value, lists_again, presets_wrong}
+use Rattle.unit_rules.specs.UnitRules.{has_foreign_name, breaks_rule}
+use Rattle.rat_lower.specs.Code.{case_test}
+use Rattle.rat_lower.proofs.Soundness.Kept.{Keeps, KeepsValues}
+use Rattle.rat_lower.proofs.Soundness.Redeclared.{declaration, repeated}
+use Rattle.rat_lower.proofs.Soundness.Alike.{arrays, measured, stored, oddly, clashed, constants, listed_constants}
 
--- what breaks no rule of names where it stands before all others
+-- what a statement breaks that names are used in, wherever it stands
+abbrev pub breaks_alone : Context → List Act → Act → Rule → Bool
+breaks_alone c acts a DuplicateName = (list_any (λ d. is_held c.header d.name) (common_in a) || list_any (holds_place c.header) (equated_in a)) || declares_own c.header a
+breaks_alone c acts a k = breaks_rule c acts 0 a k
+
 abbrev pub IsCleanAct : Context → List Act → Act → Type 0
-IsCleanAct c acts a = (k : Rule) → breaks_name c acts 0 a k ≡ false
+IsCleanAct c acts a = (k : Rule) → breaks_alone c acts a k ≡ false
 
-abbrev pub IsBuiltAct : Context → Act → Type 0
-IsBuiltAct c a = is_built c a ≡ true
+-- what breaks no rule at its place breaks none of these
+pub clean_alone : (c : Context) (acts : List Act) (i : ℕ) (a : Act) → ((k : Rule) → breaks_rule c acts i a k ≡ false) → IsCleanAct c acts a
+clean_alone c acts i a h Syntax = h Syntax
+clean_alone c acts i a h NameTooLong = h NameTooLong
+clean_alone c acts i a h OutOfProfileType = h OutOfProfileType
+clean_alone c acts i a h TypeClash = h TypeClash
+clean_alone c acts i a h WrongCount = h WrongCount
+clean_alone c acts i a h DuplicateName =
+    let again = or_parts (redeclares acts i a) (lists_again c acts i a || (declares_own c.header a || mixes_roles c acts a)) (h DuplicateName) in
+    let listed = or_parts (lists_again c acts i a) (declares_own c.header a || mixes_roles c acts a) again.1 in
+    let own = or_parts (declares_own c.header a) (mixes_roles c acts a) listed.1 in
+    or_from (list_any (λ d. is_held c.header d.name) (common_in a) || list_any (holds_place c.header) (equated_in a)) _ (or_parts _ _ (or_parts _ _ listed.0).1).1 own.0
+clean_alone c acts i a h BadConstant = h BadConstant
+clean_alone c acts i a h BadFormat = h BadFormat
+clean_alone c acts i a h NotAssignable = h NotAssignable
+clean_alone c acts i a h LargeArray = h LargeArray
+clean_alone c acts i a h _ = refl
+
+-- and the other way round, where it repeats nothing and uses each name in its class
+pub clean_at : (c : Context) (acts : List Act) (i : ℕ) (a : Act) → IsCleanAct c acts a → repeated acts i a ≡ false → mixes_roles c acts a ≡ false → (k : Rule) → breaks_rule c acts i a k ≡ false
+clean_at c acts i a h once unmixed Syntax = h Syntax
+clean_at c acts i a h once unmixed NameTooLong = h NameTooLong
+clean_at c acts i a h once unmixed OutOfProfileType = h OutOfProfileType
+clean_at c acts i a h once unmixed TypeClash = h TypeClash
+clean_at c acts i a h once unmixed WrongCount = h WrongCount
+clean_at c acts i a h once unmixed DuplicateName =
+    let own = or_parts (list_any (λ d. is_held c.header d.name) (common_in a) || list_any (holds_place c.header) (equated_in a)) (declares_own c.header a) (h DuplicateName) in
+    let again = or_parts (redeclares acts i a) _ once in
+    let listed = or_parts _ _ again.1 in
+    or_from (redeclares acts i a) _ again.0 (or_from (lists_again c acts i a) _ (or_from _ _ listed.0 (or_from _ _ listed.1 own.0)) (or_from (declares_own c.header a) _ own.1 unmixed))
+clean_at c acts i a h once unmixed BadConstant = h BadConstant
+clean_at c acts i a h once unmixed BadFormat = h BadFormat
+clean_at c acts i a h once unmixed NotAssignable = h NotAssignable
+clean_at c acts i a h once unmixed LargeArray = h LargeArray
+clean_at c acts i a h once unmixed _ = refl
+
+-- ---- in a unit in which names mean the same ----
+
+module _ (h : Header) (m n : List Note) (said acts : List Act) (sizes : (x : Text) → sizes_of x n ≡ sizes_of x m) where
+  abbrev c : Context
+  c = record { header = h; notes = m }
+
+  abbrev d : Context
+  d = record { header = h; notes = n }
+
+  module _ (blocks : (x : Text) → find_map (block_in x) acts ≡ find_map (block_in x) said) where
+    held : (x : Text) → may_hold d acts x ≡ may_hold c said x
+    held x = ap (λ o. not (is_held h x) && is_open_block h o) (blocks x)
+
+    valued : (e : Formula) → takes_value d acts e ≡ takes_value c said e
+    valued (Ref x) = ap (λ b. not b && may_hold d acts x) (arrays h m n sizes x) ∙ ap (λ b. not (is_array_name c x) && b) (held x)
+    valued (Item x es) =
+        ap (λ b. b && (are_within (sizes_of x n) es && may_hold d acts x)) (arrays h m n sizes x) ∙ ap (λ ns. is_array_name c x && (are_within ns es && may_hold d acts x)) (sizes x)
+        ∙ ap (λ b. is_array_name c x && (are_within (sizes_of x m) es && b)) (held x)
+    valued _ = refl
+
+    preset : (a : Act) → presets_wrong d acts a ≡ presets_wrong c said a
+    preset a = ap (λ (f : Formula → Bool). list_any (λ p. not (f p)) (preset_in a)) (λ i e. valued e i)
+
+    module _ (kinds : (x : Text) → kind_of d x ≡ kind_of c x) (foreign : (x : Text) → is_foreign d x ≡ is_foreign c x) (letters : (x : Text) → is_real_by_letter c x ≡ false → is_real_by_letter d x ≡ false) where
+      none_more : {A : Type 0} (f : A → Text) (xs : List A) → list_any (λ x. is_real_by_letter c (f x)) xs ≡ false → list_any (λ x. is_real_by_letter d (f x)) xs ≡ false
+      none_more f [] e = refl
+      none_more f (x ∷ xs) e = let k = or_parts (is_real_by_letter c (f x)) _ e in or_from (is_real_by_letter d (f x)) _ (letters (f x) k.0) (none_more f xs k.1)
+
+      typed : (a : Act) → has_foreign_name c a ≡ false → has_foreign_name d a ≡ false
+      typed a e =
+          let k = or_parts _ _ e in
+          let p = or_parts (gives_other a) _ k.0 in
+          let r = or_parts _ _ p.1 in
+          or_from _ _ (or_from (gives_other a) _ p.0 (or_from _ _ (none_more (λ x. x.name) (declared_in a) r.0) (none_more (λ (u : Usage). u.name) (uses_in a) r.1))) (none_more (λ (u : Usage). u.name) (more_names a) k.1)
+
+      pub clean_alike : (a : Act) → IsCleanAct c said a → IsCleanAct d acts a
+      clean_alike a clean Syntax = clean Syntax
+      clean_alike a clean NameTooLong = clean NameTooLong
+      clean_alike a clean OutOfProfileType = typed a (clean OutOfProfileType)
+      clean_alike a clean TypeClash = let k = or_parts _ _ (clean TypeClash) in or_from _ _ (clashed h m n sizes kinds foreign a ∙ k.0) (oddly h m n sizes kinds foreign a ∙ k.1)
+      clean_alike a clean WrongCount = measured h m n sizes a ∙ clean WrongCount
+      clean_alike a clean DuplicateName = clean DuplicateName
+      clean_alike a clean BadConstant = let k = or_parts _ _ (clean BadConstant) in or_from _ _ (constants h m n sizes kinds foreign a ∙ k.0) (listed_constants h m n sizes kinds foreign a ∙ k.1)
+      clean_alike a clean BadFormat = clean BadFormat
+      clean_alike a clean NotAssignable = let k = or_parts _ _ (clean NotAssignable) in or_from _ _ (stored h m n sizes a ∙ k.0) (preset a ∙ k.1)
+      clean_alike a clean LargeArray = clean LargeArray
+      clean_alike a clean _ = refl
+
+-- ---- what is made besides ----
+
+-- an integer variable whose name is fit, and which the header does not give
+pub record IsScalar (c : Context) (x : Text) : Type 0 where
+  pub named : is_name x ≡ true
+  pub short : is_long x ≡ false
+  pub typed : is_real_by_letter c x ≡ false
+  pub own : is_foreign c x ≡ false
+  pub kind : kind_of c x ≡ Integer
+  pub plain : is_array_name c x ≡ false
+  pub unsettled : is_settled c.header x ≡ false
 
 module _ (c : Context) (acts : List Act) where
-  clean_keeps : Keeps (IsCleanAct c acts)
+  passes : IsCleanAct c acts Continue
+  passes Syntax = refl
+  passes NameTooLong = refl
+  passes OutOfProfileType = refl
+  passes TypeClash = refl
+  passes WrongCount = refl
+  passes DuplicateName = refl
+  passes BadConstant = refl
+  passes BadFormat = refl
+  passes NotAssignable = refl
+  passes LargeArray = refl
+  passes _ = refl
+
+  goes : (l : ℕ) → IsCleanAct c acts (Goto l)
+  goes l Syntax = refl
+  goes l NameTooLong = refl
+  goes l OutOfProfileType = refl
+  goes l TypeClash = refl
+  goes l WrongCount = refl
+  goes l DuplicateName = refl
+  goes l BadConstant = refl
+  goes l BadFormat = refl
+  goes l NotAssignable = refl
+  goes l LargeArray = refl
+  goes l _ = refl
+
+  stops : IsCleanAct c acts (Stop None)
+  stops Syntax = refl
+  stops NameTooLong = refl
+  stops OutOfProfileType = refl
+  stops TypeClash = refl
+  stops WrongCount = refl
+  stops DuplicateName = refl
+  stops BadConstant = refl
+  stops BadFormat = refl
+  stops NotAssignable = refl
+  stops LargeArray = refl
+  stops _ = refl
+
+  pub return_clean : IsCleanAct c acts Return
+  return_clean Syntax = refl
+  return_clean NameTooLong = refl
+  return_clean OutOfProfileType = refl
+  return_clean TypeClash = refl
+  return_clean WrongCount = refl
+  return_clean DuplicateName = refl
+  return_clean BadConstant = refl
+  return_clean BadFormat = refl
+  return_clean NotAssignable = refl
+  return_clean LargeArray = refl
+  return_clean _ = refl
+
+  -- the label of a jump, and of a DO's end, is no matter of names
+  denied : (e : Formula) (l : ℕ) → IsCleanAct c acts (When e Continue) → IsCleanAct c acts (When (Not (Group e)) (Goto l))
+  denied e l h Syntax = h Syntax
+  denied e l h NameTooLong = h NameTooLong
+  denied e l h OutOfProfileType = h OutOfProfileType
+  denied e l h TypeClash = h TypeClash
+  denied e l h WrongCount = h WrongCount
+  denied e l h DuplicateName = h DuplicateName
+  denied e l h BadConstant = h BadConstant
+  denied e l h BadFormat = h BadFormat
+  denied e l h NotAssignable = h NotAssignable
+  denied e l h LargeArray = h LargeArray
+  denied e l h _ = refl
+
+  counts : (l : ℕ) (x : Text) (p q r : Par) → IsCleanAct c acts (Loop 0 x p q r) → IsCleanAct c acts (Loop l x p q r)
+  counts l x p q r h Syntax = h Syntax
+  counts l x p q r h NameTooLong = h NameTooLong
+  counts l x p q r h OutOfProfileType = h OutOfProfileType
+  counts l x p q r h TypeClash = h TypeClash
+  counts l x p q r h WrongCount = h WrongCount
+  counts l x p q r h DuplicateName = h DuplicateName
+  counts l x p q r h BadConstant = h BadConstant
+  counts l x p q r h BadFormat = h BadFormat
+  counts l x p q r h NotAssignable = h NotAssignable
+  counts l x p q r h LargeArray = h LargeArray
+  counts l x p q r h _ = refl
+
+  pub clean_keeps : Keeps (IsCleanAct c acts)
   clean_keeps = record {
-    passes = λ k. passes_clean c acts 0 k;
-    goes = λ l k. goes_clean c acts 0 l k;
-    stops = λ k. stops_clean c acts 0 k;
-    denied = λ e l h k. denied_breaks c acts 0 e l k ∙ h k;
-    counts = λ l x a b d h k. loops_alike c acts 0 l 0 x a b d k ∙ h k;
+    passes = passes;
+    goes = goes;
+    stops = stops;
+    denied = denied;
+    counts = counts;
   }
 
-  clean_values : (spare : Text) → IsScalar c acts spare → KeepsValues (IsCleanAct c acts) spare
-  clean_values spare scalar = record {
-    compared = λ e l h k. compared_breaks c acts 0 spare scalar e l 0 0 0 k ∙ h k;
-    stored = λ e h k. stored_breaks c acts 0 spare scalar e 0 0 0 k ∙ h k;
-  }
+  module _ (x : Text) (scalar : IsScalar c x) where
+    -- it is an integer and nothing else
+    may_alike : (k : Kind) → may_be c x k ≡ same_kind Integer k
+    may_alike k = ap (λ b. same_kind (kind_of c x) k || b) scalar.own ∙ or_false (same_kind (kind_of c x) k) ∙ ap (λ y. same_kind y k) scalar.kind
 
-  -- and elsewhere, where it declares nothing again
-  at_place : (a : Act) (i : ℕ) → IsCleanAct c acts a → redeclares acts i a ≡ false → (k : Rule) → breaks_name c acts i a k ≡ false
-  at_place a i h once Syntax = h Syntax
-  at_place a i h once NameTooLong = h NameTooLong
-  at_place a i h once OutOfProfileType = h OutOfProfileType
-  at_place a i h once TypeClash = h TypeClash
-  at_place a i h once WrongCount = h WrongCount
-  at_place a i h once DuplicateName = or_from (redeclares acts i a) _ once (or_parts (redeclares acts 0 a) _ (h DuplicateName)).1
-  at_place a i h once BadConstant = h BadConstant
-  at_place a i h once BadFormat = h BadFormat
-  at_place a i h once NotAssignable = h NotAssignable
-  at_place a i h once LargeArray = h LargeArray
-  at_place a i h once _ = refl
+    fits_integer : fits c (Ref x) Integer ≡ true
+    fits_integer = ap (λ b. not b && may_be c x Integer) scalar.plain ∙ may_alike Integer
 
-  -- the first statement is declared by none before it
-  none_before : (o : Option ℕ) → is_below 0 o ≡ false
-  none_before None = refl
-  none_before (Some m) = le-ltb m 0 (omega arith)
+    stored_kind : (k : Kind) → (is_array_name c x || may_be c x k) ≡ same_kind Integer k
+    stored_kind k = ap (λ b. b || may_be c x k) scalar.plain ∙ may_alike k
 
-  declaration_clean : (spare : Text) → IsScalar c acts spare → (k : Rule) → breaks_name c acts 0 (declaration spare) k ≡ false
-  declaration_clean spare scalar Syntax = ap (λ b. not ((b && true) && true)) scalar.named
-  declaration_clean spare scalar NameTooLong = ap (λ b. (b || false) || false) scalar.short
-  declaration_clean spare scalar OutOfProfileType = ap (λ b. (b || false) || false) scalar.typed
-  declaration_clean spare scalar DuplicateName = ap (λ b. (((b || false) || false) || false) || false) (none_before (first_place (types spare) acts))
-  declaration_clean spare scalar _ = refl
+    stored_fits : (e : Formula) → (assigns c (Ref x) e Integer || assigns c (Ref x) e Logical) ≡ fits c e Integer
+    stored_fits e =
+        ap (λ b. (b && fits c e Integer) || assigns c (Ref x) e Logical) (stored_kind Integer)
+        ∙ ap (λ b. fits c e Integer || (b && fits c e Logical)) (stored_kind Logical)
+        ∙ or_false (fits c e Integer)
 
--- ---- what is built ----
+    compared : (e : Formula) (l : ℕ) → IsCleanAct c acts (Sign e 0 0 0) → IsCleanAct c acts (When (case_test x e) (Goto l))
+    compared e l h Syntax = ap (λ b. not (((b && stands 0 e) && true) && true)) scalar.named ∙ ap not (and_true ((stands 0 e && true)) ∙ and_true (stands 0 e)) ∙ h Syntax
+    compared e l h NameTooLong = ap (λ b. (b || list_any (λ (u : Usage). is_long u.name) (uses_of e ++ [])) || false) scalar.short ∙ ap (λ us. list_any (λ (u : Usage). is_long u.name) us || false) (append-nil (uses_of e)) ∙ h NameTooLong
+    compared e l h OutOfProfileType =
+        ap (λ b. (b || list_any (λ (u : Usage). is_real_by_letter c u.name) (uses_of e ++ [])) || false) scalar.typed ∙ ap (λ us. list_any (λ (u : Usage). is_real_by_letter c u.name) us || false) (append-nil (uses_of e)) ∙ h OutOfProfileType
+    compared e l h TypeClash = ap (λ b. b || false) (or_false (not (fits c (Ref x) Integer && fits c e Integer)) ∙ ap (λ b. not (b && fits c e Integer)) fits_integer) ∙ h TypeClash
+    compared e l h WrongCount = ap (λ us. list_any (miscounts c) us || false) (append-nil (uses_of e)) ∙ h WrongCount
+    compared e l h DuplicateName = refl
+    compared e l h BadConstant = refl
+    compared e l h BadFormat = refl
+    compared e l h NotAssignable = refl
+    compared e l h LargeArray = refl
+    compared e l h _ = refl
 
-module _ (c : Context) where
-  no_function : (f : NameForm) → is_function_by f Alone ≡ false
-  no_function (forms.Array n) = refl
-  no_function (forms.Intrinsic a) = refl
-  no_function forms.Plain = refl
+    put : (e : Formula) → IsCleanAct c acts (Sign e 0 0 0) → IsCleanAct c acts (Assign (Ref x) e)
+    put e h Syntax = ap (λ b. not (b && stands 0 e)) scalar.named ∙ h Syntax
+    put e h NameTooLong = ap (λ b. (b || list_any (λ (u : Usage). is_long u.name) (uses_of e)) || false) scalar.short ∙ h NameTooLong
+    put e h OutOfProfileType = ap (λ b. (b || list_any (λ (u : Usage). is_real_by_letter c u.name) (uses_of e)) || false) scalar.typed ∙ h OutOfProfileType
+    put e h TypeClash = ap (λ b. not b || false) (stored_fits e) ∙ h TypeClash
+    put e h WrongCount = h WrongCount
+    put e h DuplicateName = refl
+    put e h BadConstant = refl
+    put e h BadFormat = refl
+    put e h NotAssignable = ap (λ b. not (not b) || false) scalar.plain
+    put e h LargeArray = refl
+    put e h _ = refl
 
-  built_keeps : Keeps (IsBuiltAct c)
-  built_keeps = record {
-    passes = refl;
-    goes = λ l. refl;
-    stops = refl;
-    denied = λ e l h. h;
-    counts = λ l x a b d h. h;
-  }
+    pub clean_values : KeepsValues (IsCleanAct c acts) x
+    clean_values = record { compared = compared; stored = put }
 
-  built_values : (spare : Text) → KeepsValues (IsBuiltAct c) spare
-  built_values spare = record {
-    compared = λ e l h. ap (λ b. not (b || list_any (is_function c) (uses_of e ++ []))) (no_function (name_form c spare)) ∙ ap (λ us. not (list_any (is_function c) us)) (append-nil (uses_of e)) ∙ h;
-    stored = λ e h. ap (λ b. not (b || list_any (is_function c) (uses_of e))) (no_function (name_form c spare)) ∙ h;
-  }
-
-  all_built : (lines : List Line) → AllSay (IsBuiltAct c) lines → unbuilt_line c lines ≡ None
-  all_built [] k = refl
-  all_built (s ∷ rest) k = ap (λ b. cond (not b) (Some 0) (option_map (λ n. n + 1) (unbuilt_line c rest))) k.0 ∙ ap (option_map (λ n. n + 1)) (all_built rest k.1)
-
--- ---- the unit ----
-
-said_at : (Good : Act → Type 0) (lines : List Line) (i : ℕ) (s : Line) → AllSay Good lines → slice_get lines i ≡ Some s → Good s.act
-said_at Good [] i s k e = absurd (cc)
-said_at Good (x ∷ rest) zero s k e = let same : x ≡ s = cc in subst (λ y. Good y.act) same k.0
-said_at Good (x ∷ rest) (suc i) s k e = said_at Good rest i s k.1 e
-
-module _ (made : ℕ → ℕ) (spare : Text) (first last place : Place) (ss : Commands) where
-  abbrev lines : List Line
-  lines = unit_code made spare first last ss
-
-  abbrev acts : List Act
-  acts = acts_in_unit lines
-
-  abbrev means_here : Context
-  means_here = context_by MainUnit acts
-
-  abbrev unit : Routine
-  unit = record { header = MainUnit; lines = lines; place = place }
-
-  abbrev code1 : List Line
-  code1 = all_code made spare ss 0 [] (stop_unless (ends_so false (all_code made spare ss 0 [] [])) last)
-
-  module _ (flow : KeepsFlow lines) (built : AllSayGood (IsBuiltAct means_here) ss) (clean : AllSayGood (IsCleanAct means_here acts) ss)
-      (anew : (i : ℕ) (s : Line) → slice_get lines i ≡ Some s → redeclares acts i s.act ≡ false) (scalar : have_switch ss ≡ true → IsScalar means_here acts spare) where
-    code1_built : AllSay (IsBuiltAct means_here) code1
-    code1_built = good_unit (IsBuiltAct means_here) made spare (built_keeps means_here) ss (ends_so false (all_code made spare ss 0 [] [])) last (λ e. built_values means_here spare) built
-
-    code1_clean : AllSay (IsCleanAct means_here acts) code1
-    code1_clean = good_unit (IsCleanAct means_here acts) made spare (clean_keeps means_here acts) ss (ends_so false (all_code made spare ss 0 [] [])) last (λ e. clean_values means_here acts spare (scalar e)) clean
-
-    lines_built : (v : Bool) → AllSay (IsBuiltAct means_here) (declared_if v first spare code1)
-    lines_built true = (refl, code1_built)
-    lines_built false = code1_built
-
-    line_clean : (v : Bool) → have_switch ss ≡ v → ((i : ℕ) (s : Line) → slice_get (declared_if v first spare code1) i ≡ Some s → redeclares acts i s.act ≡ false) →
-        (i : ℕ) (s : Line) → slice_get (declared_if v first spare code1) i ≡ Some s → (k : Rule) → breaks_name means_here acts i s.act k ≡ false
-    line_clean true e once zero s is k = let same : record { label = None; place = first; act = declaration spare } ≡ s = cc in subst (λ (y : Line). breaks_name means_here acts 0 y.act k ≡ false) same (declaration_clean means_here acts spare (scalar e) k)
-    line_clean true e once (suc i) s is k = at_place means_here acts s.act (suc i) (said_at (IsCleanAct means_here acts) code1 i s code1_clean is) (once (suc i) s is) k
-    line_clean false e once i s is k = at_place means_here acts s.act i (said_at (IsCleanAct means_here acts) code1 i s code1_clean is) (once i s is) k
-
-    kept : (i : ℕ) (o : Option Line) → slice_get lines i ≡ o → (k : Rule) → is_some_and (λ s. breaks_flow Whole MainUnit lines i s k) o ≡ false → is_some_and (λ s. breaks_line Whole means_here acts lines i s k) o ≡ false
-    kept i None e k h = refl
-    kept i (Some s) e k h = or_from (breaks_flow Whole MainUnit lines i s k) _ h (line_clean (have_switch ss) refl anew i s e k)
-
-    pub unit_sound : IsSound unit
-    unit_sound = record { built = ap (option_map (λ i. i + 1)) (all_built means_here lines (lines_built (have_switch ss))); clean = part }
-      where
-        part : (n : ℕ) (k : Rule) → breaks_at Whole unit n k ≡ false
-        part zero k = flow.header k
-        part (suc i) k = kept i (slice_get lines i) refl k (flow.statements i k)
+    pub declaration_clean : IsCleanAct c acts (declaration x)
+    declaration_clean Syntax = ap (λ b. not ((b && true) && true)) scalar.named
+    declaration_clean NameTooLong = ap (λ b. ((b || false) || false) || false) scalar.short
+    declaration_clean OutOfProfileType = ap (λ b. ((b || false) || false) || false) scalar.typed
+    declaration_clean DuplicateName = ap (λ b. (b || false) || false) scalar.unsettled
+    declaration_clean _ = refl

@@ -134,7 +134,7 @@ module _ (code : List Line) (unique : AreUnique code) (IsEnd : ℕ → Type 0) w
   each_leads spare p NoFormula l next t k = k
   each_leads spare p (AndFormula e es) l next t k = (chooses_lead l p (case_test spare e) (target_at l (each_level spare p es l next) t), each_leads spare p es l next t k)
 
-  module _ (made : ℕ → ℕ) (spare : Text) where
+  module _ (made : ℕ → ℕ) (spare own : Text) where
     -- no label of a DO's last statement is another label of these
     abbrev Free : Command → ℕ → Type 0
     Free s n = (q : ℕ) → IsEnd q → heads made q s n ≡ 0
@@ -146,21 +146,21 @@ module _ (code : List Line) (unique : AreUnique code) (IsEnd : ℕ → Type 0) w
     ClausesFree cs m = (q : ℕ) → IsEnd q → clause_heads made q cs m ≡ 0
 
     -- the code of whole statements is as level as what stands behind it
-    code_level : (s : Command) (n : ℕ) (ls : Rings) (next : List Line) → IsBuilt s → Free s n → IsLevel (code_of made spare s n ls next) next
-    code_level s n ls next bu fr q h = omega (arith, occurs-code made spare q s n ls next bu, ends-code made spare q s n ls next bu, fr q h)
+    code_level : (s : Command) (n : ℕ) (ls : Rings) (next : List Line) → IsBuilt s → Free s n → IsLevel (code_of made spare own s n ls next) next
+    code_level s n ls next bu fr q h = omega (arith, occurs-code made spare own q s n ls next bu, ends-code made spare own q s n ls next bu, fr q h)
 
-    all_level : (ss : Commands) (n : ℕ) (ls : Rings) (next : List Line) → AreBuilt ss → AllFree ss n → IsLevel (all_code made spare ss n ls next) next
-    all_level ss n ls next bu fr q h = omega (arith, occurs-all made spare q ss n ls next bu, ends-all made spare q ss n ls next bu, fr q h)
+    all_level : (ss : Commands) (n : ℕ) (ls : Rings) (next : List Line) → AreBuilt ss → AllFree ss n → IsLevel (all_code made spare own ss n ls next) next
+    all_level ss n ls next bu fr q h = omega (arith, occurs-all made spare own q ss n ls next bu, ends-all made spare own q ss n ls next bu, fr q h)
 
-    bodies_level : (cs : Clauses) (m out : ℕ) (ls : Rings) (next : List Line) → ClausesBuilt cs → ClausesFree cs m → IsLevel (bodies made spare cs m out ls next) next
-    bodies_level cs m out ls next bu fr q h = omega (arith, occurs-bodies made spare q cs m out ls next bu, ends-bodies made spare q cs m out ls next bu, fr q h)
+    bodies_level : (cs : Clauses) (m out : ℕ) (ls : Rings) (next : List Line) → ClausesBuilt cs → ClausesFree cs m → IsLevel (bodies made spare own cs m out ls next) next
+    bodies_level cs m out ls next bu fr q h = omega (arith, occurs-bodies made spare own q cs m out ls next bu, ends-bodies made spare own q cs m out ls next bu, fr q h)
 
-    tests_level : (cs : Clauses) (m : ℕ) (next : List Line) → IsLevel (tests made spare cs m next) next
-    tests_level cs m next q h = omega (arith, occurs-tests made spare q cs m next, ends-tests made spare q cs m next)
+    tests_level : (cs : Clauses) (m : ℕ) (next : List Line) → IsLevel (tests made spare own cs m next) next
+    tests_level cs m next q h = omega (arith, occurs-tests made spare own q cs m next, ends-tests made spare own q cs m next)
 
     -- ---- labels that stand directly in a list ----
 
-    marked_target : (m : ℕ) (s : Command) (n : ℕ) (ls : Rings) (next : List Line) → has_own_label m s ≡ true → Within (code_of made spare s n ls next) code → Target (code_of made spare s n ls next) m
+    marked_target : (m : ℕ) (s : Command) (n : ℕ) (ls : Rings) (next : List Line) → has_own_label m s ≡ true → Within (code_of made spare own s n ls next) code → Target (code_of made spare own s n ls next) m
     marked_target m (Labelled l p s) n ls next is w = record { line = here l p; behind = _; found = found_line m (here l p) is unique w; runs = refl; enters = λ q h. omega arith }
     marked_target m (Plain l p a) n ls next is w = by (is_note a) refl
       where
@@ -175,18 +175,18 @@ module _ (code : List Line) (unique : AreUnique code) (IsEnd : ℕ → Type 0) w
         }
     marked_target m _ n ls next is w = absurd (true≢false (sym is))
 
-    list_target : (m : ℕ) (ss : Commands) (n : ℕ) (ls : Rings) (next : List Line) → stands m ss ≡ true → AreBuilt ss → AllFree ss n → Within (all_code made spare ss n ls next) code → Target next m
+    list_target : (m : ℕ) (ss : Commands) (n : ℕ) (ls : Rings) (next : List Line) → stands m ss ≡ true → AreBuilt ss → AllFree ss n → Within (all_code made spare own ss n ls next) code → Target next m
     list_target m NoCommand n ls next is bu fr w = absurd (true≢false (sym is))
     list_target m (AndCommand s ss) n ls next is bu fr w =
-        let rest = all_code made spare ss (n + labels s) ls next in
+        let rest = all_code made spare own ss (n + labels s) ls next in
         by (or_true (has_own_label m s) (stands m ss) is) (marked_target m s n ls rest)
-        (λ h. list_target m ss (n + labels s) ls next h bu.1 (λ q e. omega (arith, fr q e)) (within_in (within_code made spare s n ls rest) w))
+        (λ h. list_target m ss (n + labels s) ls next h bu.1 (λ q e. omega (arith, fr q e)) (within_in (within_code made spare own s n ls rest) w))
       where
-        by : (has_own_label m s ≡ true) ⊎ (stands m ss ≡ true) → (has_own_label m s ≡ true → Within (all_code made spare (AndCommand s ss) n ls next) code → Target (all_code made spare (AndCommand s ss) n ls next) m) → (stands m ss ≡ true → Target next m) → Target next m
+        by : (has_own_label m s ≡ true) ⊎ (stands m ss ≡ true) → (has_own_label m s ≡ true → Within (all_code made spare own (AndCommand s ss) n ls next) code → Target (all_code made spare own (AndCommand s ss) n ls next) m) → (stands m ss ≡ true → Target next m) → Target next m
         by (inl h) here_it later = target_at m (λ q e. sym (all_level (AndCommand s ss) n ls next bu fr q e)) (here_it h w)
         by (inr h) here_it later = later h
 
-    pub lists_more : (ss : Commands) (n : ℕ) (ls : Rings) (next : List Line) (around : List Commands) → AreBuilt ss → AllFree ss n → Within (all_code made spare ss n ls next) code → ListsLead around next → ListsLead (ss ∷ around) next
+    pub lists_more : (ss : Commands) (n : ℕ) (ls : Rings) (next : List Line) (around : List Commands) → AreBuilt ss → AllFree ss n → Within (all_code made spare own ss n ls next) code → ListsLead around next → ListsLead (ss ∷ around) next
     lists_more ss n ls next around bu fr w li m is = by (or_true (stands m ss) (stands_in m around) is)
       where
         by : (stands m ss ≡ true) ⊎ (stands_in m around ≡ true) → Target next m
@@ -203,28 +203,28 @@ module _ (code : List Line) (unique : AreUnique code) (IsEnd : ℕ → Type 0) w
     clauses_at a b NoClause m e c = tt
     clauses_at a b (AndClause es fallback ss p cs) m e c = (target_at (made m) e c.0, clauses_at a b cs (m + 1 + all_labels ss) e c.1)
 
-    clause_targets : (cs : Clauses) (m out : ℕ) (ls : Rings) (next : List Line) → ClausesBuilt cs → ClausesFree cs m → Within (bodies made spare cs m out ls next) code → ClausesLead cs m next
+    clause_targets : (cs : Clauses) (m out : ℕ) (ls : Rings) (next : List Line) → ClausesBuilt cs → ClausesFree cs m → Within (bodies made spare own cs m out ls next) code → ClausesLead cs m next
     clause_targets NoClause m out ls next bu fr w = tt
     clause_targets (AndClause es fallback ss p cs) m out ls next bu fr w =
-        let rest = bodies made spare cs (m + 1 + all_labels ss) out ls next in
+        let rest = bodies made spare own cs (m + 1 + all_labels ss) out ls next in
         let later : ClausesFree cs (m + 1 + all_labels ss) = λ q h. omega (arith, fr q h) in
-        let level : IsLevel (bodies made spare (AndClause es fallback ss p cs) m out ls next) next = bodies_level (AndClause es fallback ss p cs) m out ls next bu fr in (
+        let level : IsLevel (bodies made spare own (AndClause es fallback ss p cs) m out ls next) next = bodies_level (AndClause es fallback ss p cs) m out ls next bu fr in (
           target_here (made m) p w (λ q h. omega (arith, level q h)),
-          clause_targets cs (m + 1 + all_labels ss) out ls next bu.1 later (within_in (within_tail _ (within_all made spare ss (m + 1) ls (jump p out ∷ rest))) (within_tail _ w)),
+          clause_targets cs (m + 1 + all_labels ss) out ls next bu.1 later (within_in (within_tail _ (within_all made spare own ss (m + 1) ls (jump p out ∷ rest))) (within_tail _ w)),
         )
 
-    default_target : {next : List Line} (cs : Clauses) (m out : ℕ) → ClausesLead cs m next → Target next out → Target next (default_label made spare cs m out)
+    default_target : {next : List Line} (cs : Clauses) (m out : ℕ) → ClausesLead cs m next → Target next out → Target next (default_label made spare own cs m out)
     default_target NoClause m out c t = t
     default_target {next} (AndClause es fallback ss p cs) m out c t = by fallback c.0 (default_target cs (m + 1 + all_labels ss) out c.1 t)
       where
-        by : (v : Bool) → Target next (made m) → Target next (default_label made spare cs (m + 1 + all_labels ss) out) → Target next (if v then made m else default_label made spare cs (m + 1 + all_labels ss) out)
+        by : (v : Bool) → Target next (made m) → Target next (default_label made spare own cs (m + 1 + all_labels ss) out) → Target next (if v then made m else default_label made spare own cs (m + 1 + all_labels ss) out)
         by true one other = one
         by false one other = other
 
-    tests_lead : (cs : Clauses) (m : ℕ) (next : List Line) → ClausesLead cs m next → AllLead next → AllLead (tests made spare cs m next)
+    tests_lead : (cs : Clauses) (m : ℕ) (next : List Line) → ClausesLead cs m next → AllLead next → AllLead (tests made spare own cs m next)
     tests_lead NoClause m next c k = k
     tests_lead (AndClause es fallback ss p cs) m next c k =
-        let rest = tests made spare cs (m + 1 + all_labels ss) next in
+        let rest = tests made spare own cs (m + 1 + all_labels ss) next in
         each_leads spare p es (made m) rest (target_at (made m) (tests_level cs (m + 1 + all_labels ss) next) c.0) (tests_lead cs (m + 1 + all_labels ss) next c.1 k)
 
     -- ---- loops ----
@@ -234,7 +234,7 @@ module _ (code : List Line) (unique : AreUnique code) (IsEnd : ℕ → Type 0) w
         ((q : ℕ) → IsEnd q → bit (nat_eq (made n) q) + bit (nat_eq (made (n + 1)) q) + bit (nat_eq (made (n + 2)) q) + heads made q s (n + 3) ≡ 0) → RingsLead d ls next → ListsLead around next →
         (let rings : Rings = (made (n + 2), made (n + 1)) ∷ ls in
         let mid : List Line = here (made (n + 1)) p ∷ with_act p step (jump p (made n) ∷ here (made (n + 2)) p ∷ next) in
-        let inner : List Line = code_of made spare s (n + 3) rings mid in
+        let inner : List Line = code_of made spare own s (n + 3) rings mid in
         (RingsLead (suc d) rings mid → ListsLead around mid → Within inner code → AllLead mid → AllLead inner) →
         Within (here (made n) p ∷ with_test p e (made (n + 2)) inner) code → AllLead next → AllLead (here (made n) p ∷ with_test p e (made (n + 2)) inner))
     loop_leads p e step s d n ls around next bu plain land fr ri li body w k =
@@ -243,17 +243,17 @@ module _ (code : List Line) (unique : AreUnique code) (IsEnd : ℕ → Type 0) w
         let out : List Line = jump p (made n) ∷ last in
         let acted : List Line = with_act p step out in
         let mid : List Line = here (made (n + 1)) p ∷ acted in
-        let inner : List Line = code_of made spare s (n + 3) rings mid in
+        let inner : List Line = code_of made spare own s (n + 3) rings mid in
         let tested : List Line = with_test p e (made (n + 2)) inner in
         let wi : Within inner code = within_in (within_test p e (made (n + 2)) inner) (within_tail _ w) in
-        let wm : Within mid code = within_in (within_code made spare s (n + 3) rings mid) wi in
+        let wm : Within mid code = within_in (within_code made spare own s (n + 3) rings mid) wi in
         let wo : Within out code = within_in (within_act p step out) (within_tail _ wm) in
         let wl : Within last code = within_tail _ wo in
         let a_last : IsLevel last next = λ q h. omega (arith, fr q h) in
         let a_out : IsLevel out next = λ q h. omega (arith, fr q h) in
         let a_acted : IsLevel acted next = λ q h. omega (arith, occurs-act q p step out, ends-act q p step out plain, a_out q h) in
         let a_mid : IsLevel mid next = λ q h. omega (arith, a_acted q h, fr q h) in
-        let a_inner : IsLevel inner next = λ q h. omega (arith, occurs-code made spare q s (n + 3) rings mid bu, ends-code made spare q s (n + 3) rings mid bu, a_mid q h, fr q h) in
+        let a_inner : IsLevel inner next = λ q h. omega (arith, occurs-code made spare own q s (n + 3) rings mid bu, ends-code made spare own q s (n + 3) rings mid bu, a_mid q h, fr q h) in
         let a_tested : IsLevel tested next = λ q h. omega (arith, occurs-test q p e (made (n + 2)) inner, ends-test q p e (made (n + 2)) inner, a_inner q h) in
         let a_all : IsLevel (here (made n) p ∷ tested) next = λ q h. omega (arith, a_tested q h, fr q h) in
         let head : Target next (made n) = target_here (made n) p w (λ q h. omega (arith, a_all q h)) in
@@ -273,32 +273,32 @@ module _ (code : List Line) (unique : AreUnique code) (IsEnd : ℕ → Type 0) w
 
     mutual
       lead : (s : Command) (d n : ℕ) (ls : Rings) (around : List Commands) (next : List Line) → IsBuilt s → Fits d s → Lands around s → Free s n → RingsLead d ls next → ListsLead around next →
-          Within (code_of made spare s n ls next) code → AllLead next → AllLead (code_of made spare s n ls next)
+          Within (code_of made spare own s n ls next) code → AllLead next → AllLead (code_of made spare own s n ls next)
       lead (Empty p) d n ls around next bu fi la fr ri li w k = k
       lead (Block p ss) d n ls around next bu fi la fr ri li w k = lead_all ss d n ls (ss ∷ around) next bu fi la fr ri (lists_more ss n ls next around bu fr w li) w k
       lead (If p e s) d n ls around next bu fi la fr ri li w k =
           let last : List Line = here (made n) p ∷ next in
-          let inner : List Line = code_of made spare s (n + 1) ls last in
+          let inner : List Line = code_of made spare own s (n + 1) ls last in
           let free : Free s (n + 1) = λ q h. omega (arith, fr q h) in
           let wi : Within inner code = within_tail _ w in
           let to_last : EntersNone last next = λ q h. omega (arith, fr q h) in
           let level : IsLevel inner last = code_level s (n + 1) ls last bu free in
-          let behind : Target last (made n) = target_here (made n) p (within_in (within_code made spare s (n + 1) ls last) wi) (λ q h. omega arith) in (
+          let behind : Target last (made n) = target_here (made n) p (within_in (within_code made spare own s (n + 1) ls last) wi) (λ q h. omega arith) in (
             chooses_lead (made n) p _ (target_at (made n) level behind),
             lead s d (n + 1) ls around last bu fi la free (rings_from d ls to_last ri) (lists_from around to_last li) wi (passes_lead (Some (made n)) p next, k),
           )
       lead (IfElse p e s t) d n ls around next bu fi la fr ri li w k =
           let last : List Line = here (made (n + 1)) p ∷ next in
-          let second : List Line = code_of made spare t (n + 2 + labels s) ls last in
+          let second : List Line = code_of made spare own t (n + 2 + labels s) ls last in
           let other : List Line = here (made n) p ∷ second in
           let out : List Line = jump p (made (n + 1)) ∷ other in
-          let first : List Line = code_of made spare s (n + 2) ls out in
+          let first : List Line = code_of made spare own s (n + 2) ls out in
           let free_s : Free s (n + 2) = λ q h. omega (arith, fr q h) in
           let free_t : Free t (n + 2 + labels s) = λ q h. omega (arith, fr q h) in
           let wf : Within first code = within_tail _ w in
-          let wo : Within other code = within_tail _ (within_in (within_code made spare s (n + 2) ls out) wf) in
+          let wo : Within other code = within_tail _ (within_in (within_code made spare own s (n + 2) ls out) wf) in
           let ws : Within second code = within_tail _ wo in
-          let wl : Within last code = within_in (within_code made spare t (n + 2 + labels s) ls last) ws in
+          let wl : Within last code = within_in (within_code made spare own t (n + 2 + labels s) ls last) ws in
           let a_last : IsLevel last next = λ q h. omega (arith, fr q h) in
           let a_second : IsLevel second next = λ q h. omega (arith, code_level t (n + 2 + labels s) ls last bu.1 free_t q h, a_last q h) in
           let a_other : IsLevel other next = λ q h. omega (arith, a_second q h, fr q h) in
@@ -319,15 +319,15 @@ module _ (code : List Line) (unique : AreUnique code) (IsEnd : ℕ → Type 0) w
       lead (For p first e step s) d n ls around next bu fi la fr ri li w k =
           let rings : Rings = (made (n + 2), made (n + 1)) ∷ ls in
           let mid : List Line = here (made (n + 1)) p ∷ with_act p step (jump p (made n) ∷ here (made (n + 2)) p ∷ next) in
-          let inner : List Line = code_of made spare s (n + 3) rings mid in
+          let inner : List Line = code_of made spare own s (n + 3) rings mid in
           let all : List Line = here (made n) p ∷ with_test p e (made (n + 2)) inner in
           let level : IsLevel all next =
           λ q h. omega (
             arith,
             occurs-test q p e (made (n + 2)) inner,
             ends-test q p e (made (n + 2)) inner,
-            occurs-code made spare q s (n + 3) rings mid bu.2,
-            ends-code made spare q s (n + 3) rings mid bu.2,
+            occurs-code made spare own q s (n + 3) rings mid bu.2,
+            ends-code made spare own q s (n + 3) rings mid bu.2,
             occurs-act q p step (jump p (made n) ∷ here (made (n + 2)) p ∷ next),
             ends-act q p step (jump p (made n) ∷ here (made (n + 2)) p ∷ next) bu.1,
             fr q h,
@@ -343,10 +343,10 @@ module _ (code : List Line) (unique : AreUnique code) (IsEnd : ℕ → Type 0) w
           let last : List Line = here (made (n + 2)) p ∷ next in
           let out : List Line = unless q0 e (made n) ∷ last in
           let mid : List Line = here (made (n + 1)) p ∷ out in
-          let inner : List Line = code_of made spare s (n + 3) rings mid in
+          let inner : List Line = code_of made spare own s (n + 3) rings mid in
           let free : Free s (n + 3) = λ q h. omega (arith, fr q h) in
           let wi : Within inner code = within_tail _ w in
-          let wm : Within mid code = within_in (within_code made spare s (n + 3) rings mid) wi in
+          let wm : Within mid code = within_in (within_code made spare own s (n + 3) rings mid) wi in
           let wl : Within last code = within_tail _ (within_tail _ wm) in
           let a_last : IsLevel last next = λ q h. omega (arith, fr q h) in
           let a_mid : IsLevel mid next = λ q h. omega (arith, fr q h) in
@@ -364,10 +364,10 @@ module _ (code : List Line) (unique : AreUnique code) (IsEnd : ℕ → Type 0) w
           let rings : Rings = (made (n + 1), made n) ∷ ls in
           let last : List Line = here (made (n + 1)) p ∷ next in
           let mid : List Line = here (made n) p ∷ last in
-          let inner : List Line = code_of made spare s (n + 2) rings mid in
+          let inner : List Line = code_of made spare own s (n + 2) rings mid in
           let free : Free s (n + 2) = λ q h. omega (arith, fr q h) in
           let wi : Within inner code = within_tail _ w in
-          let wm : Within mid code = within_in (within_code made spare s (n + 2) rings mid) wi in
+          let wm : Within mid code = within_in (within_code made spare own s (n + 2) rings mid) wi in
           let wl : Within last code = within_tail _ wm in
           let to_mid : EntersNone mid next = λ q h. omega (arith, fr q h) in
           let again : Target mid (made n) = target_here (made n) p wm (λ q h. omega arith) in
@@ -376,7 +376,7 @@ module _ (code : List Line) (unique : AreUnique code) (IsEnd : ℕ → Type 0) w
             place = p;
             behind = last;
             found = found (made n) p unique wm;
-            later = omega (arith, occurs-code made spare (made n) s (n + 2) rings mid bu, ap bit (same_number (made n)));
+            later = omega (arith, occurs-code made spare own (made n) s (n + 2) rings mid bu, ap bit (same_number (made n)));
             leaves = λ q h. omega (arith, code_level s (n + 2) rings mid bu free q h);
           } in (
             record { targets = tt; ending = ending },
@@ -385,11 +385,11 @@ module _ (code : List Line) (unique : AreUnique code) (IsEnd : ℕ → Type 0) w
           )
       lead (Switch p e cs) d n ls around next bu fi la fr ri li w k =
           let last : List Line = here (made n) p ∷ next in
-          let all : List Line = bodies made spare cs (n + 1) (made n) ls last in
-          let go : List Line = jump p (default_label made spare cs (n + 1) (made n)) ∷ all in
+          let all : List Line = bodies made spare own cs (n + 1) (made n) ls last in
+          let go : List Line = jump p (default_label made spare own cs (n + 1) (made n)) ∷ all in
           let free : ClausesFree cs (n + 1) = λ q h. omega (arith, fr q h) in
-          let wb : Within all code = within_tail _ (within_in (within_tests made spare cs (n + 1) go) (within_tail _ w)) in
-          let wl : Within last code = within_in (within_bodies made spare cs (n + 1) (made n) ls last) wb in
+          let wb : Within all code = within_tail _ (within_in (within_tests made spare own cs (n + 1) go) (within_tail _ w)) in
+          let wl : Within last code = within_in (within_bodies made spare own cs (n + 1) (made n) ls last) wb in
           let to_last : EntersNone last next = λ q h. omega (arith, fr q h) in
           let out : Target last (made n) = target_here (made n) p wl (λ q h. omega arith) in
           let level : IsLevel all last = bodies_level cs (n + 1) (made n) ls last bu free in
@@ -403,32 +403,32 @@ module _ (code : List Line) (unique : AreUnique code) (IsEnd : ℕ → Type 0) w
       lead (Next p zero) d n ls around next bu fi la fr ri li w k = absurd (omega (arith, fi.0))
       lead (Next p (suc m)) d n ls around next bu fi la fr ri li w k = (goes_lead _ p (ri m (omega (arith, fi.1))).1, k)
       lead (Return p None) d n ls around next bu fi la fr ri li w k = (record { targets = tt; ending = tt }, k)
-      lead (Return p (Some e)) d n ls around next bu fi la fr ri li w k = absurd bu
+      lead (Return p (Some e)) d n ls around next bu fi la fr ri li w k = (record { targets = tt; ending = tt }, (record { targets = tt; ending = tt }, k))
       lead (Plain l p a) d n ls around next bu fi la fr ri li w k = (act_leads around l p a next fr bu la li, k)
       lead (Labelled l p s) d n ls around next bu fi la fr ri li w k =
           (passes_lead (Some l) p _, lead s d n ls around next bu fi la (λ q h. omega (arith, fr q h)) ri li (within_tail _ w) k)
 
       pub lead_all : (ss : Commands) (d n : ℕ) (ls : Rings) (around : List Commands) (next : List Line) → AreBuilt ss → AllFit d ss → AllLand around ss → AllFree ss n → RingsLead d ls next → ListsLead around next →
-          Within (all_code made spare ss n ls next) code → AllLead next → AllLead (all_code made spare ss n ls next)
+          Within (all_code made spare own ss n ls next) code → AllLead next → AllLead (all_code made spare own ss n ls next)
       lead_all NoCommand d n ls around next bu fi la fr ri li w k = k
       lead_all (AndCommand s ss) d n ls around next bu fi la fr ri li w k =
-          let rest : List Line = all_code made spare ss (n + labels s) ls next in
+          let rest : List Line = all_code made spare own ss (n + labels s) ls next in
           let free : AllFree ss (n + labels s) = λ q h. omega (arith, fr q h) in
           let to_rest : EntersNone rest next = λ q h. omega (arith, all_level ss (n + labels s) ls next bu.1 free q h) in
-          let k_rest : AllLead rest = lead_all ss d (n + labels s) ls around next bu.1 fi.1 la.1 free ri li (within_in (within_code made spare s n ls rest) w) k in
+          let k_rest : AllLead rest = lead_all ss d (n + labels s) ls around next bu.1 fi.1 la.1 free ri li (within_in (within_code made spare own s n ls rest) w) k in
           lead s d n ls around rest bu.0 fi.0 la.0 (λ q h. omega (arith, fr q h)) (rings_from d ls to_rest ri) (lists_from around to_rest li) w k_rest
 
       lead_bodies : (cs : Clauses) (d m out : ℕ) (ls : Rings) (around : List Commands) (next : List Line) → ClausesBuilt cs → ClausesFit d cs → ClausesLand around cs → ClausesFree cs m → RingsLead d ls next → ListsLead around next →
-          Target next out → Within (bodies made spare cs m out ls next) code → AllLead next → AllLead (bodies made spare cs m out ls next)
+          Target next out → Within (bodies made spare own cs m out ls next) code → AllLead next → AllLead (bodies made spare own cs m out ls next)
       lead_bodies NoClause d m out ls around next bu fi la fr ri li t w k = k
       lead_bodies (AndClause es fallback ss p cs) d m out ls around next bu fi la fr ri li t w k =
-          let rest : List Line = bodies made spare cs (m + 1 + all_labels ss) out ls next in
+          let rest : List Line = bodies made spare own cs (m + 1 + all_labels ss) out ls next in
           let go : List Line = jump p out ∷ rest in
-          let inner : List Line = all_code made spare ss (m + 1) ls go in
+          let inner : List Line = all_code made spare own ss (m + 1) ls go in
           let free : AllFree ss (m + 1) = λ q h. omega (arith, fr q h) in
           let free1 : ClausesFree cs (m + 1 + all_labels ss) = λ q h. omega (arith, fr q h) in
           let wi : Within inner code = within_tail _ w in
-          let wr : Within rest code = within_tail _ (within_in (within_all made spare ss (m + 1) ls go) wi) in
+          let wr : Within rest code = within_tail _ (within_in (within_all made spare own ss (m + 1) ls go) wi) in
           let level : IsLevel rest next = bodies_level cs (m + 1 + all_labels ss) out ls next bu.1 free1 in
           let to_go : EntersNone go next = λ q h. omega (arith, level q h) in
           let k_rest : AllLead rest = lead_bodies cs d (m + 1 + all_labels ss) out ls around next bu.1 fi.1 la.1 free1 ri li t wr k in

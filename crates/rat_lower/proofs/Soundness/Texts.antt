@@ -4,7 +4,7 @@ use Rattle.std.specs.Prelude.{codes, ⊤}
 use Rattle.std.specs.Fmt.{digits}
 use Rattle.std.specs.List.{AllByRecursion}
 use Rattle.std.proofs.lemmas.List.{length-append}
-use Rattle.f66_tree.specs.Syntax.{Text, Formula, Par, Act, Goto, Sign, When, Loop, Continue, Line}
+use Rattle.f66_tree.specs.Syntax.{Text, Formula, Ref, Par, Act, Assign, Goto, Sign, When, Loop, Continue, Return, Line}
 use Rattle.stmt_text.specs.Characters.{closing, equals, opening, blank}
 use Rattle.stmt_text.specs.Texts.{formula_text, loop_text, statement_text}
 use Rattle.stmt_text.specs.Fitting.{FitsCards}
@@ -33,6 +33,13 @@ unfolding digits
 value_fits e h =
     let text : statement_text (Sign e 0 0 0) ≡ codes "IF(" ++ formula_text e (codes ")0,0,0") = refl in
     (omega (arith, ap length text, length-formula_text e (codes ")0,0,0"), h), h)
+
+-- a value that is put into a name of at most six characters
+pub store_fits : (x : Text) (e : Formula) → length x ≤ 6 → length (formula_text e []) ≤ 1200 → Fits (Assign (Ref x) e)
+store_fits x e short h = (omega (arith, length-append x (equals ∷ formula_text e []), short, h), tt)
+
+pub return_fits : Fits Return
+return_fits = (omega arith, tt)
 
 pub loop_fits : (l : ℕ) (x : Text) (a b c : Par) → length (loop_text x a b c []) ≤ 1200 → Fits (Loop l x a b c)
 loop_fits l x a b c h = (omega (arith, length-decimal l (blank ∷ loop_text x a b c []), h), h)

@@ -11,10 +11,10 @@ use Rattle.f66_check.proofs.check.is_built_main.Goals as goal
 pub returns : goal.returns
 returns c =
     let unit = c.args.unit.now in
-    let names = c.in_ok-names.names.declarations in
-    let same_acts = acts_told names unit c.in_ok-sayings.sayings.items (c.in_ok-names.ensures.sayings ∙ c.deref-2.ensures.value)
+    let names = c.in_ok-declarations.declarations in
+    let same_acts = acts_told names unit c.in_ok-sayings.sayings.items (c.in_ok-declarations.ensures.sayings ∙ c.deref-2.ensures.value)
     (c.in_ok-sayings.ensures ∙ ap (map (λ s. act_of s.kind)) c.deref.ensures.value) in
-    let same_context = context_told names unit c.in_ok-names.ensures.header same_acts in
+    let same_context = context_told names unit c.in_ok-declarations.ensures.header same_acts in
     c.is_runnable.ensures
     ∙ built_told (routine_of unit) c.is_main-main.result c.in_ok-unbuilt.unbuilt c.is_main-main.ensures
     (unbuilt_told (context_in names) unit c.in_ok-unbuilt.unbuilt same_context (c.in_ok-unbuilt.ensures.first ∙ ap (first_place (λ s. not (is_built (context_in names) (act_of s.kind)))) c.deref-3.ensures.value))

@@ -9,5 +9,5 @@ use Rattle.f66_check.proofs.unbuilt.unbuilt_statement.Goals as goal
 
 pub returns-then-not-built-clause-first : goal.returns-then-not-built-clause-first
 returns-then-not-built-clause-first c =
-    sym (first_place-found (λ s. not (is_built (context_in c.args.names.now.declarations) (act_of s.kind))) c.args.statements.now c.loop-i.i _ c.loop-i.invariant c.loop-i-test.true
-    (ap (λ s. not (is_built (context_in c.args.names.now.declarations) (act_of s.kind))) (sym c.index-statements-i.is) ∙ ap not (sym c.in_ok-built.ensures ∙ c.if-not-built.true)))
+    sym (first_place-found (λ s. not (is_built (context_in c.args.declarations.now) (act_of s.kind))) c.args.statements.now c.loop-i.i _ c.loop-i.invariant c.loop-i-test.true
+    (ap (λ s. not (is_built (context_in c.args.declarations.now) (act_of s.kind))) (sym c.index-statements-i.is) ∙ ap not (sym c.in_ok-built.ensures ∙ c.if-not-built.true)))

@@ -8,4 +8,4 @@ use Rattle.f66_names.specs.DeclarationViews.{context_in}
 use Rattle.f66_check.proofs.unbuilt.unbuilt_statement.Given as goal
 
 abbrev pub invariant-loop-i : goal.invariant-loop-i
-invariant-loop-i l = first_place (λ s. not (is_built (context_in l.names.declarations) (act_of s.kind))) (take l.i l.statements) ≡ None
+invariant-loop-i l = first_place (λ s. not (is_built (context_in l.declarations) (act_of s.kind))) (take l.i l.statements) ≡ None

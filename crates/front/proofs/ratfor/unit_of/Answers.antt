@@ -6,5 +6,5 @@ use Rattle.front.proofs.ratfor.unit_of.Goals as goal
 pub parse-requires : goal.parse-requires
 parse-requires c = ends_ratfor c.args.tokens.now.items c.requires
 
-pub main_unit-requires : goal.main_unit-requires
-main_unit-requires c = c.parsed_has_room.ensures c.args.tokens.now.items (program_of c.in_ok-program.program) c.in_ok-program.ensures
+pub carried_unit-requires : goal.carried_unit-requires
+carried_unit-requires c = c.parsed_has_room.ensures c.args.tokens.now.items (program_of c.in_ok-program.program) c.in_ok-program.ensures

@@ -13,8 +13,8 @@ pub returns : goal.returns
 returns c =
     let d = c.args.names.now.declarations in
     let v = part_of c.args.part.now in
-    let own = breaks_own (is_among c.args.formats.now) (before_of c.args.before.now) v in
+    let own = breaks_own (context_in d).header (is_among c.args.formats.now) (before_of c.args.before.now) v in
     let said = break_names (context_in d) (acts_in d) c.args.before.now.said in
     c.lesser.ensures ∙ ap (λ o. lesser o c.in_ok-by_names.by_names) c.own_rule-own.ensures
     ∙ ap (lesser (first_rule own)) (c.in_ok-by_names.ensures ∙ ap (λ acts. first_rule (said acts)) c.requires.said)
-    ∙ sym (first_either own (said (said_by v.form)))
+    ∙ sym (first_either own (said (said_by (context_in d).header v.form)))

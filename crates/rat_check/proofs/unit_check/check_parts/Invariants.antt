@@ -1,6 +1,6 @@
 -- The parts before break no rule, and those left are told of as all are.
 use Rattle.std.proofs.Common.{◌≡◌, ◌+◌, [], length, drop}
-use Rattle.f66_names.specs.DeclarationViews.{acts_in}
+use Rattle.f66_names.specs.DeclarationViews.{context_in, acts_in}
 use Rattle.rat_check.specs.Said.{said_in}
 use Rattle.rat_check.specs.Rules.{nothing_before}
 use Rattle.rat_check.specs.FirstFault.{first_broken}
@@ -14,5 +14,5 @@ invariant-loop-part l = record {
       first_broken (whole_by l.names l.formats) (before_of l.before) (parts_seen (drop l.part-index l.parts))
       ≡ first_broken (whole_by l.names l.formats) nothing_before (parts_seen l.parts);
   labels : own_labels (parts_seen (drop l.part-index l.parts)) l.before.labels ≡ own_labels (parts_seen l.parts) [];
-  said : l.before.said + length (said_in (parts_seen (drop l.part-index l.parts))) ≡ length (acts_in l.names.declarations);
+  said : l.before.said + length (said_in (context_in l.names.declarations).header (parts_seen (drop l.part-index l.parts))) ≡ length (acts_in l.names.declarations);
 }

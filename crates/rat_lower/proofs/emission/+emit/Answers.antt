@@ -71,6 +71,6 @@ emit_clauses-loop-clause-preserved t c =
     let B = λ (v : _). AllEmitted (commands v) (rings_of c.args.around.now) c.fresh_label.new.self c.emit_all.new.maker (lines_of c.put_here.new.code.items) (lines_of c.emit_all.new.code.items) in
     let D = λ (d : _). ClausesSoFar (clauses c.args.list.now) (clauses (drop (c.loop-clause.clause-index + 1) c.args.list.now)) c.args.behind (rings_of c.args.around.now) d c.args.maker.now c.emit_all.new.maker (lines_of c.args.code.now.items) (lines_of c.put_cases.new.code.items) (lines_of c.args.bodies.now.items) (lines_of c.put_jump.new.code.items) in
     let all =
-    clauses_more _ _ _ _ _ _ _ _ _ _ _ _ _ _ _ _ _ _ _ _ _ _ (subst P next c.loop-clause.invariant) c.in_ok-label.ensures.label c.in_ok-label.ensures.made c.in_ok-label.ensures.taken c.in_ok-label.ensures.spare
+    clauses_more _ _ _ _ _ _ _ _ _ _ _ _ _ _ _ _ _ _ _ _ _ _ (subst P next c.loop-clause.invariant) c.in_ok-label.ensures.label c.in_ok-label.ensures.made c.in_ok-label.ensures.taken c.in_ok-label.ensures.spare c.in_ok-label.ensures.own
     (subst T c.deref.ensures.value c.in_ok-put_cases.ensures) c.in_ok-put_here.ensures (subst B c.deref-in-loop-clause.ensures.value c.in_ok-emit_all.ensures) c.in_ok-put_jump.ensures in
     subst D (sym c.first_default-default.ensures) all

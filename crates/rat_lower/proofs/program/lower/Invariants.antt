@@ -8,5 +8,5 @@ use Rattle.rat_lower.proofs.program.lower.Given as goal
 abbrev pub invariant-loop-unit : goal.invariant-loop-unit
 invariant-loop-unit l = record {
   fault : first_fault_of (map rat_routine_of l.program.units.items) ≡ first_fault_of (map rat_routine_of (drop l.unit-index l.program.units.items));
-  serves : AllServe (map rat_routine_of (take l.unit-index l.program.units.items)) l.made.items;
+  serves : AllServe (map rat_routine_of (take l.unit-index l.program.units.items)) l.program.finish l.made.items;
 }

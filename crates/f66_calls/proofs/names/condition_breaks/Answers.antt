@@ -1,6 +1,0 @@
--- Why `condition_breaks` keeps its clauses.
-use Rattle.std.proofs.Common.{rules}
-use Rattle.f66_calls.proofs.names.condition_breaks.Goals as goal
-
-pub returns : goal.returns
-returns c = search rules

@@ -1,7 +1,0 @@
--- The class of one use more.
-use Rattle.std.proofs.Common.{arith}
-use Rattle.rule_table.proofs.WordLemmas.{place_steps}
-use Rattle.f66_names.proofs.classes.note_classes.Goals as goal
-
-pub loop-used-preserved : goal.loop-used-preserved
-loop-used-preserved c = λ q. grind (arith, place_steps, c.loop-used.invariant q)

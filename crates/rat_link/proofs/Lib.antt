@@ -1,0 +1,4 @@
+-- The lemmas of rat_link.
+pub mod LimitLemmas
+pub mod ReadyLemmas
+pub mod CheckLemmas

@@ -1,0 +1,105 @@
+-- The statements of a unit that the checks accept: they are what it becomes, a sound unit, and fit their cards.
+use Rattle.std.proofs.Common.{◌≡◌, ℕ, ◌+◌, ◌≤◌, true, List, [], length, None, refl, sym, ap, ◌∙◌, subst, arith}
+use Rattle.std.specs.List.{AllByRecursion}
+use Rattle.ground.specs.declared.place.Place.{Place}
+use Rattle.f66_tree.specs.declared.unit.Unit.{Unit as AUnit}
+use Rattle.f66_tree.specs.Syntax.{MainUnit, Line, Routine}
+use Rattle.f66_tree.specs.Units.{notes_of}
+use Rattle.f66_tree.specs.Views.{header_of, lines_of, routine_of}
+use Rattle.f66_tree.specs.Agreement.{Agrees}
+use Rattle.f66_tree.specs.OneUnit.{executed}
+use Rattle.f66_check.specs.CheckRules.{first_unbuilt}
+use Rattle.f66_check.specs.Answers.{IsSoundUnit}
+use Rattle.stmt_text.specs.Texts.{header_text}
+use Rattle.stmt_text.specs.Fitting.{FitsCards, IsPrintable}
+use Rattle.rat_tree.specs.Syntax.{RatRoutine}
+use Rattle.rat_check.specs.Parts.{no_label, unit_parts}
+use Rattle.rat_check.specs.FirstFault.{with_own, unit_fault}
+use Rattle.rat_check.specs.Survey.{is_among, own_labels}
+use Rattle.rat_check.proofs.CleanLemmas.{Passed, passed}
+use Rattle.rat_check.proofs.SurveyLemmas.{own_among}
+use Rattle.name_alloc.specs.MadeNames.{Used, next_name, unused, keeping_all}
+use Rattle.rat_lower.specs.OneUnit.{means}
+use Rattle.rat_lower.specs.Checked.{IsChecked}
+use Rattle.rat_lower.specs.Code.{have_switch, all_labels, ends_itself, unit_code}
+use Rattle.rat_lower.specs.Emitted.{labels_past, unit_names, spare_name}
+use Rattle.rat_lower.specs.Lowered.{lowered, HasRoom, IsUnitCode}
+use Rattle.rat_lower.specs.Served.{IsBuiltMain, Serves, MainsServe}
+use Rattle.rat_lower.proofs.Checks.{is_checked, accepted_flow}
+use Rattle.rat_lower.proofs.Simulation.LinkedUnits.{spare_of}
+use Rattle.rat_lower.proofs.Simulation.OneLinkage.{Made}
+use Rattle.rat_lower.proofs.Simulation.Top.{found, unit_agrees}
+use Rattle.rat_lower.proofs.Soundness.CleanUnits.{unit_is_sound}
+use Rattle.rat_lower.proofs.Soundness.BuiltUnits.{unit_built}
+use Rattle.rat_lower.proofs.Soundness.PrintedUnits.{unit_fits}
+
+module _ (u : RatRoutine) (taken given : List ℕ) (last : Place) (names : Used) (code : List Line) (none_found : unit_fault u ≡ None) (own : taken ≡ own_labels (unit_parts u.body) []) (same : given ≡ taken)
+    (room : HasRoom u) (is_code : IsUnitCode (labels_past given) (next_name names) u last code) (kept : names ≡ keeping_all (unit_names u) unused) where
+  made : code ≡ lowered given u last
+  made = is_code.is ∙ ap (λ n. unit_code (labels_past given) (next_name n) u.header u.place last u.body) kept
+
+  accepted : Passed u.header (unit_parts u.body)
+  accepted = passed u.header u.place (unit_parts u.body) none_found
+
+  all : is_among given ≡ with_own (unit_parts u.body) no_label
+  all = ap is_among (same ∙ own) ∙ own_among (unit_parts u.body)
+
+  labels_fit : length given + all_labels u.body ≤ 77000
+  labels_fit = subst (λ labels. length labels + all_labels u.body ≤ 77000) (sym (same ∙ own)) room.labels
+
+  code_sound : ends_itself u.header code ≡ true → IsSoundUnit (record { header = u.header; lines = code; place = u.place })
+  code_sound finished =
+      subst (λ lines. IsSoundUnit (record { header = u.header; lines = lines; place = u.place })) (sym made)
+      (unit_is_sound u accepted room.names (labels_past given) last u.place (accepted_flow u accepted room.names given all last labels_fit (sym (ap (ends_itself u.header) made) ∙ finished)))
+
+  code_printable : length (header_text u.header) ≤ 1320 → IsPrintable (record { header = u.header; lines = code; place = u.place })
+  code_printable short = record { header = short; lines = subst (AllByRecursion FitsCards) (sym made) (unit_fits u accepted (labels_past given) last) }
+
+  code_built : IsBuiltMain u → first_unbuilt (record { header = u.header; lines = code; place = u.place }) ≡ None
+  code_built built = ap (λ lines. first_unbuilt (record { header = u.header; lines = lines; place = u.place })) made ∙ unit_built u accepted room.names (labels_past given) last built u.place
+
+  pub code_serves : (unit : AUnit) → routine_of unit ≡ record { header = u.header; lines = code; place = u.place } → ends_itself u.header code ≡ true → Serves u last unit
+  code_serves unit is finished = record {
+    header = ap (λ (r : Routine). r.header) is;
+    place = ap (λ (r : Routine). r.place) is;
+    made = labels_past given;
+    spare = spare_name u;
+    code = record { is = ap (λ (r : Routine). r.lines) is ∙ made };
+    checked = is_checked u accepted room.names given all;
+    sound = subst IsSoundUnit (sym is) (code_sound finished);
+    printable = λ short. subst IsPrintable (sym is) (code_printable short);
+    built = λ whole. ap first_unbuilt is ∙ code_built whole;
+  }
+
+-- ---- linked programs ----
+
+-- a unit that serves is made of its source, as a linked program asks of each of its units
+pub served_made : (u : RatRoutine) (finish : Place) (unit : AUnit) (serves : Serves u finish unit) →
+    Made (record { header = header_of unit.header; notes = notes_of (lines_of unit.statements.items) }) (spare_of (have_switch u.body) serves.spare) u.body (lines_of unit.statements.items)
+served_made u finish unit serves = record {
+  made = serves.made;
+  name = serves.spare;
+  first = u.place;
+  last = finish;
+  checked = subst (λ k. IsChecked serves.made serves.spare k u.body) (sym serves.header) serves.checked;
+  is_code = serves.code.is ∙ ap (λ k. unit_code serves.made serves.spare k u.place finish u.body) (sym serves.header);
+  is_spare = refl;
+  notes = refl;
+}
+
+-- ---- mains ----
+
+main_header : length (header_text MainUnit) ≤ 1320
+main_header = omega arith
+
+pub mains_serve : MainsServe
+mains_serve u finish unit main serves =
+    let checked : IsChecked serves.made serves.spare MainUnit u.body = subst (λ k. IsChecked serves.made serves.spare k u.body) main serves.checked in
+    let code : lines_of unit.statements.items ≡ unit_code serves.made serves.spare MainUnit u.place finish u.body = serves.code.is ∙ ap (λ k. unit_code serves.made serves.spare k u.place finish u.body) main in
+    record {
+      header = serves.header ∙ main;
+      agrees = λ input. subst (λ lines. Agrees (means u.body input) (executed lines input)) (sym code) (unit_agrees serves.made serves.spare u.place finish u.body checked input);
+      found = λ input b. found serves.made serves.spare u.place finish u.body checked input b;
+      sound = λ whole. record { built = serves.built whole; sound = serves.sound };
+      printable = serves.printable (subst (λ k. length (header_text k) ≤ 1320) (sym main) main_header);
+    }

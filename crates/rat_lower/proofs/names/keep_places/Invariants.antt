@@ -1,0 +1,11 @@
+-- Those left are still to be kept.
+use Rattle.std.proofs.Common.{◌≡◌, map, drop}
+use Rattle.std.specs.List.{flat_map}
+use Rattle.f66_tree.specs.Views.{formula_of}
+use Rattle.f66_names.specs.Uses.{uses_of_target}
+use Rattle.name_alloc.specs.MadeNames.{keeping_all}
+use Rattle.rat_lower.specs.Emitted.{names_used}
+use Rattle.rat_lower.proofs.names.keep_places.Given as goal
+
+abbrev pub invariant-loop-e : goal.invariant-loop-e
+invariant-loop-e l = keeping_all (flat_map (λ e. names_used (uses_of_target e)) (map formula_of (drop l.e-index l.list))) l.names ≡ keeping_all (flat_map (λ e. names_used (uses_of_target e)) (map formula_of l.list)) l.initial.names

@@ -1,0 +1,1 @@
+-- The proofs of rat_said.

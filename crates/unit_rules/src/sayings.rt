@@ -1,0 +1,135 @@
+// The rule with the smallest number that a part of a statement breaks: a condition, a value, the words of a DO.
+ghost use Rattle.std.specs.Prelude.{◌≡◌, ◌&&◌, map, IfOk};
+ghost use Rattle.ground.specs.declared.value.Kind.TheVariants.{Integer, Logical};
+ghost use Rattle.rule_table.specs.FaultRules.{first_rule};
+ghost use Rattle.f66_tree.specs.Syntax.{Ref, Assign};
+ghost use Rattle.f66_tree.specs.Views.{formula_of};
+ghost use Rattle.f66_names.specs.ActViews.{act_said};
+ghost use Rattle.f66_names.specs.DeclarationViews.{context_in, acts_in};
+ghost use Rattle.f66_names.specs.Shapes.{is_name, stands};
+ghost use Rattle.f66_names.specs.Uses.{uses_in};
+ghost use Rattle.f66_names.specs.UseViews.{use_of};
+ghost use Rattle.unit_rules.specs.PartRules.{breaks_used};
+ghost use Rattle.unit_rules.specs.Types.{assigns, clashes};
+ghost use Rattle.unit_rules.specs.UnitRules.{breaks_rule};
+
+use crate::UnitNames;
+use crate::rules::{broken_rule, has_misuse};
+use crate::types::fits;
+use f66_names::{
+    Declarations, Saying, Use, counts, has_long_use, has_other_use, has_wrong_use, is_array,
+    is_counting_form, is_name, may_be, stands, uses_of_saying,
+};
+use f66_tree::{Expr, Name};
+use ground::Kind;
+use rule_table::Rule;
+use std::alloc::{AllocError, Global};
+
+/// The rule with the smallest number that a statement or a part of one breaks, the i-th that the unit says, of those on names,
+/// types, counts, constants and stores (X3.9-1966, sections 3.5, 5 to 8 and 10.1).
+pub fn saying_rule(
+    alloc: Global,
+    names: &UnitNames,
+    i: usize,
+    saying: &Saying,
+) -> Result<Option<Rule>, AllocError>
+    ensures { IfOk result
+        (λ o. o ≡ first_rule (breaks_rule (context_in names.now.declarations) (acts_in names.now.declarations) i (act_said saying.now))) }
+{
+    let declarations = &names.declarations;
+    match *saying {
+        Saying::Act(kind) => broken_rule(alloc, names, i, kind),
+        Saying::Condition(e) => {
+            let clashing = !fits(declarations, e, Kind::Logical);
+            part_rule(alloc, names, saying, !stands(0, e), clashing, false)
+        }
+        Saying::Value(e) => {
+            let clashing = !fits(declarations, e, Kind::Integer);
+            part_rule(alloc, names, saying, !stands(0, e), clashing, false)
+        }
+        Saying::Counting(variable, first, last, step) => {
+            let misformed = !is_counting_form(variable, first, last, step);
+            let clashing = !counts(declarations, variable, first, last, step);
+            let stored = is_array(declarations, variable);
+            part_rule(alloc, names, saying, misformed, clashing, stored)
+        }
+        Saying::Returned(name, e) => {
+            let misformed = !is_returned_form(name, e);
+            let clashing = clashes_returned(declarations, name, e);
+            let stored = is_array(declarations, name);
+            part_rule(alloc, names, saying, misformed, clashing, stored)
+        }
+    }
+}
+
+/// What a part of a statement breaks of which it is known whether it has another form or type than it is to have, and whether
+/// it stores where it may not.
+fn part_rule(
+    alloc: Global,
+    names: &UnitNames,
+    saying: &Saying,
+    misformed: bool,
+    clashing: bool,
+    stored: bool,
+) -> Result<Option<Rule>, AllocError>
+    ensures { IfOk result
+        (λ o. o ≡ first_rule (breaks_used (context_in names.now.declarations) (acts_in names.now.declarations) (uses_in (act_said saying.now)) misformed clashing stored)) }
+{
+    let uses = uses_of_saying(alloc, saying)?;
+    Ok(used_rule(names, &uses, misformed, clashing, stored))
+}
+
+fn used_rule(
+    names: &UnitNames,
+    uses: &[Use],
+    misformed: bool,
+    clashing: bool,
+    stored: bool,
+) -> Option<Rule>
+    ensures { result
+        ≡ first_rule (breaks_used (context_in names.now.declarations) (acts_in names.now.declarations) (map use_of uses.now) misformed clashing stored) }
+{
+    if misformed {
+        return Some(Rule::Syntax);
+    }
+    if has_long_use(uses) {
+        return Some(Rule::NameTooLong);
+    }
+    if has_other_use(&names.declarations, uses) {
+        return Some(Rule::OutOfProfileType);
+    }
+    if clashing {
+        return Some(Rule::TypeClash);
+    }
+    if has_wrong_use(&names.declarations, uses) {
+        return Some(Rule::WrongCount);
+    }
+    if has_misuse(names, uses) {
+        return Some(Rule::DuplicateName);
+    }
+    if stored {
+        return Some(Rule::NotAssignable);
+    }
+    None
+}
+
+fn is_returned_form(name: &Name, value: &Expr) -> bool
+    ensures { result ≡ (is_name name.now && stands 0 (formula_of value.now)) }
+{
+    is_name(name) && stands(0, value)
+}
+
+/// Whether a function returns a value of another type than its own.
+fn clashes_returned(declarations: &Declarations, name: &Name, value: &Expr) -> bool
+    ensures { result ≡ clashes (context_in declarations.now) (Assign (Ref name.now) (formula_of value.now)) }
+{
+    !(returns(declarations, name, value, Kind::Integer)
+        || returns(declarations, name, value, Kind::Logical))
+}
+
+fn returns(declarations: &Declarations, name: &Name, value: &Expr, kind: Kind) -> bool
+    ensures { result ≡ assigns (context_in declarations.now) (Ref name.now) (formula_of value.now) kind }
+{
+    (is_array(declarations, name) || may_be(declarations, name, kind))
+        && fits(declarations, value, kind)
+}
