@@ -6,11 +6,14 @@ use Rattle.f66_tree.specs.Syntax.{Act}
 use Rattle.stmt_text.specs.Texts.{is_one, statement_text}
 use Rattle.stmt_reader.specs.declared.token.Token.TheVariants as t
 use Rattle.stmt_reader.specs.Lexing.{tokens_of}
-use Rattle.deck.specs.ReadableStatements.{IsReadableAct, branch, conditional, loop, format, typed, dimension}
+use Rattle.deck.specs.ReadableStatements.{IsReadableAct, branch, conditional, loop, format, typed, dimension, common, equivalence, preset}
 use Rattle.deck.proofs.KnownTokens.{is_known, AreKnown, spell_known, par_known, step_known}
 use Rattle.deck.proofs.BranchesRead.{par_token, loop_lexed}
 use Rattle.deck.proofs.ConditionalsRead.{conditional_lexed}
 use Rattle.deck.proofs.FormatsRead.{format_known}
+use Rattle.deck.proofs.CommonsRead.{common_known}
+use Rattle.deck.proofs.EquivalencesRead.{equivalence_known}
+use Rattle.deck.proofs.PresetsRead.{preset_known}
 use Rattle.deck.proofs.TypesRead.{names_all_known}
 use Rattle.deck.proofs.ActsRead.{branch_reads, names_readable}
 
@@ -27,3 +30,6 @@ act_known a (typed Integer d ds first others) = names_all_known (codes "INTEGER"
 act_known a (typed Logical d ds first others) = names_all_known (codes "LOGICAL") d ds first.readable (names_readable ds others)
 act_known a (typed Other d ds first others) = names_all_known (codes "REAL") d ds first.readable (names_readable ds others)
 act_known a (dimension d ds first others) = names_all_known (codes "DIMENSION") d ds first.readable (names_readable ds others)
+act_known a (common areas fine) = common_known areas fine
+act_known a (equivalence groups fine) = equivalence_known groups fine
+act_known a (preset parts fine) = preset_known parts fine

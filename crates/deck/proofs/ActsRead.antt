@@ -3,16 +3,19 @@ use Rattle.std.proofs.Common.{◌≡◌, true, List, [], ◌∷◌, Some, refl}
 use Rattle.std.specs.List.{AllByRecursion}
 use Rattle.f66_tree.specs.Syntax.{Formula, Declared, Act}
 use Rattle.stmt_text.specs.Texts.{statement_text}
-use Rattle.stmt_reader.specs.Exactness.{IsArgument, IsDeclared}
+use Rattle.stmt_reader.specs.Exactness.{IsArgument}
 use Rattle.stmt_reader.specs.Lexing.{tokens_of}
 use Rattle.stmt_reader.specs.Statements.{statement_of}
 use Rattle.deck.specs.Readable.{is_readable_argument, is_readable_declared}
-use Rattle.deck.specs.ReadableStatements.{IsReadableArgument, IsReadableDeclared, IsReadableBranch, assignment, jump, computed, sign, bare_call, call, read, write, continuation, stop, stop_number, return, IsReadableAct, branch, conditional, loop, format, typed, dimension}
+use Rattle.deck.specs.ReadableStatements.{IsReadableArgument, IsReadableDeclared, IsReadableBranch, assignment, jump, computed, sign, bare_call, call, read, write, continuation, stop, stop_number, return, IsReadableAct, branch, conditional, loop, format, typed, dimension, common, equivalence, preset}
 use Rattle.deck.proofs.AsBranch.{ReadsAsBranch}
 use Rattle.deck.proofs.StatementsRead.{assignment_read}
 use Rattle.deck.proofs.BranchesRead.{goto_read, loop_read}
 use Rattle.deck.proofs.CallsRead.{bare_call_read, call_read}
-use Rattle.deck.proofs.TypesRead.{types_read, dimensions_read}
+use Rattle.deck.proofs.TypesRead.{names_stand, types_read, dimensions_read}
+use Rattle.deck.proofs.CommonsRead.{common_read}
+use Rattle.deck.proofs.EquivalencesRead.{equivalence_read}
+use Rattle.deck.proofs.PresetsRead.{preset_read}
 use Rattle.deck.proofs.ChoicesRead.{choice_branch, choice_read, sign_branch, sign_read, stop_branch, stop_read}
 use Rattle.deck.proofs.FormatsRead.{format_read}
 use Rattle.deck.proofs.RecordsRead.{read_branch, read_read, write_branch, write_read}
@@ -25,10 +28,6 @@ arguments_stand (e ∷ es) all = (all.0.is_argument, arguments_stand es all.1)
 pub arguments_readable : (es : List Formula) → AllByRecursion IsReadableArgument es → AllByRecursion (λ a. is_readable_argument a ≡ true) es
 arguments_readable [] all = tt
 arguments_readable (e ∷ es) all = (all.0.readable, arguments_readable es all.1)
-
-names_stand : (ds : List Declared) → AllByRecursion IsReadableDeclared ds → AllByRecursion IsDeclared ds
-names_stand [] all = tt
-names_stand (d ∷ ds) all = (all.0.is_declared, names_stand ds all.1)
 
 pub names_readable : (ds : List Declared) → AllByRecursion IsReadableDeclared ds → AllByRecursion (λ d. is_readable_declared d ≡ true) ds
 names_readable [] all = tt
@@ -70,3 +69,6 @@ act_read a (loop l x first last step small name ra rb rc) = loop_read l x first 
 act_read a (format fs all) = format_read fs all
 act_read a (typed w d ds first others) = types_read w d ds first.is_declared (names_stand ds others) first.readable (names_readable ds others)
 act_read a (dimension d ds first others) = dimensions_read d ds first.is_declared (names_stand ds others) first.readable (names_readable ds others)
+act_read a (common areas fine) = common_read areas fine
+act_read a (equivalence groups fine) = equivalence_read groups fine
+act_read a (preset parts fine) = preset_read parts fine

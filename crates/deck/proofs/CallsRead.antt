@@ -32,7 +32,7 @@ never false = refl
 letter_lexed : (c : ℕ) (k : List ℕ) → lexed (Clear true) (formula_text (Letter c) k) ≡ t.Chars (c ∷ []) ∷ lexed (Clear false) k
 letter_lexed c k = ap (λ (b : Bool). (cond b (begun (InChars 0 [])) (alone_token (t.Chars (c ∷ [])) false)).tokens ++ lexed (cond b (begun (InChars 0 [])) (alone_token (t.Chars (c ∷ [])) false)).part k) (never (c == 32))
 
-argument_lexed : (e : Formula) (k : List ℕ) → is_readable_argument e ≡ true → IsBreak k → lexed (Clear true) (formula_text e k) ≡ spell e (lexed (Clear false) k)
+pub argument_lexed : (e : Formula) (k : List ℕ) → is_readable_argument e ≡ true → IsBreak k → lexed (Clear true) (formula_text e k) ≡ spell e (lexed (Clear false) k)
 argument_lexed (Letter c) k is b = letter_lexed c k
 argument_lexed (Int z) k is b = text_lexed (Int z) true k is b
 argument_lexed (Truth f) k is b = text_lexed (Truth f) true k is b
@@ -58,7 +58,7 @@ arguments_lexed e es k first all b = argument_lexed e (more_formulas_text (chain
 
 -- ---- no assignment ----
 
-others_list : (es : List Formula) (k : List Token) → spell_more (chained es) k ≡ spell_others spell t.Comma es k
+pub others_list : (es : List Formula) (k : List Token) → spell_more (chained es) k ≡ spell_others spell t.Comma es k
 others_list [] k = refl
 others_list (e ∷ es) k = ap (λ (y : List Token). t.Comma ∷ spell e y) (others_list es k)
 

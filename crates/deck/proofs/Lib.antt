@@ -11,6 +11,11 @@ pub mod BlankLemmas
 pub mod HollerithLemmas
 pub mod CallsRead
 pub mod TypesRead
+pub mod ListsRead
+pub mod SlashCuts
+pub mod CommonsRead
+pub mod EquivalencesRead
+pub mod PresetsRead
 pub mod FrontLemmas
 pub mod KnownTokens
 pub mod AsBranch
@@ -18,6 +23,8 @@ pub mod EntriesRead
 pub mod ChoicesRead
 pub mod ConditionalsRead
 pub mod RecordsRead
+pub mod FormatTexts
+pub mod FormatMeanings
 pub mod FormatsRead
 pub mod ActsRead
 pub mod ActsKnown

@@ -21,6 +21,7 @@ use Rattle.stmt_reader.proofs.CutLemmas.{cut_spelled, equals_outside}
 use Rattle.stmt_reader.proofs.CallReads.{cut_others}
 use Rattle.stmt_reader.proofs.DeclaredReads.{declarations_spelled}
 use Rattle.deck.specs.Readable.{is_readable_par, is_readable_declared}
+use Rattle.deck.specs.ReadableStatements.{IsReadableDeclared}
 use Rattle.deck.proofs.LexingLemmas.{IsBreak, word_goes_on, name_begins, word_ends}
 use Rattle.deck.proofs.KeywordLemmas.{keyword_taken}
 use Rattle.deck.proofs.BranchesRead.{name_alnum, par_token, par_lexed}
@@ -57,7 +58,7 @@ word_sized w x (p ∷ ps) k name is b =
     (par_lexed p true (more_commas par_text ps (41 ∷ k)) a.0 (more_break par_text ps (41 ∷ k) (refl, refl, refl, refl)) ∙ par_spelled p (lexed (Clear false) (more_commas par_text ps (41 ∷ k))) a.0
     ∙ ap (spell (par_formula p)) (pars_lexed ps (41 ∷ k) a.1 (refl, refl, refl, refl)))
 
-declared_lexed : (h : Bool) (d : Declared) (k : List ℕ) → is_readable_declared d ≡ true → IsBreak k → lexed (Clear h) (declared_text d k) ≡ spell_declared d (lexed (Clear false) k)
+pub declared_lexed : (h : Bool) (d : Declared) (k : List ℕ) → is_readable_declared d ≡ true → IsBreak k → lexed (Clear h) (declared_text d k) ≡ spell_declared d (lexed (Clear false) k)
 declared_lexed h d k is b =
     let a = and_parts (is_name d.name) (list_all is_readable_par d.sizes) is in
     name_begins h d.name (in_parentheses par_text d.sizes k) a.0 ∙ sized_ends d.name d.sizes k a.1 b
@@ -75,6 +76,10 @@ pub others_declared : (ds : List Declared) (k : List ℕ) → AllByRecursion (λ
 others_declared [] k all b = refl
 others_declared (d ∷ ds) k all b =
     ap (λ (y : List Token). t.Comma ∷ y) (declared_lexed true d (more_commas declared_text ds k) all.0 (more_break declared_text ds k b) ∙ ap (spell_declared d) (others_declared ds k all.1 b))
+
+pub names_stand : (ds : List Declared) → AllByRecursion IsReadableDeclared ds → AllByRecursion IsDeclared ds
+names_stand [] all = tt
+names_stand (d ∷ ds) all = (all.0.is_declared, names_stand ds all.1)
 
 -- ---- the statements ----
 
@@ -130,7 +135,7 @@ pub names_all_known : (letters : List ℕ) (d : Declared) (ds : List Declared) �
 names_all_known letters d ds first readable =
     ap (list_all is_known) (names_read letters d ds first readable).whole ∙ spell_known (sized_formula (letters ++ d.name) d.sizes) (spell_others spell_declared t.Comma ds []) (names_known ds [] refl)
 
-specified : (o c r : Option Act) (a : Act) → o ≡ None → c ≡ Some a → or_else o (or_else None (or_else (or_else o None) (or_else None (or_else None (or_else c r))))) ≡ Some a
+pub specified : (o c r : Option Act) (a : Act) → o ≡ None → c ≡ Some a → or_else o (or_else None (or_else (or_else o None) (or_else None (or_else None (or_else c r))))) ≡ Some a
 specified (Some b) c r a none is = absurd cc
 specified None c r a none is = ap (λ (x : Option Act). or_else x r) is
 

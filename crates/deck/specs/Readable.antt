@@ -39,6 +39,20 @@ abbrev pub is_readable_argument : Formula → Bool
 is_readable_argument (Letter c) = true
 is_readable_argument e = is_readable e
 
+-- a number without a sign
+abbrev pub is_readable_number : Formula → Bool
+is_readable_number (Int z) = in_range z
+is_readable_number _ = false
+
+-- a constant of DATA: a number with a sign or none, a truth value, or a Hollerith text of one character
+abbrev pub is_readable_datum : Formula → Bool
+is_readable_datum (Int z) = in_range z
+is_readable_datum (Plus e) = is_readable_number e
+is_readable_datum (Minus e) = is_readable_number e
+is_readable_datum (Truth b) = true
+is_readable_datum (Letter c) = true
+is_readable_datum _ = false
+
 -- a name with dimensions
 abbrev pub is_readable_declared : Declared → Bool
 is_readable_declared d = is_name d.name && list_all is_readable_par d.sizes

@@ -15,12 +15,17 @@ use Rattle.stmt_reader.specs.Levels.{is_name}
 use Rattle.stmt_reader.specs.Spelling.{spell, spell_members, spell_others}
 use Rattle.stmt_reader.specs.Spelled.{sized_formula, spell_declared}
 use Rattle.stmt_reader.specs.Formats.{spell_items}
-use Rattle.deck.specs.ReadableStatements.{IsReadableArgument, IsReadableBranch, assignment, jump, computed, sign, bare_call, call, read, write, continuation, stop, stop_number, return, IsReadableAct, branch, conditional, loop, format, typed, dimension}
+use Rattle.deck.specs.ReadableStatements.{IsReadableArgument, IsReadableBranch, assignment, jump, computed, sign, bare_call, call, read, write, continuation, stop, stop_number, return, IsReadableAct, branch, conditional, loop, format, typed, dimension, common, equivalence, preset}
 use Rattle.deck.proofs.BranchesRead.{par_token, goto_lexed, loop_lexed}
 use Rattle.deck.proofs.CallsRead.{call_behind, arguments_lexed}
+use Rattle.deck.proofs.CommonsRead.{spell_areas, common_lexed}
+use Rattle.deck.proofs.EquivalencesRead.{spell_group, equivalence_lexed}
+use Rattle.deck.proofs.ListsRead.{spell_some}
+use Rattle.deck.proofs.PresetsRead.{preset_tokens, preset_lexed}
 use Rattle.deck.proofs.ChoicesRead.{choice_tokens, choice_lexed, sign_tokens, sign_lexed, stop_tokens}
 use Rattle.deck.proofs.ConditionalsRead.{assignment_lexed, conditional_lexed}
-use Rattle.deck.proofs.FormatsRead.{written, format_lexed}
+use Rattle.deck.proofs.FormatTexts.{written}
+use Rattle.deck.proofs.FormatsRead.{format_lexed}
 use Rattle.deck.proofs.RecordsRead.{record_tokens, read_lexed, write_lexed}
 use Rattle.deck.proofs.TypesRead.{names_lexed}
 use Rattle.deck.proofs.ActsRead.{arguments_readable, branch_reads, names_readable}
@@ -67,6 +72,9 @@ act_tokens a (loop l x first last step small name ra rb rc) = t.Word (68 ∷ 79 
 act_tokens a (format fs all) = t.Word (codes "FORMAT") ∷ t.Open ∷ spell_items (written fs) (t.Close ∷ [])
 act_tokens a (typed w d ds first others) = names_tokens (type_letters w) d ds
 act_tokens a (dimension d ds first others) = names_tokens (codes "DIMENSION") d ds
+act_tokens a (common areas fine) = t.Word (codes "COMMON") ∷ spell_areas areas []
+act_tokens a (equivalence groups fine) = t.Word (codes "EQUIVALENCE") ∷ spell_some spell_group groups []
+act_tokens a (preset parts fine) = preset_tokens parts
 
 pub branch_lexed : (a : Act) (readable : IsReadableBranch a) → tokens_of (statement_text a) ≡ branch_tokens a readable
 branch_lexed a (assignment x e place left right) = assignment_lexed x e left right
@@ -93,3 +101,6 @@ act_lexed a (typed Integer d ds first others) = names_lexed (codes "INTEGER") d 
 act_lexed a (typed Logical d ds first others) = names_lexed (codes "LOGICAL") d ds first.readable (names_readable ds others)
 act_lexed a (typed Other d ds first others) = names_lexed (codes "REAL") d ds first.readable (names_readable ds others)
 act_lexed a (dimension d ds first others) = names_lexed (codes "DIMENSION") d ds first.readable (names_readable ds others)
+act_lexed a (common areas fine) = common_lexed areas fine
+act_lexed a (equivalence groups fine) = equivalence_lexed groups fine
+act_lexed a (preset parts fine) = preset_lexed parts fine

@@ -7,6 +7,7 @@
 pub mod ActTokens
 pub mod NoHeaders
 pub mod ShallowTokens
+pub mod ShallowSpecifications
 pub mod ShallowActs
 pub mod SmallNumbers
 pub mod AnsweredLines
@@ -14,11 +15,18 @@ pub mod HeadersRead
 pub mod UnitsAgain
 pub mod WritableLines
 pub mod SameChecks
+pub mod SoundExpressions
+pub mod SoundParts
+pub mod SoundSpecifications
 pub mod SoundForms
 pub mod SoundNames
+pub mod PrintedParts
+pub mod PrintedSpecifications
 pub mod PrintedTexts
 pub mod SoundDecks
 pub mod DecksAgain
 pub mod WholeFormats
 pub mod FittingTexts
+pub mod CardBytes
 mod Examples
+mod SpecificationExamples

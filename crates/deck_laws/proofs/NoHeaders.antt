@@ -20,8 +20,9 @@ use Rattle.stmt_reader.specs.Spelling.{spell, spell_list, spell_more, spell_othe
 use Rattle.stmt_reader.specs.Spelled.{spell_declared}
 use Rattle.stmt_reader.specs.Taking.{then_if, or_else, without, after_word, place_if}
 use Rattle.stmt_reader.proofs.Sound.{stays_stuck}
-use Rattle.deck.specs.ReadableStatements.{IsReadableBranch, assignment, jump, computed, sign, bare_call, call, read, write, continuation, stop, stop_number, return, IsReadableAct, branch, conditional, loop, format, typed, dimension}
+use Rattle.deck.specs.ReadableStatements.{IsReadableBranch, assignment, jump, computed, sign, bare_call, call, read, write, continuation, stop, stop_number, return, IsReadableAct, branch, conditional, loop, format, typed, dimension, common, equivalence, preset}
 use Rattle.deck.proofs.BranchesRead.{par_token}
+use Rattle.deck.proofs.PresetsRead.{data_first}
 use Rattle.deck.proofs.TypesRead.{word_first}
 use Rattle.deck_laws.specs.Fitting.{HasShortNames}
 use Rattle.deck_laws.proofs.ActTokens.{type_letters, branch_tokens, act_tokens}
@@ -161,3 +162,6 @@ act_header a (typed w d ds first others) short =
     word_first (λ (tokens : List Token). header_of tokens ≡ None) (type_letters w ++ d.name) d.sizes (spell_others spell_declared t.Comma ds []) (λ k. typed_header w d ds k short)
 act_header a (dimension d ds first others) short =
     word_first (λ (tokens : List Token). header_of tokens ≡ None) (codes "DIMENSION" ++ d.name) d.sizes (spell_others spell_declared t.Comma ds []) (λ k. refl)
+act_header a (common areas fine) short = refl
+act_header a (equivalence groups fine) short = refl
+act_header a (preset parts fine) short = data_first (λ (tokens : List Token). header_of tokens ≡ None) parts fine (λ x k. refl)

@@ -8,14 +8,15 @@ use Rattle.stmt_reader.specs.declared.token.Token.TheVariants as t
 use Rattle.stmt_reader.specs.Formats.{spell_items}
 use Rattle.stmt_reader.specs.Spelling.{spell, spell_others}
 use Rattle.stmt_reader.specs.Spelled.{spell_declared, spell_label}
-use Rattle.deck.specs.ReadableStatements.{IsReadableBranch, assignment, jump, computed, sign, bare_call, call, read, write, continuation, stop, stop_number, return, IsReadableAct, branch, conditional, loop, format, typed, dimension}
+use Rattle.deck.specs.ReadableStatements.{IsReadableBranch, assignment, jump, computed, sign, bare_call, call, read, write, continuation, stop, stop_number, return, IsReadableAct, branch, conditional, loop, format, typed, dimension, common, equivalence, preset}
 use Rattle.deck.proofs.BranchesRead.{par_token}
 use Rattle.deck.proofs.EntriesRead.{spell_entries}
-use Rattle.deck.proofs.FormatsRead.{written}
+use Rattle.deck.proofs.FormatTexts.{written}
 use Rattle.deck.proofs.RecordsRead.{record_tokens}
 use Rattle.deck_laws.specs.Nesting.{deepest, declared_nesting, entries_nesting}
 use Rattle.deck_laws.specs.Fitting.{IsShallow}
 use Rattle.deck_laws.proofs.ActTokens.{type_letters, names_tokens, branch_tokens, act_tokens}
+use Rattle.deck_laws.proofs.ShallowSpecifications.{common_shallow, equivalence_shallow, preset_shallow}
 use Rattle.deck_laws.proofs.ShallowTokens.{StayShallow, keeps, opens, closes, spell_shallow, labels_shallow, arguments_shallow, sized_shallow, names_shallow, par_shallow, step_shallow, entries_shallow, fields_shallow}
 
 record_shallow : (w : Text) (u : Par) (l : ℕ) (es : Entries) → max 1 (entries_nesting es) ≤ 110 → StayShallow 0 (t.Word w ∷ t.Open ∷ record_tokens u l es)
@@ -67,3 +68,6 @@ act_shallow a (format fs all) room =
     keeps 0 (t.Word (codes "FORMAT")) (t.Open ∷ spell_items (written fs) (t.Close ∷ [])) refl (opens 0 (spell_items (written fs) (t.Close ∷ [])) (fields_shallow fs 1 (t.Close ∷ []) (omega (arith, room)) refl))
 act_shallow a (typed w d ds first others) room = names_stay (type_letters w) d ds room
 act_shallow a (dimension d ds first others) room = names_stay (codes "DIMENSION") d ds room
+act_shallow a (common areas fine) room = common_shallow areas room
+act_shallow a (equivalence groups fine) room = equivalence_shallow groups room
+act_shallow a (preset parts fine) room = preset_shallow parts fine room

@@ -16,7 +16,8 @@ use Rattle.stmt_reader.specs.Spelling.{spell, spell_list, spell_more, spell_othe
 use Rattle.stmt_reader.specs.Spelled.{par_formulas, sized_formula, spell_declared, spell_label}
 use Rattle.deck.proofs.BranchesRead.{par_token}
 use Rattle.deck.proofs.EntriesRead.{step_then, spell_entry, spell_entries, more_entries}
-use Rattle.deck.proofs.FormatsRead.{item_of, pointed, written}
+use Rattle.deck.proofs.ListsRead.{spell_some}
+use Rattle.deck.proofs.FormatTexts.{item_of, pointed, written}
 use Rattle.deck_laws.specs.Nesting.{deepest, nesting, nesting_all, sizes_nesting, declared_nesting, entry_nesting, entries_nesting, fields_nesting}
 
 -- no more than 110 parentheses are open anywhere, where so many are
@@ -97,6 +98,17 @@ names_shallow [] d k room is = is
 names_shallow (n ∷ ns) d k room is =
     keeps d t.Comma (spell_declared n (spell_others spell_declared t.Comma ns k)) refl
     (sized_shallow n.name n.sizes d (spell_others spell_declared t.Comma ns k) (omega (arith, room)) (names_shallow ns d k (omega (arith, room)) is))
+
+-- a list by its members
+module _ {A : Type 0} (deep : A → ℕ) (spelling : A → List Token → List Token) (member : (a : A) (d : ℕ) (k : List Token) → deep a + d ≤ 110 → StayShallow d k → StayShallow d (spelling a k)) where
+  pub others_shallow : (all : List A) (d : ℕ) (k : List Token) → deepest deep all + d ≤ 110 → StayShallow d k → StayShallow d (spell_others spelling t.Comma all k)
+  others_shallow [] d k room is = is
+  others_shallow (a ∷ all) d k room is =
+      keeps d t.Comma (spelling a (spell_others spelling t.Comma all k)) refl (member a d (spell_others spelling t.Comma all k) (omega (arith, room)) (others_shallow all d k (omega (arith, room)) is))
+
+  pub some_shallow : (all : List A) (d : ℕ) (k : List Token) → deepest deep all + d ≤ 110 → StayShallow d k → StayShallow d (spell_some spelling all k)
+  some_shallow [] d k room is = is
+  some_shallow (a ∷ all) d k room is = member a d (spell_others spelling t.Comma all k) (omega (arith, room)) (others_shallow all d k (omega (arith, room)) is)
 
 -- ---- what READ and WRITE go over ----
 

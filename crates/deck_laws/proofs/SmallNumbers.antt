@@ -1,22 +1,23 @@
 -- The numbers of a statement that is read back are in range, those of its text too.
-use Rattle.std.proofs.Common.{◌≡◌, ℕ, ◌≤◌, pos, negsuc, Bool, true, false, cond, List, [], ◌∷◌, Some, None, refl, arith}
+use Rattle.std.proofs.Common.{◌≡◌, ℕ, ◌≤◌, pos, negsuc, Bool, true, false, cond, List, [], ◌∷◌, Option, Some, None, refl, arith}
 use Rattle.std.specs.Prelude.{nat_le, nat_lt, ◌==◌, ◌||◌, decimal}
 use Rattle.std.specs.List.{list_all, list_any, AllByRecursion}
 use Rattle.std.proofs.lemmas.Bool.{leb-true, le-ltb, and_parts}
 use Rattle.f66_tree.specs.declared.editing.EditKind.{EditKind}
 use Rattle.f66_tree.specs.declared.editing.EditKind.TheVariants as edits
 use Rattle.f66_tree.specs.Fields.{Step, Takes, Blanks, Chars, Slash, Fields, NoField, Single, Group as Nested}
-use Rattle.f66_tree.specs.Syntax.{Formula, Int, Truth, Letter, Ref, Item, Group, Plus, Minus, Not, Pair, Formulas, NoFormula, AndFormula, Par, Constant, Named, Declared, Entry, One, Many, Entries, NoEntry, AndEntry, Act}
+use Rattle.f66_tree.specs.Syntax.{Text, Formula, Int, Truth, Letter, Ref, Item, Group, Plus, Minus, Not, Pair, Formulas, NoFormula, AndFormula, Par, Constant, Named, Declared, Entry, One, Many, Entries, NoEntry, AndEntry, Area, PresetPart, Act}
 use Rattle.f66_tree.specs.Views.{chained}
 use Rattle.stmt_text.specs.Texts.{edit_letter, is_slash}
 use Rattle.stmt_reader.specs.declared.token.Token.{Token}
 use Rattle.stmt_reader.specs.declared.token.Token.TheVariants as t
 use Rattle.stmt_reader.specs.Levels.{is_name}
-use Rattle.stmt_reader.specs.Faults.{too_large, formula_has, formulas_have, par_has, declared_has, entry_has, entries_have, act_has, is_large, width_is_large, format_is_large}
+use Rattle.stmt_reader.specs.Faults.{too_large, formula_has, formulas_have, par_has, declared_has, entry_has, entries_have, name_has, area_has, value_has, preset_has, act_has, is_large, width_is_large, format_is_large}
 use Rattle.stmt_reader.specs.Formats.{Items, Then, Point, count_tokens, value_after, spell_item, spell_items}
-use Rattle.deck.specs.Readable.{is_readable, are_readable, are_some_readable, is_readable_par, is_readable_argument}
-use Rattle.deck.specs.ReadableStatements.{IsLabelInRange, IsReadableArgument, IsReadableDeclared, IsReadableEntry, AreReadableEntries, IsReadableStep, AreReadableFields, IsReadableBranch, assignment, jump, computed, sign, bare_call, call, read, write, continuation, stop, stop_number, return, IsReadableAct, branch, conditional, loop, format, typed, dimension}
-use Rattle.deck.proofs.FormatsRead.{item_of, pointed, written, width_digits}
+use Rattle.deck.specs.Readable.{is_readable, are_readable, are_some_readable, is_readable_par, is_readable_argument, is_readable_datum}
+use Rattle.deck.specs.ReadableStatements.{IsLabelInRange, IsReadableArgument, IsReadableDeclared, IsReadableEntry, AreReadableEntries, IsReadableStep, AreReadableFields, AreSome, IsReadablePlace, IsReadableArea, IsReadableGroup, IsReadableValue, IsReadablePart, IsReadableBranch, assignment, jump, computed, sign, bare_call, call, read, write, continuation, stop, stop_number, return, IsReadableAct, branch, conditional, loop, format, typed, dimension, common, equivalence, preset}
+use Rattle.deck.proofs.FormatTexts.{item_of, pointed, written}
+use Rattle.deck.proofs.FormatMeanings.{width_digits}
 use Rattle.deck_laws.proofs.ActTokens.{act_tokens}
 
 either : (a b : Bool) → a ≡ false → b ≡ false → (a || b) ≡ false
@@ -113,6 +114,46 @@ mutual
   entries_small NoEntry all = refl
   entries_small (AndEntry e es) all = either (entry_has too_large e) (entries_have too_large es) (entry_small e all.0) (entries_small es all.1)
 
+-- ---- COMMON, EQUIVALENCE and DATA ----
+
+any_small : {A : Type 0} (test : A → Bool) (Good : A → Type 0) → ((a : A) → Good a → test a ≡ false) → (all : List A) → AllByRecursion Good all → list_any test all ≡ false
+any_small test Good gives [] fine = refl
+any_small test Good gives (a ∷ all) fine = either (test a) (list_any test all) (gives a fine.0) (any_small test Good gives all fine.1)
+
+each_small : {A : Type 0} (test : A → Bool) (Good : A → Type 0) → ((a : A) → Good a → test a ≡ false) → (all : List A) → AreSome Good all → list_any test all ≡ false
+each_small test Good gives [] fine = absurd fine
+each_small test Good gives (a ∷ all) fine = any_small test Good gives (a ∷ all) fine
+
+place_small : (e : Formula) → IsReadablePlace e → formula_has too_large e ≡ false
+place_small e fine = formula_small e fine.1.readable
+
+block_small : (name : Option Text) → name_has too_large name ≡ false
+block_small None = refl
+block_small (Some x) = refl
+
+area_small : (a : Area) → IsReadableArea a → area_has too_large a ≡ false
+area_small a fine = either (name_has too_large a.name) (list_any (declared_has too_large) a.list) (block_small a.name) (each_small (declared_has too_large) IsReadableDeclared declared_small a.list fine.1)
+
+group_small : (es : List Formula) → IsReadableGroup es → list_any (formula_has too_large) es ≡ false
+group_small [] fine = absurd fine
+group_small (e ∷ es) fine = either (formula_has too_large e) (list_any (formula_has too_large) es) (place_small e fine.0) (each_small (formula_has too_large) IsReadablePlace place_small es fine.1)
+
+datum_small : (e : Formula) → is_readable_datum e ≡ true → formula_has too_large e ≡ false
+datum_small (Int z) is = formula_small (Int z) is
+datum_small (Plus (Int z)) is = formula_small (Int z) is
+datum_small (Minus (Int z)) is = formula_small (Int z) is
+datum_small (Truth b) is = refl
+datum_small (Letter c) is = refl
+datum_small _ is = absurd cc
+
+value_small : (v : ℕ × Formula) → IsReadableValue v → value_has too_large v ≡ false
+value_small v fine = either (nat_lt 2147483647 v.0) (formula_has too_large v.1) (small v.0 fine.0) (datum_small v.1 fine.1)
+
+part_small : (p : PresetPart) → IsReadablePart p → preset_has too_large p ≡ false
+part_small p fine =
+    either (list_any (formula_has too_large) p.places) (list_any (value_has too_large) p.values) (each_small (formula_has too_large) IsReadablePlace place_small p.places fine.0)
+    (each_small (value_has too_large) IsReadableValue value_small p.values fine.1)
+
 -- ---- the tokens of a format ----
 
 abbrev HasSmall : List Token → Type 0
@@ -202,6 +243,9 @@ act_small a (loop l x first last step low name ra rb rc) =
 act_small a (format fs all) = refl
 act_small a (typed w d ds first others) = either (declared_has too_large d) (list_any (declared_has too_large) ds) (declared_small d first) (names_small ds others)
 act_small a (dimension d ds first others) = either (declared_has too_large d) (list_any (declared_has too_large) ds) (declared_small d first) (names_small ds others)
+act_small a (common areas fine) = each_small (area_has too_large) IsReadableArea area_small areas fine
+act_small a (equivalence groups fine) = each_small (list_any (formula_has too_large)) IsReadableGroup group_small groups fine
+act_small a (preset parts fine) = each_small (preset_has too_large) IsReadablePart part_small parts fine
 
 -- only a FORMAT asks its tokens
 unasked : (a : Act) → IsReadableBranch a → (k : List Token) → format_is_large a k ≡ false
@@ -225,6 +269,9 @@ tokens_small a (loop l x first last step low name ra rb rc) = refl
 tokens_small a (format fs all) = fields_small fs (t.Close ∷ []) all refl
 tokens_small a (typed w d ds first others) = refl
 tokens_small a (dimension d ds first others) = refl
+tokens_small a (common areas fine) = refl
+tokens_small a (equivalence groups fine) = refl
+tokens_small a (preset parts fine) = refl
 
 pub no_large : (a : Act) (readable : IsReadableAct a) → (act_has too_large a || format_is_large a (act_tokens a readable)) ≡ false
 no_large a readable = either (act_has too_large a) (format_is_large a (act_tokens a readable)) (act_small a readable) (tokens_small a readable)

@@ -1,13 +1,12 @@
 -- A sound unit fits its cards: its header and statements can be read back, their names are short, their labels and characters are
 -- those of cards.
-use Rattle.std.proofs.Common.{◌≡◌, ℕ, zero, suc, ◌+◌, ◌≤◌, Bool, true, false, cond, List, [], ◌∷◌, length, Option, Some, None, refl, subst, arith}
+use Rattle.std.proofs.Common.{◌≡◌, ℕ, zero, suc, ◌≤◌, Bool, true, false, cond, List, [], ◌∷◌, length, Option, Some, None, refl, subst, arith}
 use Rattle.std.specs.Prelude.{nat_lt, not, ◌==◌, ◌&&◌, ◌||◌, unwrap_or}
 use Rattle.std.specs.List.{list_all, list_any, slice_get, AllByRecursion}
-use Rattle.std.specs.Option.{option_map}
 use Rattle.std.proofs.lemmas.Bool.{eqb-true, ltb-false, and_parts}
 use Rattle.rule_table.specs.declared.rule.Rule.{Rule}
 use Rattle.rule_table.specs.declared.rule.Rule.TheVariants.{Syntax, BadLabel, NameTooLong, BadFormat}
-use Rattle.rule_table.specs.Words.{first_place, is_some_and, is_below}
+use Rattle.rule_table.specs.Words.{is_some_and, is_below}
 use Rattle.f66_tree.specs.Syntax.{Text, Header, MainUnit, SubUnit, FuncUnit, DataUnit, Act, Loop, Line, Routine}
 use Rattle.f66_tree.specs.Execution.{has_label}
 use Rattle.f66_tree.specs.Units.{Context}
@@ -29,9 +28,10 @@ use Rattle.deck.specs.ReadableStatements.{IsLabelInRange, IsReadableAct}
 use Rattle.deck.specs.Written.{label_if}
 use Rattle.deck_laws.specs.Fitting.{IsShallow, IsFittingLine, IsPrintableLine, IsFittingUnit, IsPrintableUnit, FitsDeck}
 use Rattle.deck_laws.specs.Headers.{IsShortName, IsReadableHeader}
-use Rattle.deck_laws.specs.Whole.{IsWhole, IsShallowUnit, IsSoundDeck, is_read_back}
+use Rattle.deck_laws.specs.Whole.{IsWhole, IsShallowUnit, IsSoundDeck}
 use Rattle.deck_laws.proofs.PrintedTexts.{act_printable}
-use Rattle.deck_laws.proofs.SoundForms.{HasLabels, EndsInRange, name_same, act_readable}
+use Rattle.deck_laws.proofs.SoundExpressions.{name_same}
+use Rattle.deck_laws.proofs.SoundForms.{HasLabels, EndsInRange, act_readable}
 use Rattle.deck_laws.proofs.SoundNames.{names_are_short}
 
 parts : (a b : Bool) → (a || b) ≡ false → (a ≡ false) × (b ≡ false)
@@ -140,24 +140,24 @@ small_label : (o : Option ℕ) → FitsLabel o → unwrap_or o 0 ≤ 99999
 small_label None fits = omega arith
 small_label (Some l) fits = fits.1
 
-line_readable : (all : List Line) (s : Line) → HaveLabels all → IsHeld all s → is_read_back s.act ≡ true → IsWhole s.act → IsReadableAct s.act
-line_readable all s fits held back whole = act_readable s.act back held.formed held.fit whole (labels_low all s.act fits held.leads) (ends_low all s.act fits held.ends)
+line_readable : (all : List Line) (s : Line) → HaveLabels all → IsHeld all s → IsWhole s.act → IsReadableAct s.act
+line_readable all s fits held whole = act_readable s.act held.formed held.fit whole (labels_low all s.act fits held.leads) (ends_low all s.act fits held.ends)
 
-lines_fit : (all lines : List Line) → HaveLabels all → AllByRecursion (IsHeld all) lines → AllByRecursion (λ (s : Line). is_read_back s.act ≡ true) lines → AllByRecursion (λ (s : Line). IsWhole s.act) lines → AllByRecursion (λ (s : Line). IsShallow s.act) lines → AllByRecursion IsFittingLine lines
-lines_fit all [] fits held back whole shallow = tt
-lines_fit all (s ∷ lines) fits held back whole shallow = (
+lines_fit : (all lines : List Line) → HaveLabels all → AllByRecursion (IsHeld all) lines → AllByRecursion (λ (s : Line). IsWhole s.act) lines → AllByRecursion (λ (s : Line). IsShallow s.act) lines → AllByRecursion IsFittingLine lines
+lines_fit all [] fits held whole shallow = tt
+lines_fit all (s ∷ lines) fits held whole shallow = (
   record {
-    readable = record { act = line_readable all s fits held.0 back.0 whole.0; label = read_label s.label held.0.label };
-    names = names_are_short s.act back.0 held.0.formed held.0.short;
+    readable = record { act = line_readable all s fits held.0 whole.0; label = read_label s.label held.0.label };
+    names = names_are_short s.act held.0.formed held.0.short;
     shallow = shallow.0;
   },
-  lines_fit all lines fits held.1 back.1 whole.1 shallow.1,
+  lines_fit all lines fits held.1 whole.1 shallow.1,
 )
 
-lines_printable : (all lines : List Line) → HaveLabels all → AllByRecursion (IsHeld all) lines → AllByRecursion (λ (s : Line). is_read_back s.act ≡ true) lines → AllByRecursion (λ (s : Line). IsWhole s.act) lines → AllByRecursion IsPrintableLine lines
-lines_printable all [] fits held back whole = tt
-lines_printable all (s ∷ lines) fits held back whole =
-    (record { label = small_label s.label held.0.label; text = act_printable s.act (line_readable all s fits held.0 back.0 whole.0) held.0.formed }, lines_printable all lines fits held.1 back.1 whole.1)
+lines_printable : (all lines : List Line) → HaveLabels all → AllByRecursion (IsHeld all) lines → AllByRecursion (λ (s : Line). IsWhole s.act) lines → AllByRecursion IsPrintableLine lines
+lines_printable all [] fits held whole = tt
+lines_printable all (s ∷ lines) fits held whole =
+    (record { label = small_label s.label held.0.label; text = act_printable s.act (line_readable all s fits held.0 whole.0) held.0.formed }, lines_printable all lines fits held.1 whole.1)
 
 -- ---- headers ----
 
@@ -185,12 +185,12 @@ sound_header unit sound =
 unit_fits : (unit : Routine) → IsShallowUnit unit → IsFittingUnit unit
 unit_fits unit is =
     let held = all_held unit is.sound in
-    record { header = sound_header unit is.sound; lines = lines_fit unit.lines unit.lines (labels_of unit.lines unit.lines held) held is.back is.whole is.shallow }
+    record { header = sound_header unit is.sound; lines = lines_fit unit.lines unit.lines (labels_of unit.lines unit.lines held) held is.whole is.shallow }
 
 unit_printable : (unit : Routine) → IsShallowUnit unit → IsPrintableUnit unit
 unit_printable unit is =
     let held = all_held unit is.sound in
-    lines_printable unit.lines unit.lines (labels_of unit.lines unit.lines held) held is.back is.whole
+    lines_printable unit.lines unit.lines (labels_of unit.lines unit.lines held) held is.whole
 
 units_fit : (units : List Routine) → AllByRecursion IsShallowUnit units → AllByRecursion IsFittingUnit units
 units_fit [] all = tt

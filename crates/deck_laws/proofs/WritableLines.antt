@@ -15,7 +15,7 @@ use Rattle.stmt_reader.specs.Faults.{too_long, formula_has, formulas_have}
 use Rattle.stmt_reader.specs.Taking.{place_if}
 use Rattle.deck.specs.LongTexts.{or_else, limit_nine, fault_of_line, fault_of_header, first_fault, fault_of_unit, fault_of_deck}
 use Rattle.deck.specs.Readable.{are_some_readable}
-use Rattle.deck.specs.ReadableStatements.{IsReadable, IsReadableBranch, assignment, jump, computed, sign, bare_call, call, read, write, continuation, stop, stop_number, return, IsReadableAct, branch, conditional, loop, format, typed, dimension}
+use Rattle.deck.specs.ReadableStatements.{IsReadable, IsReadableBranch, assignment, jump, computed, sign, bare_call, call, read, write, continuation, stop, stop_number, return, IsReadableAct, branch, conditional, loop, format, typed, dimension, common, equivalence, preset}
 use Rattle.deck.specs.Written.{breaks, first_piece, Written, IsWritable, written_header, written_line, written_unit}
 use Rattle.deck.proofs.LexingLemmas.{is_alnum}
 use Rattle.deck_laws.specs.Headers.{HasHeader, IsReadableHeader}
@@ -29,7 +29,7 @@ breaks_bound left [] = inl refl
 breaks_bound (suc left) (c ∷ text) = elim (breaks_bound left text) [ inl none ↦ inl none | inr few ↦ inr (omega (arith, few)) ]
 breaks_bound zero (c ∷ text) = elim (breaks_bound 65 text) [ inl none ↦ inr (omega (arith, none)) | inr few ↦ inr (omega (arith, few)) ]
 
-breaks_few : (text : List ℕ) → length text ≤ 1320 → breaks 66 text ≤ 19
+pub breaks_few : (text : List ℕ) → length text ≤ 1320 → breaks 66 text ≤ 19
 breaks_few text short = elim (breaks_bound 66 text) [ inl none ↦ omega (arith, none) | inr few ↦ omega (arith, few, short) ]
 
 -- ---- the first card ----
@@ -94,6 +94,12 @@ other_letter c text not_blank not_e = record {
   no_end = ap (is_spread (codes "END")) (first_of c 65 text) ∙ (rw (not_blank, not_e) refl);
 }
 
+-- EQ begins no END
+second_letter : (text : List ℕ) → IsFirst (69 ∷ 81 ∷ text)
+second_letter text =
+    let both : first_piece [] 66 (69 ∷ 81 ∷ text) ≡ 69 ∷ 81 ∷ first_piece [] 64 text = first_of 69 65 (81 ∷ text) ∙ ap (λ (y : List ℕ). 69 ∷ y) (first_of 81 64 text) in
+    record { seen = ap (list_all is_blank) both; no_end = ap (is_spread (codes "END")) both }
+
 -- a name, and what stands behind it
 name_first : (x : Text) (c : ℕ) (rest : List ℕ) → is_name x ≡ true → length x ≤ 6 → IsOther c → IsFirst (x ++ c ∷ rest)
 name_first [] c rest name short other = absurd cc
@@ -145,6 +151,9 @@ act_first a (typed Integer d ds first others) short = other_letter 73 _ refl ref
 act_first a (typed Logical d ds first others) short = other_letter 76 _ refl refl
 act_first a (typed Other d ds first others) short = other_letter 82 _ refl refl
 act_first a (dimension d ds first others) short = other_letter 68 _ refl refl
+act_first a (common areas fine) short = other_letter 67 _ refl refl
+act_first a (equivalence groups fine) short = second_letter _
+act_first a (preset parts fine) short = other_letter 68 _ refl refl
 
 line_writable : (line : Line) → IsFittingLine line → IsPrintableLine line → length (statement_text line.act) ≤ 1320 → IsWritable (written_line line)
 line_writable line fits printable short =
@@ -159,11 +168,11 @@ line_writable line fits printable short =
 
 -- ---- no text is too long ----
 
-none_both : (a b : Option Fault) → or_else a b ≡ None → (a ≡ None) × (b ≡ None)
+pub none_both : (a b : Option Fault) → or_else a b ≡ None → (a ≡ None) × (b ≡ None)
 none_both (Some f) b is = absurd cc
 none_both None b is = (refl, is)
 
-fits_by : (place : Place) (n : ℕ) (long : Bool) → nat_lt 1320 n ≡ long → cond long (limit_nine place) None ≡ None → n ≤ 1320
+pub fits_by : (place : Place) (n : ℕ) (long : Bool) → nat_lt 1320 n ≡ long → cond long (limit_nine place) None ≡ None → n ≤ 1320
 fits_by place n true is none = absurd cc
 fits_by place n false is none = ltb-false 1320 n is
 

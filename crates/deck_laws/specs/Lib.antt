@@ -4,3 +4,4 @@ pub mod Headers
 pub mod Fitting
 pub mod Places
 pub mod Whole
+pub mod Small

@@ -1,11 +1,10 @@
 -- Decks of sound units. Beside soundness they ask what the trees of statements keep and no rule says: in a format only I, L, A and
--- groups have counts, and A has a width of one; and a computed GO TO has a label. COMMON, EQUIVALENCE and DATA are not among their
--- statements yet.
-use Rattle.std.specs.Prelude.{◌≡◌, ℕ, ◌<◌, ◌≤◌, Bool, true, false, List, length, map, None}
+-- groups have counts, and A has a width of one; and a computed GO TO has a label.
+use Rattle.std.specs.Prelude.{◌≡◌, ℕ, ◌<◌, ◌≤◌, List, length, map, None}
 use Rattle.std.specs.List.{AllByRecursion}
 use Rattle.f66_tree.specs.declared.editing.EditKind.TheVariants as edits
 use Rattle.f66_tree.specs.Fields.{Step, Takes, Blanks, Chars, Slash, Fields, NoField, Single, Group}
-use Rattle.f66_tree.specs.Syntax.{Act, Computed, When, Format, Common, Equivalence, Preset, Line, Routine}
+use Rattle.f66_tree.specs.Syntax.{Act, Computed, When, Format, Line, Routine}
 use Rattle.f66_check.specs.Answers.{IsSoundUnit}
 use Rattle.deck.specs.Decks.{deck_of}
 use Rattle.deck.specs.LongTexts.{fault_of_deck}
@@ -31,18 +30,9 @@ IsWhole (When e a) = IsWhole a
 IsWhole (Format fs) = AreWholeFields fs
 IsWhole _ = Unit {0}
 
--- neither COMMON, EQUIVALENCE nor DATA
-abbrev pub is_read_back : Act → Bool
-is_read_back (Common areas) = false
-is_read_back (Equivalence groups) = false
-is_read_back (Preset parts) = false
-is_read_back (When e a) = is_read_back a
-is_read_back _ = true
-
--- a sound unit of such statements, which have no more than 110 open parentheses each
+-- a sound unit whose statements have no more than 110 open parentheses each
 pub record IsShallowUnit (unit : Routine) : Type 0 where
   pub sound : IsSoundUnit unit
-  pub back : AllByRecursion (λ (line : Line). is_read_back line.act ≡ true) unit.lines
   pub whole : AllByRecursion (λ (line : Line). IsWhole line.act) unit.lines
   pub shallow : AllByRecursion (λ (line : Line). IsShallow line.act) unit.lines
 

@@ -1,5 +1,5 @@
 // The laws of reading printed decks. The functions do nothing: their contracts are the laws.
-ghost use Rattle.std.specs.Prelude.{◌≡◌, ℕ, Bool, false, List, map, None, Ok, Some};
+ghost use Rattle.std.specs.Prelude.{◌≡◌, ◌≤◌, ◌+◌, ◌*◌, ℕ, Bool, false, List, length, map, None, Ok, Some};
 ghost use Rattle.std.specs.List.{AllByRecursion};
 ghost use Rattle.ground.specs.declared.fault.Refusal.{Refusal};
 ghost use Rattle.ground.specs.declared.fault.Refusal.TheVariants.{Memory};
@@ -15,11 +15,12 @@ ghost use Rattle.stmt_reader.specs.Lexing.{tokens_of};
 ghost use Rattle.deck.specs.Decks.{deck_of};
 ghost use Rattle.deck.specs.LongTexts.{fault_of_deck};
 ghost use Rattle.deck.specs.ReadableStatements.{IsReadableAct};
-ghost use Rattle.deck.specs.Written.{filled};
+ghost use Rattle.deck.specs.Written.{filled, statements_of, written_unit};
 ghost use Rattle.deck_reader.specs.Answers.{IsDeckRefusal, deck_units};
 ghost use Rattle.deck_laws.specs.Fitting.{FitsDeck, HasShortNames, IsShallow};
 ghost use Rattle.deck_laws.specs.Headers.{HasHeader, IsReadableHeader};
 ghost use Rattle.deck_laws.specs.Places.{units_at, unplaced};
+ghost use Rattle.deck_laws.specs.Small.{IsSmallDeck};
 ghost use Rattle.deck_laws.specs.Whole.{AreWholeFields, IsSoundDeck};
 
 /// The text of a statement with names of six characters at most is no header (X3.9-1966, sections 7 and 8), nor is the line that a
@@ -69,6 +70,13 @@ pub fn soundness_asks_no_places()
 /// rules of soundness give short names, labels of five digits, numbers in range and the characters of cards.
 pub fn sound_decks_fit()
     ensures { (units : List Routine) → IsSoundDeck units → FitsDeck units }
+{}
+
+/// A text that passes no twenty cards takes 1,460 bytes at most, and an END line ten. So sound units with no more than 90,000 headers
+/// and statements pass no limit on the bytes of a deck.
+pub fn small_decks_pass_no_limit()
+    ensures bytes { (units : List Routine) → fault_of_deck units ≡ None → length (deck_of units) ≤ 1460 * statements_of (map written_unit units) + 10 * length units }
+    ensures sound { (units : List Routine) → IsSmallDeck units → IsSoundDeck units }
 {}
 
 /// So the printed deck of sound units is read as these units, the same but for places, and is refused for want of memory alone.

@@ -7,6 +7,6 @@ mod laws;
 pub use again::print_and_read;
 pub use laws::{
     decks_are_given_again, fitting_texts_pass, formats_are_whole, headers_are_answered,
-    sound_decks_are_accepted, sound_decks_fit, soundness_asks_no_places, statements_are_answered,
-    statements_are_no_headers,
+    small_decks_pass_no_limit, sound_decks_are_accepted, sound_decks_fit, soundness_asks_no_places,
+    statements_are_answered, statements_are_no_headers,
 };

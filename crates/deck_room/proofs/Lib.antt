@@ -1,0 +1,2 @@
+-- The lemmas of deck_room.
+mod PrintedDecks

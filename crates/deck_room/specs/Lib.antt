@@ -1,0 +1,2 @@
+-- The definitions that the contracts of deck_room cite.
+pub mod Printed

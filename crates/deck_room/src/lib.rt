@@ -1,0 +1,6 @@
+//! What is printed of a Ratfor text within its limits passes no limit of a deck.
+#![tactic(auto)]
+
+mod laws;
+
+pub use laws::cards_pass_no_limit;
