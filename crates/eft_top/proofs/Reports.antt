@@ -3,10 +3,9 @@ use Rattle.std.proofs.Common.{◌≡◌, ◌∙◌, ◌&&◌, if◌then◌else�
 use Rattle.std.specs.Prelude.{Result, Ok, Err, IfOk}
 use Rattle.f66_tree.specs.Views.{lines_of, routine_of}
 use Rattle.f66_tree.specs.OneUnit.{executed}
-use Rattle.front.specs.Checked.{Meaning}
-use Rattle.front.specs.Programs.{IsProgramOf}
-use Rattle.front.specs.Verdict.{Refuses, Accepts, Becomes}
-use Rattle.front.specs.Compiled.{IsCompiled}
+use Rattle.front.specs.Checked.{Purpose, Meaning}
+use Rattle.front.specs.Verdict.{Verdict, Refuses, Accepts, Becomes}
+use Rattle.front.specs.Compiled.{RunsAs, IsAnswer}
 use Rattle.front.specs.declared.compile.Compiled.{Compiled}
 use Rattle.deck_file.specs.Answers.{IsDeckIn}
 use Rattle.f66_tree.specs.declared.unit.Unit.{Unit as AUnit}
@@ -46,14 +45,14 @@ module _ (report : Report) (compiled : Compiled) (limit : ℕ) (got : Got) (P : 
   told_of holds reports = told_by holds (is_too_long got) reports
 
 -- the run of a compiled text is that of a program of its meaning
-is_run : (compiled : Compiled) (meaning : Meaning) (limit : ℕ) (input : List Record) → IsProgramOf meaning (routine_of compiled.unit ∷ []) → (shown : Shown) → shown ≡ executed (lines_of compiled.unit.statements.items) input limit → IsRun meaning limit input shown
-is_run compiled meaning limit input program shown is = record { units = routine_of compiled.unit ∷ []; program = program; is = is ∙ sym (ap (λ (run : Meaning). run input limit) program.linked.1) }
+is_run : (compiled : Compiled) (meaning : Meaning) (limit : ℕ) (input : List Record) → RunsAs meaning compiled.unit → (shown : Shown) → shown ≡ executed (lines_of compiled.unit.statements.items) input limit → IsRun meaning limit input shown
+is_run compiled meaning limit input runs shown is = record { units = routine_of compiled.unit ∷ []; program = runs.program; is = is ∙ sym (ap (λ (run : Meaning). run input limit) runs.run) }
 
 -- so a compiled text comes to its run, and a deck
-pub ran_text : (report : Report) (compiled : Compiled) (meaning : Meaning) (limit : ℕ) (given : Got → Type 0) → IsProgramOf meaning (routine_of compiled.unit ∷ []) → (got : Got) × given got × ReportsOn report compiled limit got
+pub ran_text : (report : Report) (compiled : Compiled) (meaning : Meaning) (limit : ℕ) (given : Got → Type 0) → RunsAs meaning compiled.unit → (got : Got) × given got × ReportsOn report compiled limit got
     → (o : Outcome) × ComesOf (Accepts compiled.files.items meaning) limit given o × IsReport report o
-ran_text report compiled meaning limit given program ran =
-    let told = told_of report compiled limit ran.0 (IsRun meaning limit (records_of ran.0)) (is_run compiled meaning limit (records_of ran.0) program) ran.2 in
+ran_text report compiled meaning limit given runs ran =
+    let told = told_of report compiled limit ran.0 (IsRun meaning limit (records_of ran.0)) (is_run compiled meaning limit (records_of ran.0) runs) ran.2 in
     (told.0, (ran.0, ran.1, told.1), told.2)
 
 pub ran_deck : (report : Report) (compiled : Compiled) (file : List ℕ) (limit : ℕ) (given : Got → Type 0) → compiled.files.items ≡ file ∷ [] → (got : Got) × given got × ReportsOn report compiled limit got
@@ -84,12 +83,12 @@ needs_input failed Lost s e none = let f : Some s ≡ None = e in cc
 -- ---- a refusal ----
 
 -- a command that comes to a text's fault where the text has one
-pub refused_came : (command : Command) (d : Dialect) (file : List ℕ) (files : Option (List ℕ → Option (List ℕ))) (before now : ℕ) (given : Got → Type 0) (refusal : TextRefusal) (report : Report) →
-    ((fault : Fault) (name : List ℕ) (known : Known) → Becomes d file known (Refuses fault name) → IsOutcomeOf command known given (HasFault fault name)) →
-    IsCompiled files d file (Err refusal) → HasCause {B = Compiled} before now (Err refusal) → ReportsRefusal refusal report → CameOf command files before now given report
-refused_came command d file files before now given (refusals.Fault fault name) report comes text cause shows = Shows (HasFault fault name) (text.known, text.of, comes fault name text.known text.gives) cause shows
-refused_came command d file files before now given refusals.Library report comes text cause shows = NotFetched cause shows
-refused_came command d file files before now given refusals.Memory report comes text cause shows = absurd shows
+pub refused_came : {A : Type 0} (Has : (Verdict → Type 0) → A → Type 0) (purpose : Purpose) (command : Command) (d : Dialect) (file : List ℕ) (files : Option (List ℕ → Option (List ℕ))) (before now : ℕ) (given : Got → Type 0) (refusal : TextRefusal) (report : Report) →
+    ((fault : Fault) (name : List ℕ) (known : Known) → Becomes purpose d file known (Refuses fault name) → IsOutcomeOf command known given (HasFault fault name)) →
+    IsAnswer Has purpose files d file (Err refusal) → HasCause {B = A} before now (Err refusal) → ReportsRefusal refusal report → CameOf command files before now given report
+refused_came Has purpose command d file files before now given (refusals.Fault fault name) report comes text cause shows = Shows (HasFault fault name) (text.known, text.of, comes fault name text.known text.gives) cause shows
+refused_came Has purpose command d file files before now given refusals.Library report comes text cause shows = NotFetched cause shows
+refused_came Has purpose command d file files before now given refusals.Memory report comes text cause shows = absurd shows
 
 -- the same of a deck
 pub refused_deck : (limit : ℕ) (file : List ℕ) (files : Option (List ℕ → Option (List ℕ))) (before now : ℕ) (given : Got → Type 0) (refusal : TextRefusal) (report : Report) →

@@ -7,7 +7,8 @@ use Rattle.ground.specs.declared.fault.Fault.{Fault}
 use Rattle.f66_tree.specs.World.{Shown, End, Ended, GoesOn, Lost, Done, Stopped, Trapped, Wrong}
 use Rattle.macro_define.specs.Answers.{Known, Holds, answer}
 use Rattle.front.specs.Verdict.{Verdict, Refuses, Accepts}
-use Rattle.front.proofs.OneVerdict.{one_verdict}
+use Rattle.front.specs.Checked.{ToPrint, ToRun}
+use Rattle.front.specs.Laws.{OneVerdict}
 use Rattle.deck_file.specs.Loaded.{Loaded}
 use Rattle.deck_file.proofs.OneLoaded.{both_refused}
 use Rattle.eft_top.specs.declared.status.Status.{Status}
@@ -78,25 +79,25 @@ faulty_deck : (file : List ℕ) (loaded : Loaded) (limit : ℕ) (given : Got →
 faulty_deck file (Err fault) limit given o h e = (fault, refl)
 faulty_deck file (Ok lines) limit given o h e = absurd (no_run_over_is_faulty (file ∷ []) _ limit h.0 o (is_too_long h.0) h.2 e)
 
-faulty_too : (command : Command) (known : Known) (given : Got → Type 0) (one other : Outcome) → IsOutcomeOf command known given one → IsOutcomeOf command known given other → status_of other ≡ Some SourceFault → status_of one ≡ Some SourceFault
-faulty_too (Run limit language file) known given one other h k e =
-    let same : k.0 ≡ h.0 = one_verdict language file known k.0 h.0 k.1 h.1 in
+faulty_too : OneVerdict → (command : Command) (known : Known) (given : Got → Type 0) (one other : Outcome) → IsOutcomeOf command known given one → IsOutcomeOf command known given other → status_of other ≡ Some SourceFault → status_of one ≡ Some SourceFault
+faulty_too verdicts (Run limit language file) known given one other h k e =
+    let same : k.0 ≡ h.0 = verdicts ToRun language file known k.0 h.0 k.1 h.1 in
     faulty_of h.0 limit given one other h.2 (subst (λ v. ComesOf v limit given other) same k.2) e
-faulty_too (Cards language file) known given one other h k e =
-    let same : k.0 ≡ h.0 = one_verdict language file known k.0 h.0 k.1 h.1 in
+faulty_too verdicts (Cards language file) known given one other h k e =
+    let same : k.0 ≡ h.0 = verdicts ToPrint language file known k.0 h.0 k.1 h.1 in
     faulty_print h.0 one other h.2 (subst (λ v. IsPrinted v other) same k.2) e
-faulty_too (Deck limit file) known given one other h k e =
+faulty_too verdicts (Deck limit file) known given one other h k e =
     let refused = faulty_deck file k.0 limit given other k.2 e in
     let too = both_refused (answer known file) k.0 h.0 refused.0 k.1 refused.1 h.1 in
     ap status_of (subst (λ l. DeckComesOf file l limit given one) too.1 h.2)
 
-compelled : (command : Command) (known : Known) (given : Got → Type 0) (o : Outcome) → IsOutcomeOf command known given o → (status : Status) → Compels (IsOutcomeOf command known given) status → status_of o ≡ Some status
-compelled command known given o told SourceFault may = faulty_too command known given o may.0 told may.1 may.2
-compelled command known given o told status must = must o told
+compelled : OneVerdict → (command : Command) (known : Known) (given : Got → Type 0) (o : Outcome) → IsOutcomeOf command known given o → (status : Status) → Compels (IsOutcomeOf command known given) status → status_of o ≡ Some status
+compelled verdicts command known given o told SourceFault may = faulty_too verdicts command known given o may.0 told may.1 may.2
+compelled verdicts command known given o told status must = must o told
 
 -- ---- what a call answers ----
 
-module _ (asks : Command → Type 0) (alone : (a b : Command) → asks a → asks b → a ≡ b) (files : Option (List ℕ → Option (List ℕ))) (before now : ℕ) (given : Got → Type 0) (report : Report) (result : Status) (put : (result ≡ report.status) ⊎ (result ≡ OutputFault)) where
+module _ (verdicts : OneVerdict) (asks : Command → Type 0) (alone : (a b : Command) → asks a → asks b → a ≡ b) (files : Option (List ℕ → Option (List ℕ))) (before now : ℕ) (given : Got → Type 0) (report : Report) (result : Status) (put : (result ≡ report.status) ⊎ (result ≡ OutputFault)) where
   -- a status that is none of a text, before its puts and after them
   no_text : (some : Status) → report.status ≡ some → (IsOfText some → ⊥) → IsOfText result → ⊥
   no_text some is other text = elim put [
@@ -135,7 +136,7 @@ module _ (asks : Command → Type 0) (alone : (a b : Command) → asks a → ask
         ],
       );
       wherever = λ q. elim put [
-        | inl same ↦ inl (same ∙ some_injective (shows.status ∙ compelled command (Holds held) given o is status q))
+        | inl same ↦ inl (same ∙ some_injective (shows.status ∙ compelled verdicts command (Holds held) given o is status q))
         | inr failed ↦ inr (inr (inl failed))
       ];
     }

@@ -7,7 +7,7 @@ use Rattle.f66_tree.specs.World.{Record, Shown, IsPrefix, Finish, Ended, GoesOn}
 use Rattle.f66_tree.specs.Agreement.{Same}
 use Rattle.macro_define.specs.Answers.{Holds}
 use Rattle.ground.specs.declared.token.Dialect.{Dialect}
-use Rattle.front.specs.Checked.{Meaning}
+use Rattle.front.specs.Checked.{ToRun, Meaning}
 use Rattle.front.specs.Verdict.{Accepts, Becomes}
 use Rattle.eft_top.specs.declared.status.Status.{Status}
 use Rattle.eft_top.specs.declared.status.Status.TheVariants.{LibraryFault, OutputFault, StepLimit, Memory, InputTooLong}
@@ -17,10 +17,10 @@ use Rattle.eft_top.specs.Outcome.{end_status, end_line}
 use Rattle.eft_top.specs.Causes.{IsOneOf, IsOfText, AnswersCall}
 
 -- The words ask for a run of at most so many steps of the text in a file; the library tells that text, with its includes, and it is
--- accepted with this meaning and these names of files; and this was the answer to the call.
+-- accepted to run with this meaning and these names of files; and this was the answer to the call.
 pub record IsRunOf (words : List (List ℕ)) (limit : ℕ) (language : Dialect) (file : List ℕ) (held : List ℕ → Option (List ℕ)) (files : List (List ℕ)) (meaning : Meaning) (given : Got → Type 0) (result : Status) (out diag : List ℕ → Type 0) : Type 0 where
   pub asks : AskFor words (Run limit language file)
-  pub accepted : Becomes language file (Holds held) (Accepts files meaning)
+  pub accepted : Becomes ToRun language file (Holds held) (Accepts files meaning)
   pub answer : AnswersCall (AskFor words) (Some held) given result out diag
 
 -- the status is that of the end, out got the records, and diag the line of the end

@@ -10,7 +10,7 @@ use Rattle.f66_tree.specs.World.{Record, Shown, End, Ended, GoesOn, Lost, Done, 
 use Rattle.f66_tree.specs.Syntax.{Line, Routine}
 use Rattle.f66_tree.specs.OneUnit.{executed}
 use Rattle.macro_define.specs.Answers.{Known, IsOf, answer}
-use Rattle.front.specs.Checked.{Meaning}
+use Rattle.front.specs.Checked.{ToPrint, ToRun, Meaning}
 use Rattle.deck.specs.Decks.{deck_of}
 use Rattle.front.specs.Verdict.{Verdict, Refuses, Accepts, Becomes, file_name}
 use Rattle.front.specs.Programs.{IsProgramOf}
@@ -38,8 +38,8 @@ pub record IsRun (meaning : Meaning) (limit : ℕ) (input : List Record) (shown 
   pub program : IsProgramOf meaning units
   pub is : shown ≡ program.run input limit
 
--- A deck of a text is the cards of a program of its meaning: of sound FORTRAN that agrees with the meaning, and each of whose
--- statements fits its cards.
+-- A deck of a text is the cards of a program of its meaning: of units of sound FORTRAN that are linked and agree with the meaning, and
+-- each of whose headers and statements fits its cards.
 pub record IsDeck (meaning : Meaning) (deck : List ℕ) : Type 0 where
   pub units : List Routine
   pub program : IsProgramOf meaning units
@@ -75,8 +75,8 @@ DeckComesOf file (Ok lines) limit given outcome = RunsOver (file ∷ []) (IsDeck
 
 -- what may come of a command, by what is known of the library and what reads may have given
 abbrev pub IsOutcomeOf : Command → Known → (Got → Type 0) → Outcome → Type 0
-IsOutcomeOf (Run limit language file) known given outcome = (verdict : Verdict) × Becomes language file known verdict × ComesOf verdict limit given outcome
-IsOutcomeOf (Cards language file) known given outcome = (verdict : Verdict) × Becomes language file known verdict × IsPrinted verdict outcome
+IsOutcomeOf (Run limit language file) known given outcome = (verdict : Verdict) × Becomes ToRun language file known verdict × ComesOf verdict limit given outcome
+IsOutcomeOf (Cards language file) known given outcome = (verdict : Verdict) × Becomes ToPrint language file known verdict × IsPrinted verdict outcome
 IsOutcomeOf (Deck limit file) known given outcome = (loaded : Loaded) × IsLoaded (answer known file) loaded × DeckComesOf file loaded limit given outcome
 
 -- the same by what the library tells, or, where it tells nothing, by some texts that fetches may have given

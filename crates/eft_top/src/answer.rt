@@ -1,8 +1,9 @@
 // What a call has to show: the words are read, the text is compiled or the deck is read, and the text's deck is written, or the input
 // is read and the unit is walked over it.
-ghost use Rattle.std.specs.Prelude.{◌≡◌, ℕ, List, [], ◌∷◌, false, IfOk};
+ghost use Rattle.std.specs.Prelude.{◌≡◌, ℕ, List, [], ◌∷◌, false, map, All, IfOk};
 ghost use Rattle.ground.specs.declared.token.Dialect.{Dialect};
 ghost use Rattle.f66_tree.specs.Views.{routine_of};
+ghost use Rattle.f66_check.specs.Answers.{IsSoundUnit};
 ghost use Rattle.stmt_text.specs.Fitting.{IsPrintable};
 ghost use Rattle.deck.specs.Decks.{deck_of};
 ghost use Rattle.eft_top.specs.Words.{AskFor, texts, Run, Cards, Deck};
@@ -17,9 +18,10 @@ use crate::Status;
 use crate::input::{Got, read_input};
 use crate::report::Report;
 use crate::words::{Asked, read_words};
-use deck::push_unit;
+use deck::write_deck;
 use deck_file::load_deck;
-use front::{Compiled, TextRefusal, compile_text};
+use f66_tree::Unit;
+use front::{Compiled, TextRefusal, compile_text, translate_text};
 use ground::{Dialect, List, Memory, Refusal, Text};
 use ports::{Library, Source};
 use std::alloc::{AllocError, Global};
@@ -122,7 +124,7 @@ fn only_file(alloc: Global, file: &str) -> Result<List<Text>, AllocError>
     Ok(files)
 }
 
-/// Compiles the text in a file, and writes its deck.
+/// Translates the text in a file, and writes its deck.
 fn print_file<L: Library>(
     alloc: Global,
     language: Dialect,
@@ -132,18 +134,19 @@ fn print_file<L: Library>(
     ensures becomes { L.becomes library.old library.new }
     ensures came { IfOk result (CameOf (Cards language file.now) (L.files library.old) (L.faults library.old) (L.faults library.new) is_unread) }
 {
-    match compile_text(alloc, language, file, library) {
-        Ok(compiled) => print_unit(alloc, &compiled),
+    match translate_text(alloc, language, file, library) {
+        Ok(translated) => print_units(alloc, &translated.units),
         Err(refusal) => refused(alloc, refusal),
     }
 }
 
-fn print_unit(alloc: Global, compiled: &Compiled) -> Result<Report, Memory>
-    requires printable { IsPrintable (routine_of compiled.now.unit) }
-    ensures { IfOk result (λ report. IsReport report (HasDeck (deck_of (routine_of compiled.now.unit ∷ [])))) }
+fn print_units(alloc: Global, units: &[Unit]) -> Result<Report, Memory>
+    requires sound { All IsSoundUnit (map routine_of units.now) }
+    requires printable { All IsPrintable (map routine_of units.now) }
+    ensures { IfOk result (λ report. IsReport report (HasDeck (deck_of (map routine_of units.now)))) }
 {
     let mut deck = Vec::new(alloc);
-    match push_unit(compiled.unit.unit(), &mut deck) {
+    match write_deck(units, &mut deck) {
         Ok(()) => Ok(Report::of_deck(deck)),
         Err(Refusal::Memory) => Err(Memory),
         Err(Refusal::Fault(_)) => unreachable!(),

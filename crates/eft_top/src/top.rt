@@ -13,6 +13,7 @@ ghost use Rattle.eft_top.specs.Input.{HasGiven, HasRead};
 use crate::Status;
 use crate::answer::answer_to;
 use crate::deliver::deliver;
+use front::one_verdict;
 use ports::{Failed, Library, Sink, Source};
 use std::alloc::Global;
 
@@ -53,6 +54,8 @@ pub fn eft<L: Library, S: Source, K: Sink, D: Sink>(
     ensures unread { NeedsNoInput result → input.new ≡ input.old }
     ensures unasked { (language : Dialect) (file : List ℕ) → AskFor (texts words.now.items) (Cards language file) → input.new ≡ input.old }
 {
+    // What a text comes to does not depend on how it is read.
+    one_verdict();
     let report = answer_to(alloc, words, library, input);
     match deliver(report.out.as_bytes(), report.line.as_bytes(), out, diag) {
         Ok(()) => report.status,

@@ -51,14 +51,22 @@ module _ (u : RatRoutine) where
   abbrev context : Context
   context = context_of_parts u.header (unit_parts u.body)
 
-  none_else : (o : Option Place) → or_else o None ≡ None → o ≡ None
-  none_else None f = refl
-  none_else (Some p) f = absurd (some_none p f)
+  none_parts : (o p : Option Place) → or_else o p ≡ None → (o ≡ None) × (p ≡ None)
+  none_parts None p f = (refl, f)
+  none_parts (Some q) p f = absurd (some_none q f)
 
-  main_built : (b : Bool) → is_main u.header ≡ b → or_else (if b then first_uncarried context (unit_parts u.body) else Some u.place) None ≡ None → IsBuiltMain u
+  main_built : (b : Bool) → is_main u.header ≡ b → (if b then first_uncarried context (unit_parts u.body) else Some u.place) ≡ None → (is_main u.header ≡ true) × AllBuilt context (unit_parts u.body)
   main_built false k e = absurd (some_none u.place e)
-  main_built true k e = (main_only u.header k, carried_parts context (unit_parts u.body) (none_else (first_uncarried context (unit_parts u.body)) e))
+  main_built true k e = (k, carried_parts context (unit_parts u.body) e)
+
+  -- the first unit of what is carried is a main, and the others are carried
+  pub carried_first : (us : List RatRoutine) → uncarried (u ∷ us) ≡ None → (is_main u.header ≡ true) × (uncarried us ≡ None)
+  carried_first us e =
+      let parts = none_parts (uncarried_in u) (uncarried us) e in
+      ((main_built (is_main u.header) refl parts.0).0, parts.1)
 
   -- a program of one unit that is carried is one of a main that is built
   pub carried_main : uncarried (u ∷ []) ≡ None → IsBuiltMain u
-  carried_main e = main_built (is_main u.header) refl e
+  carried_main e =
+      let main = main_built (is_main u.header) refl (none_parts (uncarried_in u) None e).0 in
+      (main_only u.header main.0, main.1)

@@ -1,5 +1,6 @@
 -- The lemmas of front.
 pub mod FirstFaults
-pub mod OneVerdict
+mod OneVerdict
 mod Answered
 mod CarriedLemmas
+mod ProgramLemmas

@@ -3,9 +3,6 @@
 use Rattle.std.specs.Prelude.{Bool, not, ◌&&◌, List, [], ◌∷◌, Option, Some, None, if◌then◌else◌}
 use Rattle.std.specs.List.{list_all}
 use Rattle.ground.specs.declared.place.Place.{Place}
-use Rattle.ground.specs.declared.fault.Fault.{Fault}
-use Rattle.ground.specs.declared.fault.FaultKind.TheVariants.{Unbuilt}
-use Rattle.ground.specs.Faults.{fault_at}
 use Rattle.f66_tree.specs.Units.{Context, is_main}
 use Rattle.f66_names.specs.BuiltActs.{is_built}
 use Rattle.rat_tree.specs.Syntax.{RatRoutine}
@@ -30,7 +27,3 @@ uncarried_in u = if is_main u.header then first_uncarried (context_of_parts u.he
 abbrev pub uncarried : List RatRoutine → Option Place
 uncarried [] = None
 uncarried (u ∷ us) = or_else (uncarried_in u) (uncarried us)
-
-abbrev pub unbuilt_at : Option Place → Option Fault
-unbuilt_at None = None
-unbuilt_at (Some p) = Some (fault_at p Unbuilt)

@@ -11,3 +11,8 @@ Meaning = List Record → ℕ → Shown
 pub data Checked : Type 0 where
   Faulty : Fault → Checked
   Means : Meaning → Checked
+
+-- what a text is asked for: its deck, or a run
+pub data Purpose : Type 0 where
+  ToPrint : Purpose
+  ToRun : Purpose

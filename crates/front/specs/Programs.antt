@@ -1,23 +1,33 @@
 -- Which linked units of FORTRAN are the program of a meaning.
-use Rattle.std.specs.Prelude.{◌≡◌, ◌≢◌, ℕ, List, [], ◌∷◌, All}
-use Rattle.f66_tree.specs.Syntax.{Routine, MainUnit}
+use Rattle.std.specs.Prelude.{◌≡◌, ◌≢◌, ℕ, List, All}
+use Rattle.ground.specs.declared.place.Place.{Place}
+use Rattle.f66_tree.specs.Syntax.{Line, Routine}
 use Rattle.f66_tree.specs.World.{Record, Lost}
-use Rattle.f66_tree.specs.OneUnit.{executed}
+use Rattle.f66_tree.specs.Units.{Linkage}
+use Rattle.f66_tree.specs.Execution.{f66}
 use Rattle.f66_tree.specs.Agreement.{Agrees}
-use Rattle.f66_check.specs.Answers.{IsSound}
+use Rattle.f66_check.specs.Answers.{IsSoundUnit}
+use Rattle.f66_program.specs.Linking.{IsLinkage, IsWhole}
+use Rattle.linked_soundness.specs.Laws.{AreCodes}
 use Rattle.stmt_text.specs.Fitting.{IsPrintable}
 use Rattle.front.specs.Checked.{Meaning}
 
--- what linked units do over records of input, after at most so many statements; today a program is one main unit
-abbrev pub AreLinked : List Routine → Meaning → Type 0
-AreLinked (unit ∷ []) run = (unit.header ≡ MainUnit) × (run ≡ executed unit.lines)
-AreLinked _ run = ⊥
+-- Units of a text that ends somewhere are linked: they break no rule of linking, and this is what they do over records of input, after
+-- at most so many statements. It goes by some numbers of their storage units, and is the same by others.
+pub record AreLinked (units : List Routine) (run : Meaning) : Type 0 where
+  pub finish : Place
+  pub whole : IsWhole (record { units = units; finish = finish })
+  pub linkage : Linkage
+  pub links : IsLinkage units linkage
+  pub codes : ℕ → List Line
+  pub of : AreCodes units codes
+  pub is : run ≡ f66 linkage codes
 
 -- These units are sound FORTRAN and linked, and over any records of input their run agrees with the meaning: what it shows
 -- the meaning has, and within 32 times the work of the meaning it misses nothing. The meaning is never Lost, so of each
--- input something is said. Each statement fits its cards.
+-- input something is said. Each header and each statement fits its cards.
 pub record IsProgramOf (meaning : Meaning) (units : List Routine) : Type 0 where
-  pub sound : All IsSound units
+  pub sound : All IsSoundUnit units
   pub run : Meaning
   pub linked : AreLinked units run
   pub agrees : (input : List Record) → Agrees (meaning input) (run input)

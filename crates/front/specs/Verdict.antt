@@ -6,7 +6,7 @@ use Rattle.ground.specs.declared.token.Dialect.{Dialect}
 use Rattle.ground.specs.declared.token.Dialect.TheVariants.{Ratfor, Efl}
 use Rattle.macro_define.specs.Answers.{Known}
 use Rattle.macro_define.specs.Expansion.{Stop, GatherState, gathered}
-use Rattle.front.specs.Checked.{Meaning, Checked, Faulty, Means}
+use Rattle.front.specs.Checked.{Meaning, Purpose, Checked, Faulty, Means}
 use Rattle.front.specs.Ratfor.{IsRatfor}
 use Rattle.front.specs.Efl.{IsEfl}
 
@@ -16,9 +16,9 @@ pub data Verdict : Type 0 where
   Accepts : List (List ℕ) → Meaning → Verdict
 
 -- what the phases of its language find in the tokens of a text
-abbrev pub IsChecked : Dialect → List Token → Checked → Type 0
-IsChecked Ratfor ts c = IsRatfor ts c
-IsChecked Efl ts c = IsEfl ts c
+abbrev pub IsChecked : Purpose → Dialect → List Token → Checked → Type 0
+IsChecked purpose Ratfor ts c = IsRatfor purpose ts c
+IsChecked purpose Efl ts c = IsEfl ts c
 
 -- ---- gather ----
 
@@ -30,10 +30,10 @@ abbrev pub in_files : List (List ℕ) → Checked → Verdict
 in_files files (Faulty fault) = Refuses fault (file_name files fault.place.file)
 in_files files (Means meaning) = Accepts files meaning
 
-abbrev pub IsVerdictOf : Dialect → Result GatherState Stop → Verdict → Type 0
-IsVerdictOf d (Err stop) verdict = verdict ≡ Refuses stop.fault stop.file
-IsVerdictOf d (Ok w) verdict = (c : Checked) × IsChecked d w.made.tokens c × (verdict ≡ in_files w.files c)
+abbrev pub IsVerdictOf : Purpose → Dialect → Result GatherState Stop → Verdict → Type 0
+IsVerdictOf purpose d (Err stop) verdict = verdict ≡ Refuses stop.fault stop.file
+IsVerdictOf purpose d (Ok w) verdict = (c : Checked) × IsChecked purpose d w.made.tokens c × (verdict ≡ in_files w.files c)
 
--- What becomes of the text under this name, by what is known of the library. There is exactly one verdict.
-abbrev pub Becomes : Dialect → List ℕ → Known → Verdict → Type 0
-Becomes d name known verdict = IsVerdictOf d (gathered d name known) verdict
+-- What becomes of the text under this name for a purpose, by what is known of the library. There is exactly one verdict.
+abbrev pub Becomes : Purpose → Dialect → List ℕ → Known → Verdict → Type 0
+Becomes purpose d name known verdict = IsVerdictOf purpose d (gathered d name known) verdict

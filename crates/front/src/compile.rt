@@ -1,28 +1,57 @@
-// From a file to its unit.
+// From a file to its units.
 ghost use Rattle.std.specs.Prelude.{◌≡◌};
 ghost use Rattle.macro_define.specs.Gathered.{HasCause};
 ghost use Rattle.macro_define.specs.GatherAnswers.{EndsText};
+ghost use Rattle.front.specs.Checked.{ToPrint, ToRun};
 ghost use Rattle.front.specs.Verdict.{IsChecked, file_name as name_of_file};
-ghost use Rattle.front.specs.Compiled.{Finds, IsCompiled};
+ghost use Rattle.front.specs.Compiled.{Finds, FindsUnits, IsCompiled, IsNamed, IsTranslated};
 
 use crate::efl::refusal_of;
-use crate::ratfor::unit_of;
+use crate::ratfor::{unit_of, units_of};
 use f66_check::CheckedUnit;
+use f66_tree::Unit;
 use ground::{Dialect, List, Refusal, Text, Token};
 use macro_define::{Gathered, TextRefusal, gather};
 use ports::Library;
 use std::alloc::Global;
 
-/// A main program as a sound unit of FORTRAN. A place's file has its number in the list of names.
+/// A main program as a sound unit of FORTRAN that may run. A place's file has its number in the list of names.
 #[derive(Drop)]
 pub struct Compiled {
     pub unit: CheckedUnit,
     pub files: List<Text>,
 }
 
-/// The unit of the text under this name, with its includes, which does what the text means, or the text's first fault: of
-/// gather, of the parse, of the checks unit by unit, or MainCount (Kernighan, Ratfor: A Preprocessor for a Rational Fortran,
-/// 1975; Feldman, The Programming Language EFL, 1979).
+/// A program as sound units of FORTRAN that link, each in the place of a unit of its source.
+#[derive(Drop)]
+pub struct Translated {
+    pub units: List<Unit>,
+    pub files: List<Text>,
+}
+
+/// The units of the text under this name, with its includes, which do what the text means, or the text's first fault: of gather, of
+/// the parse, of the checks unit by unit, or of linking (Kernighan, Ratfor: A Preprocessor for a Rational Fortran, 1975; Feldman,
+/// The Programming Language EFL, 1979).
+pub fn translate_text<L: Library>(
+    alloc: Global,
+    dialect: Dialect,
+    name: &str,
+    library: &mut L,
+) -> Result<Translated, TextRefusal>
+    ensures text { IsTranslated (L.files library.old) dialect name.now result }
+    ensures same { L.files library.new ≡ L.files library.old }
+    ensures becomes { L.becomes library.old library.new }
+    ensures cause { HasCause (L.faults library.old) (L.faults library.new) result }
+{
+    let Gathered { tokens, files } = gather(alloc, dialect, name, library)?;
+    match units_in(alloc, dialect, &tokens) {
+        Ok(units) => Ok(Translated { units, files }),
+        Err(refusal) => Err(named(alloc, &files, refusal)),
+    }
+}
+
+/// The same of a program that runs so far: one main without calls, COMMON, EQUIVALENCE and DATA. What is more is Unbuilt, before the
+/// checks.
 pub fn compile_text<L: Library>(
     alloc: Global,
     dialect: Dialect,
@@ -37,22 +66,42 @@ pub fn compile_text<L: Library>(
     let Gathered { tokens, files } = gather(alloc, dialect, name, library)?;
     match unit_in(alloc, dialect, &tokens) {
         Ok(unit) => Ok(Compiled { unit, files }),
-        Err(Refusal::Fault(fault)) => {
-            let name = name_of(&files, fault.place.file).to_vec(alloc)?;
-            Err(TextRefusal::Fault(fault, Text::new(name)))
-        }
-        Err(Refusal::Memory) => Err(TextRefusal::Memory),
+        Err(refusal) => Err(named(alloc, &files, refusal)),
     }
 }
 
-/// The unit of a text with these tokens, or the text's fault.
+/// The units of a text with these tokens, or the text's fault.
+fn units_in(alloc: Global, dialect: Dialect, tokens: &List<Token>) -> Result<List<Unit>, Refusal>
+    requires { EndsText tokens.now.items }
+    ensures { FindsUnits (IsChecked ToPrint dialect tokens.now.items) result }
+{
+    match dialect {
+        Dialect::Ratfor => units_of(alloc, tokens),
+        Dialect::Efl => Err(refusal_of(alloc, tokens)),
+    }
+}
+
+/// The unit of a text with these tokens that runs, or the text's fault.
 fn unit_in(alloc: Global, dialect: Dialect, tokens: &List<Token>) -> Result<CheckedUnit, Refusal>
     requires { EndsText tokens.now.items }
-    ensures { Finds (IsChecked dialect tokens.now.items) result }
+    ensures { Finds (IsChecked ToRun dialect tokens.now.items) result }
 {
     match dialect {
         Dialect::Ratfor => unit_of(alloc, tokens),
         Dialect::Efl => Err(refusal_of(alloc, tokens)),
+    }
+}
+
+/// A refusal with the name of the file of its place.
+fn named(alloc: Global, files: &[Text], refusal: Refusal) -> TextRefusal
+    ensures { IsNamed files.now refusal result }
+{
+    match refusal {
+        Refusal::Fault(fault) => match name_of(files, fault.place.file).to_vec(alloc) {
+            Ok(name) => TextRefusal::Fault(fault, Text::new(name)),
+            Err(_) => TextRefusal::Memory,
+        },
+        Refusal::Memory => TextRefusal::Memory,
     }
 }
 

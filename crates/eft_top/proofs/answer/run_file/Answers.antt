@@ -1,5 +1,7 @@
 -- Why `run_file` keeps its clauses.
 use Rattle.std.proofs.Common.{refl}
+use Rattle.front.specs.Checked.{ToRun}
+use Rattle.front.specs.Compiled.{HasRun}
 use Rattle.front.specs.Verdict.{Accepts, Refuses}
 use Rattle.eft_top.specs.Words.{Run}
 use Rattle.eft_top.specs.Story.{Shows}
@@ -21,6 +23,6 @@ returns-in-Ok-clause-unread g c = if_ok (λ report needs none. absurd (needs non
 pub returns-in-Err-clause-came : goal.returns-in-Err-clause-came
 returns-in-Err-clause-came g c =
     if_ok (λ report shows.
-    refused_came (Run c.args.limit c.args.language c.args.file.now) c.args.language c.args.file.now _ _ _ _ c.in-Err.refusal report (λ fault name known becomes. (Refuses fault name, becomes, refl)) c.in-Err.ensures.text c.in-Err.ensures.cause shows)
+    refused_came HasRun ToRun (Run c.args.limit c.args.language c.args.file.now) c.args.language c.args.file.now _ _ _ _ c.in-Err.refusal report (λ fault name known becomes. (Refuses fault name, becomes, refl)) c.in-Err.ensures.text c.in-Err.ensures.cause shows)
     c.refused.result
     c.refused.ensures
