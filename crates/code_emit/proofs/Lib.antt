@@ -5,3 +5,6 @@ pub mod RecordLemmas
 pub mod BodyLemmas
 pub mod OpeningLemmas
 pub mod UnitLemmas
+pub mod SizeLemmas
+pub mod PlaceLemmas
+pub mod EntryLemmas

@@ -3,3 +3,6 @@ pub mod Names
 pub mod Sorts
 pub mod Turns
 pub mod Units
+pub mod Places
+pub mod Sizes
+pub mod Entries
