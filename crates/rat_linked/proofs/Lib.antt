@@ -7,3 +7,4 @@ pub mod Units
 pub mod Programs
 pub mod Sources
 pub mod Proper
+pub mod Below
