@@ -1,5 +1,9 @@
 -- The lemmas of front.
 pub mod FirstFaults
-pub mod OneVerdict
-mod Answered
-mod CarriedLemmas
+mod SaidPlaces
+mod SaidNames
+mod OneMeaning
+mod OneVerdict
+mod Ending
+mod ProgramLemmas
+mod ServeUnits

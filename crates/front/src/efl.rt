@@ -3,7 +3,7 @@ ghost use Rattle.std.specs.Prelude.{◌≡◌};
 ghost use Rattle.efl_tree.specs.Views.{procedure_of, program_of};
 ghost use Rattle.macro_define.specs.GatherAnswers.{EndsText};
 ghost use Rattle.front.specs.Efl.{IsEfl, first_part, unbuilt_place};
-ghost use Rattle.front.specs.Compiled.{Refused};
+ghost use Rattle.front.specs.Translated.{Refused};
 
 use efl_parse::parse;
 use efl_tree::{EflProcedure, EflProgram};

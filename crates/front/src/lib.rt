@@ -1,10 +1,13 @@
-//! The front of the compiler: a text with its includes becomes a unit of FORTRAN, or is refused for its first fault.
+//! The front of the compiler: a text with its includes becomes units of FORTRAN, or is refused for its first fault.
 #![tactic(auto)]
 
-mod carried;
-mod compile;
 mod efl;
+mod laws;
+mod made;
 mod ratfor;
+mod translate;
 
-pub use compile::{Compiled, compile_text, name_of};
+pub use laws::one_verdict;
 pub use macro_define::TextRefusal;
+pub use made::Made;
+pub use translate::{Translated, name_of, translate_text};

@@ -12,8 +12,8 @@ use Rattle.f66_tree.specs.Syntax.{Header}
 use Rattle.unit_rules.specs.Heads.{breaks_header}
 use Rattle.rat_check.specs.Parts.{Part}
 use Rattle.rat_check.specs.Said.{said_by, context_of_parts}
-use Rattle.rat_check.specs.LongTexts.{is_long_form}
-use Rattle.rat_check.specs.Rules.{is_ratfor, Before, nothing_before, behind, UnitRules, is_misplaced_form, returns_wrong, is_late_form, is_own_label, finds_labels, is_second_default, breaks_own, break_names, breaks, broken_rule}
+use Rattle.rat_check.specs.LongTexts.{is_long_header, is_long_form}
+use Rattle.rat_check.specs.Rules.{breaks_length, breaks_unit_header, is_ratfor, Before, nothing_before, behind, UnitRules, is_misplaced_form, returns_wrong, is_late_form, is_own_label, finds_labels, is_second_default, breaks_own, break_names, breaks, broken_rule}
 use Rattle.rat_check.specs.FirstFault.{or_else, fault_if, first_broken, unit_whole, fault_of_parts}
 
 -- ---- truth values and faults ----
@@ -78,15 +78,19 @@ all_keep u b (v ∷ vs) clean = let n = first_keeps u b v vs clean in (n.0, all_
 -- what a unit of any kind without a fault keeps
 pub record Passed (h : Header) (vs : List Part) : Type 0 where
   pub headed : (k : Rule) → breaks_header (context_of_parts h vs) k ≡ false
+  pub short : is_long_header h ≡ false
   pub keep : AllKeep (unit_whole h vs) nothing_before vs
   pub unbroken : first_broken (unit_whole h vs) nothing_before vs ≡ None
 
 pub passed : (h : Header) (p : Place) (vs : List Part) → fault_of_parts h p vs ≡ None → Passed h vs
 passed h p vs e =
-    let broken = first_rule (breaks_header (context_of_parts h vs)) in
+    let c = context_of_parts h vs in
+    let broken = first_rule (breaks_unit_header c) in
     let n = or_none (fault_if p broken) (first_broken (unit_whole h vs) nothing_before vs) e in
+    let clean : (k : Rule) → (breaks_header c k ≡ false) × (breaks_length h k ≡ false) = λ k. or_parts (breaks_header c k) (breaks_length h k) (first_rule-least (breaks_unit_header c) None (sym (no_rule p broken n.0)) k) in
     record {
-      headed = first_rule-least (breaks_header (context_of_parts h vs)) None (sym (no_rule p broken n.0));
+      headed = λ k. (clean k).0;
+      short = (clean LongText).1;
       keep = all_keep (unit_whole h vs) nothing_before vs n.1;
       unbroken = n.1;
     }

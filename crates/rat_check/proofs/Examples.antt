@@ -1,7 +1,7 @@
 -- The first faults of small units, by computation.
 use Rattle.std.proofs.Common.{◌≡◌, true, false, refl}
 use Rattle.std.specs.Fmt.{digits}
-use Rattle.std.specs.Prelude.{ℕ, pos, List, [], ◌∷◌, Option, Some, None, codes}
+use Rattle.std.specs.Prelude.{ℕ, zero, suc, ◌+◌, decimal, pos, List, [], ◌∷◌, ◌++◌, Option, Some, None, codes}
 use Rattle.ground.specs.Faults.{limit_at}
 use Rattle.ground.specs.declared.fault.Fault.{Fault}
 use Rattle.rule_table.specs.declared.rule.Rule.{Rule}
@@ -190,6 +190,22 @@ real_function = refl
 
 long_header : under (SubUnit (codes "SUBROUT") []) (plain 2 (Goto 10) ∷ []) ≡ at 1 NameTooLong
 long_header = refl
+
+-- limit 9: with these dummies a header has 1,320 characters where its own name has one, and one more where that has two
+abbrev dummies : ℕ → List Text
+dummies zero = codes "LAST" ∷ []
+dummies (suc n) = (codes "K" ++ decimal (10000 + n)) ∷ dummies n
+
+abbrev wide : Text → Header
+wide x = SubUnit x (dummies 186)
+
+widest_header : under (wide (codes "S")) (one 2 ∷ []) ≡ None
+unfolding digits
+widest_header = refl
+
+too_wide : under (wide (codes "SO")) (plain 2 (Goto 10) ∷ []) ≡ Some (limit_at (here 1) 9)
+unfolding digits
+too_wide = refl
 
 -- the dummy k in a common block
 dummy_common : under function (plain 2 (Common (record { name = None; list = scalar k ∷ [] } ∷ [])) ∷ Return (here 3) (Some (var i)) ∷ []) ≡ at 2 DuplicateName

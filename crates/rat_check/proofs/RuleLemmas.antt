@@ -14,12 +14,11 @@ use Rattle.f66_names.specs.ActViews.{act_said, acts_of}
 use Rattle.f66_names.specs.Declaring.{context_by}
 use Rattle.f66_names.specs.DeclarationViews.{context_in, acts_in}
 use Rattle.unit_rules.specs.declared.unit_names.UnitNames.{UnitNames}
-use Rattle.unit_rules.specs.Heads.{breaks_header}
 use Rattle.unit_rules.specs.UnitRules.{breaks_rule}
 use Rattle.rat_check.specs.declared.parts.Part as memory
 use Rattle.rat_check.specs.Parts.{Labels, no_label, Part}
 use Rattle.rat_check.specs.Said.{said_by, said_in}
-use Rattle.rat_check.specs.Rules.{Before, nothing_before, behind, UnitRules, break_names, broken_rule}
+use Rattle.rat_check.specs.Rules.{breaks_unit_header, Before, nothing_before, behind, UnitRules, break_names, broken_rule}
 use Rattle.rat_check.specs.FirstFault.{or_else, fault_if, format_label, with_formats, first_broken, unit_whole, fault_of_parts}
 use Rattle.rat_check.specs.FormViews.{form_of}
 use Rattle.rat_check.specs.PartViews.{part_of, parts_seen, whole_by}
@@ -90,11 +89,11 @@ module _ (p : Place) (vs : List Part) (d : Declarations) (said : said_in (contex
   abbrev behind_header : Option Rule → Option Fault
   behind_header o = or_else (fault_if p o) (first_broken (unit_whole h vs) nothing_before vs)
 
-  header_same : (o : Option Rule) → o ≡ first_rule (breaks_header (context_in d)) → behind_header o ≡ fault_of_parts h p vs
-  header_same o told = ap behind_header (told ∙ ap (λ more. first_rule (breaks_header (context_by h more))) (sym said))
+  header_same : (o : Option Rule) → o ≡ first_rule (breaks_unit_header (context_in d)) → behind_header o ≡ fault_of_parts h p vs
+  header_same o told = ap behind_header (told ∙ ap (λ more. first_rule (breaks_unit_header (context_by h more))) (sym said))
 
-  pub header_broken : (r : Rule) (f : Fault) → Some r ≡ first_rule (breaks_header (context_in d)) → f ≡ fault_of p r → fault_of_parts h p vs ≡ Some f
+  pub header_broken : (r : Rule) (f : Fault) → Some r ≡ first_rule (breaks_unit_header (context_in d)) → f ≡ fault_of p r → fault_of_parts h p vs ≡ Some f
   header_broken r f told is = sym (header_same (Some r) told) ∙ ap Some (sym is)
 
-  pub header_passed : None ≡ first_rule (breaks_header (context_in d)) → first_broken (unit_whole h vs) nothing_before vs ≡ fault_of_parts h p vs
+  pub header_passed : None ≡ first_rule (breaks_unit_header (context_in d)) → first_broken (unit_whole h vs) nothing_before vs ≡ fault_of_parts h p vs
   header_passed told = header_same None told

@@ -11,8 +11,7 @@ use Rattle.f66_tree.specs.Syntax.{Header, Format}
 use Rattle.rat_tree.specs.Syntax.{RatRoutine, RatProgram}
 use Rattle.rat_check.specs.Parts.{Form, Statement, Labels, no_label, with_label, Part, unit_parts}
 use Rattle.rat_check.specs.Said.{said_in, context_of_parts}
-use Rattle.unit_rules.specs.Heads.{breaks_header}
-use Rattle.rat_check.specs.Rules.{Before, nothing_before, behind, UnitRules, broken_rule}
+use Rattle.rat_check.specs.Rules.{breaks_unit_header, Before, nothing_before, behind, UnitRules, broken_rule}
 
 abbrev pub or_else : {A : Type 0} → Option A → Option A → Option A
 or_else None o = o
@@ -49,7 +48,7 @@ unit_whole h vs = record { context = context_of_parts h vs; said = said_in h vs;
 
 -- what the header breaks, at the unit's place, and then what its parts do
 abbrev pub fault_of_parts : Header → Place → List Part → Option Fault
-fault_of_parts h p vs = or_else (fault_if p (first_rule (breaks_header (context_of_parts h vs)))) (first_broken (unit_whole h vs) nothing_before vs)
+fault_of_parts h p vs = or_else (fault_if p (first_rule (breaks_unit_header (context_of_parts h vs)))) (first_broken (unit_whole h vs) nothing_before vs)
 
 abbrev pub unit_fault : RatRoutine → Option Fault
 unit_fault u = fault_of_parts u.header u.place (unit_parts u.body)

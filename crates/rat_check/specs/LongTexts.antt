@@ -1,9 +1,12 @@
--- Limit 9: a statement fits twenty cards of 66 columns for its text, and of an expression in a control statement so much is left
--- free that the statements which the compiler puts it into do too.
+-- Limit 9: a header and a statement each fit twenty cards of 66 columns for their texts, and of an expression in a control
+-- statement so much is left free that the statements which the compiler puts it into do too.
 use Rattle.std.specs.Prelude.{length, nat_lt, Bool, false, ◌||◌, [], Option, Some, None}
-use Rattle.f66_tree.specs.Syntax.{Formula, Formulas, NoFormula, AndFormula, Act}
-use Rattle.stmt_text.specs.Texts.{formula_text, statement_text}
+use Rattle.f66_tree.specs.Syntax.{Formula, Formulas, NoFormula, AndFormula, Header, Act}
+use Rattle.stmt_text.specs.Texts.{formula_text, statement_text, header_text}
 use Rattle.rat_check.specs.Parts.{Form, Statement, Condition, Selector, CaseList, ForHead, ReturnHead}
+
+abbrev pub is_long_header : Header → Bool
+is_long_header h = nat_lt 1320 (length (header_text h))
 
 abbrev pub is_long_statement : Act → Bool
 is_long_statement a = nat_lt 1320 (length (statement_text a))

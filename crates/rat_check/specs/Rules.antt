@@ -1,4 +1,4 @@
--- What each part of a unit of any kind breaks (X3.9-1966, sections 3 to 9; Kernighan's Ratfor).
+-- What the header and each part of a unit of any kind break (X3.9-1966, sections 3 to 9; Kernighan's Ratfor).
 use Rattle.std.specs.Prelude.{ℕ, ◌+◌, nat_le, Bool, true, false, not, ◌&&◌, ◌||◌, List, [], ◌∷◌, length, Option, Some, None, is_some}
 use Rattle.rule_table.specs.declared.rule.Rule.{Rule}
 use Rattle.rule_table.specs.declared.rule.Rule.TheVariants.{Syntax, TypeClash, BadLabel, BadBreak, DuplicateCase, LongText}
@@ -6,10 +6,22 @@ use Rattle.rule_table.specs.FaultRules.{first_rule}
 use Rattle.f66_tree.specs.Syntax.{Header, FuncUnit, DataUnit, Act, Assign, Sign, When, Loop, Invoke, Read, Write}
 use Rattle.f66_tree.specs.Units.{Context}
 use Rattle.f66_flow.specs.Acts.{is_specification, is_format, is_misplaced}
+use Rattle.unit_rules.specs.Heads.{breaks_header}
 use Rattle.unit_rules.specs.UnitRules.{breaks_rule}
 use Rattle.rat_check.specs.Parts.{Form, Bare, Statement, CaseList, ForHead, ReturnHead, Labels, no_label, with_label, Part}
 use Rattle.rat_check.specs.Said.{said_by}
-use Rattle.rat_check.specs.LongTexts.{is_long_form}
+use Rattle.rat_check.specs.LongTexts.{is_long_header, is_long_form}
+
+-- ---- the header ----
+
+-- limit 9
+abbrev pub breaks_length : Header → Rule → Bool
+breaks_length h LongText = is_long_header h
+breaks_length h _ = false
+
+-- the rules of FORTRAN on headers, and limit 9
+abbrev pub breaks_unit_header : Context → Rule → Bool
+breaks_unit_header c k = breaks_header c k || breaks_length c.header k
 
 -- ---- the forms of Ratfor ----
 

@@ -19,7 +19,7 @@ use forms::Around;
 pub use forms::Form;
 use labels::LabelSet;
 pub use parts::Part;
-use rules::broken_rule;
+use rules::{broken_rule, unit_header_rule};
 use said::add_form;
 pub use said::sayings_of;
 use survey::Survey;

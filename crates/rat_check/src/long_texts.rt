@@ -1,13 +1,20 @@
-// Which parts have texts that do not fit their cards.
+// Which headers and parts have texts that do not fit their cards.
 ghost use Rattle.std.specs.Prelude.{◌≡◌};
-ghost use Rattle.f66_tree.specs.Views.{formula_of, formulas_of, act_of};
+ghost use Rattle.f66_tree.specs.Views.{formula_of, formulas_of, header_of, act_of};
 ghost use Rattle.rat_tree.specs.Views.{act_if_any, formula_if_any};
 ghost use Rattle.rat_check.specs.FormViews.{form_of};
-ghost use Rattle.rat_check.specs.LongTexts.{is_long_statement, is_long_expression, are_some_long, is_long_if_any, is_long_test, is_long_form};
+ghost use Rattle.rat_check.specs.LongTexts.{is_long_header, is_long_statement, is_long_expression, are_some_long, is_long_if_any, is_long_test, is_long_form};
 
 use crate::Form;
-use f66_tree::{Expr, StmtKind};
-use stmt_text::{expression_text, statement_text};
+use f66_tree::{Expr, Header, StmtKind};
+use stmt_text::{expression_text, header_text, statement_text};
+
+/// Whether the text of a header is longer than limit 9.
+pub fn is_long_header(header: &Header) -> bool
+    ensures { result ≡ is_long_header (header_of header.now) }
+{
+    header_text(header).is_none()
+}
 
 /// Whether a text of a part is longer than limit 9.
 pub fn is_long_form(form: Form) -> bool

@@ -1,4 +1,4 @@
-// What a part of a unit breaks.
+// What the header and a part of a unit break.
 ghost use Rattle.std.specs.Prelude.{◌≡◌, ◌+◌, ◌<◌, ◌^◌, not, length, IfOk};
 ghost use Rattle.rule_table.specs.FaultRules.{first_rule};
 ghost use Rattle.f66_names.specs.ActViews.{acts_of};
@@ -6,20 +6,41 @@ ghost use Rattle.f66_names.specs.DeclarationViews.{context_in, acts_in};
 ghost use Rattle.f66_tree.specs.Syntax.{DataUnit};
 ghost use Rattle.f66_tree.specs.Views.{header_of, act_of};
 ghost use Rattle.f66_flow.specs.Acts.{is_misplaced as is_misplaced_act};
-ghost use Rattle.rat_check.specs.Rules.{is_executed, is_misplaced_form, returns_wrong, is_late_form, is_own_label, finds_labels, breaks_own, break_names, broken_rule as rule_broken};
+ghost use Rattle.rat_check.specs.Rules.{breaks_length, breaks_unit_header, is_executed, is_misplaced_form, returns_wrong, is_late_form, is_own_label, finds_labels, breaks_own, break_names, broken_rule as rule_broken};
 ghost use Rattle.rat_check.specs.Said.{said_by};
 ghost use Rattle.rat_check.specs.FormViews.{form_of};
 ghost use Rattle.rat_check.specs.PartViews.{part_of, before_of, whole_by};
 ghost use Rattle.rat_check.specs.Survey.{is_among};
 
-use crate::long_texts::is_long_form;
+use crate::long_texts::{is_long_form, is_long_header};
 use crate::{Before, Form, LabelSet, Part};
 use f66_flow::is_specification;
-use f66_names::Saying;
+use f66_names::{Declarations, Saying};
 use f66_tree::{Header, StmtKind};
 use rule_table::{Rule, lesser};
 use std::alloc::{AllocError, Global};
-use unit_rules::{UnitNames, saying_rule};
+use unit_rules::{UnitNames, header_rule, saying_rule};
+
+/// Of the rules that the header breaks, that with the smallest number.
+pub fn unit_header_rule(
+    alloc: Global,
+    declarations: &Declarations,
+) -> Result<Option<Rule>, AllocError>
+    ensures { IfOk result (λ o. o ≡ first_rule (breaks_unit_header (context_in declarations.now))) }
+{
+    let of_fortran = header_rule(alloc, declarations)?;
+    let of_length = length_rule(declarations.header);
+    Ok(lesser(of_fortran, of_length))
+}
+
+fn length_rule(header: &Header) -> Option<Rule>
+    ensures { result ≡ first_rule (breaks_length (header_of header.now)) }
+{
+    if is_long_header(header) {
+        return Some(Rule::LongText);
+    }
+    None
+}
 
 /// Of the rules that a part, which says this of names, breaks, that with the smallest number.
 pub fn broken_rule(

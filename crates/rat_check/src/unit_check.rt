@@ -13,14 +13,15 @@ ghost use Rattle.rat_check.specs.PartViews.{parts_seen, whole_by};
 ghost use Rattle.rat_check.specs.Survey.{is_among, adding_if, own_labels};
 
 use crate::{
-    Around, Before, Form, LabelSet, Part, Survey, add_form, broken_rule, sayings_of, visit_list,
+    Around, Before, Form, LabelSet, Part, Survey, add_form, broken_rule, sayings_of,
+    unit_header_rule, visit_list,
 };
 use f66_names::Saying;
 use f66_tree::{Header, StmtKind};
 use ground::{List, Place, Refusal};
 use rat_tree::{RatStmt, RatUnit};
 use std::alloc::{AllocError, Global};
-use unit_rules::{UnitNames, header_rule, unit_names_of};
+use unit_rules::{UnitNames, unit_names_of};
 
 /// Checks a unit of any kind, and gives the labels of its statements, each once. Faults 9 to 18, 26, 27 and 30.
 // What names mean is known when all parts are, so these are noted first.
@@ -45,7 +46,7 @@ fn check_rules(
     ensures fault { Tells result (fault_of_parts (context_in names.now.declarations).header place (parts_seen parts.now)) }
     ensures labels { IfOk result (λ labels. labels.items ≡ own_labels (parts_seen parts.now) []) }
 {
-    let of_header = header_rule(alloc, &names.declarations)?;
+    let of_header = unit_header_rule(alloc, &names.declarations)?;
     if let Some(rule) = of_header {
         return Err(Refusal::Fault(rule.fault(place)));
     }

@@ -2,3 +2,4 @@
 pub mod LimitLemmas
 pub mod ReadyLemmas
 pub mod CheckLemmas
+pub mod OneFault

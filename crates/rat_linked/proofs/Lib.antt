@@ -7,3 +7,6 @@ pub mod Units
 pub mod Programs
 pub mod Sources
 pub mod Proper
+pub mod Below
+pub mod Lacking
+pub mod Serving

@@ -21,7 +21,7 @@ pub record Paired (us : List RatRoutine) (rs : List Routine) : Type 0 where
   pub made : made_units pairs ≡ rs
   pub many : length pairs ≡ length us
 
-pub paired : (us : List RatRoutine) (rs : List Routine) → AllZip IsMadeOf us rs → Paired us rs
+unfoldable pub paired : (us : List RatRoutine) (rs : List Routine) → AllZip IsMadeOf us rs → Paired us rs
 paired [] [] h = record { pairs = []; said = refl; made = refl; many = refl }
 paired [] (r ∷ rs) h = absurd h
 paired (u ∷ us) [] h = absurd h

@@ -1,6 +1,6 @@
 -- The parts of a unit without a fault are proper.
 use Rattle.std.proofs.Common.{◌≡◌, Bool, true, false, true≢false, List, [], ◌∷◌, Option, None, Some, refl, sym}
-use Rattle.std.specs.Prelude.{◌||◌, ◌&&◌}
+use Rattle.std.specs.Prelude.{◌||◌}
 use Rattle.std.specs.List.{AllByRecursion}
 use Rattle.f66_tree.specs.Syntax.{Act, Assign, Invoke}
 use Rattle.rat_check.specs.Parts.{Form, ForHead, Part, unit_parts}

@@ -19,7 +19,7 @@ use Rattle.rat_linked.proofs.Back.{Told, all_back}
 use Rattle.rat_linked.proofs.Notes.{all_noted}
 
 -- the spare name of a unit, which has one where a switch stands in it
-abbrev spare_if : Bool → Text → Option Text
+abbrev pub spare_if : Bool → Text → Option Text
 spare_if true y = Some y
 spare_if false y = None
 

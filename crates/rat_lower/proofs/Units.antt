@@ -1,6 +1,7 @@
 -- The statements of a unit that the checks accept: they are what it becomes, a sound unit, and fit their cards.
-use Rattle.std.proofs.Common.{◌≡◌, ℕ, ◌+◌, ◌≤◌, true, List, [], length, None, refl, sym, ap, ◌∙◌, subst, arith}
+use Rattle.std.proofs.Common.{◌≡◌, ℕ, ◌+◌, ◌≤◌, true, List, [], length, None, refl, sym, ap, ◌∙◌, subst}
 use Rattle.std.specs.List.{AllByRecursion}
+use Rattle.std.proofs.lemmas.Bool.{ltb-false}
 use Rattle.ground.specs.declared.place.Place.{Place}
 use Rattle.f66_tree.specs.declared.unit.Unit.{Unit as AUnit}
 use Rattle.f66_tree.specs.Syntax.{MainUnit, Line, Routine}
@@ -10,7 +11,6 @@ use Rattle.f66_tree.specs.Agreement.{Agrees}
 use Rattle.f66_tree.specs.OneUnit.{executed}
 use Rattle.f66_check.specs.CheckRules.{first_unbuilt}
 use Rattle.f66_check.specs.Answers.{IsSoundUnit}
-use Rattle.stmt_text.specs.Texts.{header_text}
 use Rattle.stmt_text.specs.Fitting.{FitsCards, IsPrintable}
 use Rattle.rat_tree.specs.Syntax.{RatRoutine}
 use Rattle.rat_check.specs.Parts.{no_label, unit_parts}
@@ -19,6 +19,7 @@ use Rattle.rat_check.specs.Survey.{is_among, own_labels}
 use Rattle.rat_check.proofs.CleanLemmas.{Passed, passed}
 use Rattle.rat_check.proofs.SurveyLemmas.{own_among}
 use Rattle.name_alloc.specs.MadeNames.{Used, next_name, unused, keeping_all}
+use Rattle.name_alloc.proofs.KeptNames.{next_apart}
 use Rattle.rat_lower.specs.OneUnit.{means}
 use Rattle.rat_lower.specs.Checked.{IsChecked}
 use Rattle.rat_lower.specs.Code.{have_switch, all_labels, ends_itself, unit_code}
@@ -52,8 +53,8 @@ module _ (u : RatRoutine) (taken given : List ℕ) (last : Place) (names : Used)
       subst (λ lines. IsSoundUnit (record { header = u.header; lines = lines; place = u.place })) (sym made)
       (unit_is_sound u accepted room.names (labels_past given) last u.place (accepted_flow u accepted room.names given all last labels_fit (sym (ap (ends_itself u.header) made) ∙ finished)))
 
-  code_printable : length (header_text u.header) ≤ 1320 → IsPrintable (record { header = u.header; lines = code; place = u.place })
-  code_printable short = record { header = short; lines = subst (AllByRecursion FitsCards) (sym made) (unit_fits u accepted (labels_past given) last) }
+  code_printable : IsPrintable (record { header = u.header; lines = code; place = u.place })
+  code_printable = record { header = ltb-false 1320 _ accepted.short; lines = subst (AllByRecursion FitsCards) (sym made) (unit_fits u accepted (labels_past given) last) }
 
   code_built : IsBuiltMain u → first_unbuilt (record { header = u.header; lines = code; place = u.place }) ≡ None
   code_built built = ap (λ lines. first_unbuilt (record { header = u.header; lines = lines; place = u.place })) made ∙ unit_built u accepted room.names (labels_past given) last built u.place
@@ -64,10 +65,11 @@ module _ (u : RatRoutine) (taken given : List ℕ) (last : Place) (names : Used)
     place = ap (λ (r : Routine). r.place) is;
     made = labels_past given;
     spare = spare_name u;
+    unnamed = next_apart (unit_names u) room.names;
     code = record { is = ap (λ (r : Routine). r.lines) is ∙ made };
     checked = is_checked u accepted room.names given all;
     sound = subst IsSoundUnit (sym is) (code_sound finished);
-    printable = λ short. subst IsPrintable (sym is) (code_printable short);
+    printable = subst IsPrintable (sym is) code_printable;
     built = λ whole. ap first_unbuilt is ∙ code_built whole;
   }
 
@@ -89,9 +91,6 @@ served_made u finish unit serves = record {
 
 -- ---- mains ----
 
-main_header : length (header_text MainUnit) ≤ 1320
-main_header = omega arith
-
 pub mains_serve : MainsServe
 mains_serve u finish unit main serves =
     let checked : IsChecked serves.made serves.spare MainUnit u.body = subst (λ k. IsChecked serves.made serves.spare k u.body) main serves.checked in
@@ -101,5 +100,5 @@ mains_serve u finish unit main serves =
       agrees = λ input. subst (λ lines. Agrees (means u.body input) (executed lines input)) (sym code) (unit_agrees serves.made serves.spare u.place finish u.body checked input);
       found = λ input b. found serves.made serves.spare u.place finish u.body checked input b;
       sound = λ whole. record { built = serves.built whole; sound = serves.sound };
-      printable = serves.printable (subst (λ k. length (header_text k) ≤ 1320) (sym main) main_header);
+      printable = serves.printable;
     }

@@ -1,6 +1,7 @@
 -- Which units of FORTRAN serve for units of Ratfor.
-use Rattle.std.specs.Prelude.{◌≡◌, ◌≢◌, ◌≤◌, ℕ, Bool, true, false, List, [], ◌∷◌, length, None, ⊤}
-use Rattle.std.specs.List.{AllZip, list_all}
+use Rattle.std.specs.Prelude.{◌≡◌, ◌≢◌, ℕ, Bool, true, false, List, [], ◌∷◌, None, ⊤}
+use Rattle.std.specs.List.{AllZip, list_all, list_any}
+use Rattle.std.specs.Str.{bytes_eq}
 use Rattle.ground.specs.declared.place.Place.{Place}
 use Rattle.f66_tree.specs.declared.unit.Unit.{Unit as AUnit}
 use Rattle.f66_tree.specs.Syntax.{Text, MainUnit}
@@ -12,13 +13,13 @@ use Rattle.f66_tree.specs.Units.{Context}
 use Rattle.f66_names.specs.BuiltActs.{is_built}
 use Rattle.f66_check.specs.CheckRules.{first_unbuilt}
 use Rattle.f66_check.specs.Answers.{IsSoundUnit, IsSound}
-use Rattle.stmt_text.specs.Texts.{header_text}
 use Rattle.stmt_text.specs.Fitting.{IsPrintable}
 use Rattle.rat_tree.specs.Syntax.{RatRoutine}
 use Rattle.rat_check.specs.Parts.{Form, ReturnHead, Part, unit_parts}
 use Rattle.rat_check.specs.Said.{said_by, context_of_parts}
 use Rattle.rat_lower.specs.OneUnit.{means}
 use Rattle.rat_lower.specs.Checked.{IsChecked}
+use Rattle.rat_lower.specs.Emitted.{unit_names}
 use Rattle.rat_lower.specs.Lowered.{IsUnitCode}
 
 -- a statement that returns
@@ -35,17 +36,18 @@ abbrev pub IsBuiltMain : RatRoutine → Type 0
 IsBuiltMain u = (u.header ≡ MainUnit) × AllBuilt (context_of_parts u.header (unit_parts u.body)) (unit_parts u.body)
 
 -- A unit of FORTRAN is what a unit of Ratfor becomes whose text ends at `finish`: it has its header and its place, its statements
--- are those of the definition, by labels that are made and a spare name of which the checks hold, it is sound, and where its header
--- fits its cards, so does each statement. It is built where it is a main all of whose parts are.
+-- are those of the definition, by labels that are made and a spare name, which is none of the unit's names, and of which the checks
+-- hold, it is sound, and it fits its cards. It is built where it is a main all of whose parts are.
 pub record Serves (u : RatRoutine) (finish : Place) (unit : AUnit) : Type 0 where
   pub header : header_of unit.header ≡ u.header
   pub place : unit.place ≡ u.place
   pub made : ℕ → ℕ
   pub spare : Text
+  pub unnamed : list_any (bytes_eq spare) (unit_names u) ≡ false
   pub code : IsUnitCode made spare u finish (lines_of unit.statements.items)
   pub checked : IsChecked made spare u.header u.body
   pub sound : IsSoundUnit (routine_of unit)
-  pub printable : length (header_text u.header) ≤ 1320 → IsPrintable (routine_of unit)
+  pub printable : IsPrintable (routine_of unit)
   pub built : IsBuiltMain u → first_unbuilt (routine_of unit) ≡ None
 
 -- there are as many units as routines, and each serves for the one in its place

@@ -10,7 +10,7 @@ use Rattle.rat_parse_table.specs.declared.table.Production.{Production}
 use Rattle.rat_parse_table.specs.declared.table.Production.TheVariants as productions
 use Rattle.rat_parse_table.specs.Table.{symbols, nonterminal_of}
 use Rattle.rat_parse_values.specs.Values.{Val, at, tok}
-use Rattle.rat_parse_values.specs.Parts.{place_in, name_in, number_in, count_or_one, as_exprs, as_statements, as_clauses, as_formula, as_command}
+use Rattle.rat_parse_values.specs.Parts.{place_in, name_in, number_in, count_or_one, as_exprs, as_statements, as_clauses, as_formula, as_command, as_units}
 use Rattle.rat_parse_control.specs.Statements.{labelled_value}
 use Rattle.rat_parse.specs.Build.{build}
 use Rattle.rat_parse.specs.Ratfor.{grammar}
@@ -38,6 +38,8 @@ nine : (vs : List Val) → WeighNine size vs
 nine vs = parts_nine size refl vs
 
 sized : (p : Production) (vs : List Val) → Each IsEven vs → size (build p vs) + line_credit (Nonterminal (nonterminal_of p)) ≤ total size vs + total line_credit (symbols p)
+sized productions.Whole vs e = omega (arith, nine vs, sizes.units_size (at 1 vs))
+sized productions.MoreUnits vs e = omega (arith, nine vs, sizes.with_routine_size (at 1 vs) (as_units (at 0 vs)), sizes.units_size (at 0 vs))
 sized productions.HeadedUnit vs e = omega (arith, nine vs, sizes.statements_size (at 0 vs))
 sized productions.TypedUnit vs e = omega (arith, nine vs, sizes.typed_unit_size (at 3 vs) (at 2 vs) (as_statements (at 0 vs)), sizes.statements_size (at 0 vs))
 sized productions.MarkedMain vs e =

@@ -4,16 +4,20 @@ use Rattle.std.specs.Prelude.{if◌then◌else◌, codes}
 use Rattle.ground.specs.declared.place.Place.{Place}
 use Rattle.f66_tree.specs.Syntax.{Text, Formula}
 use Rattle.f66_tree.specs.Views.{chained}
-use Rattle.rat_tree.specs.Syntax.{Command, Next, Break, Plain, Labelled, Commands, Clauses, NoClause}
+use Rattle.rat_tree.specs.Syntax.{Command, Next, Break, Plain, Labelled, Commands, Clauses, NoClause, RatRoutine}
 use Rattle.rat_parse_values.specs.Kinds as part
 use Rattle.rat_parse_values.specs.Values.{Val}
 use Rattle.rat_parse_values.specs.Values as val
-use Rattle.rat_parse_values.specs.Parts.{as_exprs, as_statements, as_clauses, as_command, with_clause, is_word}
+use Rattle.rat_parse_values.specs.Parts.{as_exprs, as_statements, as_clauses, as_command, as_units, with_clause, with_routine, is_word}
 use Rattle.rat_parse_expressions.specs.Phrases.{looped, lengthened, pended, begun}
 use Rattle.rat_parse_plain.specs.Plain.{counted}
 use Rattle.rat_parse_control.specs.Statements.{conditional, repetition, with_own_label, labelled_value, left, typed_unit}
 use Rattle.rat_room.proofs.Lines.{expressions, lines_of, lines_in, lines_among}
 use Rattle.rat_room.proofs.PartWeights.{IsEven}
+use Rattle.rat_room.proofs.Weights.{total}
+
+abbrev pub lines_of_units : List RatRoutine → ℕ
+lines_of_units us = total (λ u. lines_in u.body) us
 
 abbrev pub size : Val → ℕ
 size (val.expression (part.formulas fs)) = length fs
@@ -22,6 +26,8 @@ size (val.statement (part.commands ss)) = lines_in ss
 size (val.statement (part.clause d)) = lines_among (d NoClause)
 size (val.statement (part.clauses cs)) = lines_among cs
 size (val.unit (part.routine u)) = lines_in u.body
+size (val.unit (part.routines us)) = lines_of_units us
+size (val.unit (part.program p)) = lines_of_units p.routines
 size _ = 0
 
 -- ---- what is read off a part ----
@@ -49,6 +55,14 @@ with_clause_size _ cs even = omega arith
 pub chained_size : (fs : List Formula) → expressions (chained fs) ≡ length fs
 chained_size [] = refl
 chained_size (f ∷ fs) = omega (arith, chained_size fs)
+
+pub units_size : (v : Val) → lines_of_units (as_units v) ≤ size v
+units_size (val.unit (part.routines us)) = omega arith
+units_size _ = omega arith
+
+pub with_routine_size : (v : Val) (us : List RatRoutine) → lines_of_units (with_routine v us) ≤ size v + lines_of_units us
+with_routine_size (val.unit (part.routine u)) us = omega arith
+with_routine_size _ us = omega arith
 
 -- ---- what is made of parts ----
 

@@ -135,11 +135,11 @@ earlier_none : (a b : Option Passing) → earlier_of a b ≡ None → a ≡ None
 earlier_none None b h = refl
 earlier_none (Some x) b h = h
 
-later_none : (a b : Option Passing) → earlier_of a b ≡ None → b ≡ None
+pub later_none : (a b : Option Passing) → earlier_of a b ≡ None → b ≡ None
 later_none None b h = h
 later_none (Some x) b h = cc
 
-passing_none : (i : ℕ) (o : Option ℕ) → passing_at i o ≡ None → o ≡ None
+pub passing_none : (i : ℕ) (o : Option ℕ) → passing_at i o ≡ None → o ≡ None
 passing_none i None h = refl
 passing_none i (Some k) h = cc
 

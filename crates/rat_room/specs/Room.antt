@@ -1,4 +1,4 @@
--- The parser's limits leave each unit room for its labels and names, and bound the statements that it becomes.
+-- The parser's limits leave each unit room for its labels and names, and bound the statements that it becomes, and the units.
 use Rattle.std.specs.Prelude.{ℕ, ◌≤◌, List, length}
 use Rattle.std.specs.List.{All}
 use Rattle.ground.specs.declared.place.Place.{Place}
@@ -23,3 +23,7 @@ IsFew u = (made : ℕ → ℕ) (spare : Text) (last : Place) → length (unit_co
 -- so does each unit of a program that is accepted
 abbrev pub ParsedIsFew : Type 0
 ParsedIsFew = (ts : List Token) → (tree : RatProgram) → IsAccepted grammar meter ts (program tree) → All IsFew tree.routines
+
+-- a program that is accepted has at most 500 units
+abbrev pub ParsedHasFewUnits : Type 0
+ParsedHasFewUnits = (ts : List Token) → (tree : RatProgram) → IsAccepted grammar meter ts (program tree) → length tree.routines ≤ 500

@@ -19,7 +19,7 @@ use Rattle.f66_program.specs.Initial.{act_presets, line_presets, presets_of}
 use Rattle.f66_program.specs.Linking.{Program, Part, MiscountsMain, second, none, IsLinkage}
 use Rattle.renumbering.specs.Laws.{IsMatched}
 use Rattle.renumbering.specs.Alone.{is_storing, IsPlainMain, OneUnitLinks, OneUnitAlone, OneMeaningAlone}
-use Rattle.renumbering.proofs.NumberLemmas.{numbers_alone}
+use Rattle.renumbering.proofs.NumberLemmas.{all_placed, numbers_alone}
 use Rattle.renumbering.proofs.BodyLemmas.{ratfor_numbers_alone}
 
 -- ---- nothing is tied, and nothing is filled ----
@@ -132,4 +132,4 @@ one_unit_alone r sound plain l linked input n =
 
 pub one_meaning_alone : OneMeaningAlone
 one_meaning_alone r sound plain l linked bodies named b input =
-    ratfor_numbers_alone (program r plain) (one_sound r sound) (matched r plain) l (one_unit (notes_of r.lines)) linked (plain_links r plain) bodies named b input
+    ratfor_numbers_alone (program r plain) (all_placed (r ∷ []) (one_sound r sound)) (matched r plain) l (one_unit (notes_of r.lines)) linked (plain_links r plain) bodies named b input

@@ -17,7 +17,7 @@ use Rattle.renumbering.proofs.PairLemmas.{Twins, AllReal, Pairs, Any, thens, giv
 use Rattle.renumbering.proofs.ValueLemmas.{Around, side1, side2, IsSite}
 use Rattle.renumbering.proofs.RunLemmas.{past_pairs, fetch_pairs}
 use Rattle.renumbering.proofs.ProgramLemmas.{twins, unit_named_so, first_agree}
-use Rattle.renumbering.proofs.NumberLemmas.{shown_same, sound_at, main_same}
+use Rattle.renumbering.proofs.NumberLemmas.{shown_same, placed_at, main_same}
 use Rattle.renumbering.proofs.CommandLemmas.{counts_one, all_pairs}
 
 ended_pairs : (t : Twins) (main : Bool) (c : Course) → Pairs t ⊤ Any (ended_by main c) (ended_by main c)
@@ -82,8 +82,8 @@ module _ (p : Program) (l m : Linkage) (other : IsLinkage p.units m) where
   returns_own u h back r here = subst (λ c. HasPlaces r (name_of c.header)) (sym (other.contexts u r here)) (back r here)
 
 pub ratfor_numbers_alone : RatforNumbersAlone
-ratfor_numbers_alone p sound matched l m first other bodies named b input =
-    let at = sound_at p.units sound in
+ratfor_numbers_alone p placed matched l m first other bodies named b input =
+    let at = placed_at p.units placed in
     let t = twins p at matched l m first other in
     shown_same t _ _
     ((call_pairs t (λ u. InUnit p.units u (λ r. HasPlaces r (name_of r.header))) (returns_own p l m other) bodies b (λ u h. named u h.0 h.1) l.deep l.main (first.main.0, first.main.1) [] tt).run
@@ -92,4 +92,4 @@ ratfor_numbers_alone p sound matched l m first other bodies named b input =
     ∙ ap (λ k. shown (source_call m bodies b k m.main [] (record { state = first_state m input; left = 0; count = 0 }))) (first.deep ∙ sym other.deep)
 
 pub own_are_named : OwnAreNamed
-own_are_named p sound matched codes are u r here = subst (NamesOfLinesBy (names_in p.units u)) (sym (are u r here)) (unit_named_so p (sound_at p.units sound) matched u r here)
+own_are_named p placed matched codes are u r here = subst (NamesOfLinesBy (names_in p.units u)) (sym (are u r here)) (unit_named_so p (placed_at p.units placed) matched u r here)

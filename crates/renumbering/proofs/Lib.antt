@@ -13,4 +13,5 @@ pub mod NumberedLemmas
 pub mod CommandLemmas
 pub mod BodyLemmas
 pub mod AloneLemmas
+pub mod SameRuns
 mod Examples

@@ -3,6 +3,7 @@ use Rattle.std.proofs.Common.{◌≡◌, ◌<◌, ℕ, suc, Bool, true, false, L
 use Rattle.std.specs.Prelude.{nat_lt, ⊤}
 use Rattle.std.specs.List.{All, slice_get}
 use Rattle.std.proofs.lemmas.Bool.{ltb-true, ltb-false}
+use Rattle.std.proofs.lemmas.List.Elements.{All-weaker}
 use Rattle.std.proofs.lemmas.Option.{slice_get_within, get_or_from_slice_get}
 use Rattle.ground.specs.declared.fault.FaultKind.TheVariants.{MainCount, TypeClash}
 use Rattle.f66_tree.specs.Syntax.{Routine}
@@ -12,16 +13,22 @@ use Rattle.f66_tree.specs.Execution.{stand, no_loops, nowhere, first_state, exec
 use Rattle.f66_check.specs.Answers.{IsSoundUnit}
 use Rattle.f66_program.specs.Linking.{Program, second, at_part, first_of, IsLinkage}
 use Rattle.renumbering.specs.Laws.{IsMatched, WholeIsMatched, NumbersAlone}
+use Rattle.renumbering.specs.Placed.{IsPlaced}
 use Rattle.renumbering.proofs.PairLemmas.{Twins, Mates, Any}
 use Rattle.renumbering.proofs.RunLemmas.{exec_pairs}
+use Rattle.renumbering.proofs.SoundLemmas.{sound_placed}
 use Rattle.renumbering.proofs.ProgramLemmas.{twins, codes_named, first_agree}
 
 pub shown_same : (t : Twins) (o1 o2 : Out ⊤) → Mates t Any o1 o2 → shown o1 ≡ shown o2
 shown_same t (Gives a w) o2 h = ap shown (sym h.1.2)
 shown_same t (Halts e w) o2 h = ap shown (sym h.1)
 
-pub sound_at : (rs : List Routine) → All IsSoundUnit rs → (u : ℕ) (r : Routine) → slice_get rs u ≡ Some r → IsSoundUnit r
-sound_at rs sound u r here = subst IsSoundUnit (get_or_from_slice_get rs u r r here) (sound u r (slice_get_within rs u r here))
+pub placed_at : (rs : List Routine) → All IsPlaced rs → (u : ℕ) (r : Routine) → slice_get rs u ≡ Some r → IsPlaced r
+placed_at rs placed u r here = subst IsPlaced (get_or_from_slice_get rs u r r here) (placed u r (slice_get_within rs u r here))
+
+-- sound units are placed
+pub all_placed : (rs : List Routine) → All IsSoundUnit rs → All IsPlaced rs
+all_placed rs sound = All-weaker IsSoundUnit IsPlaced sound_placed rs sound
 
 -- there is one main
 module _ (p : Program) (matched : IsMatched p) where
@@ -46,7 +53,7 @@ whole_is_matched p whole = record { one_main = whole.clean MainCount; agree = wh
 
 pub numbers_alone : NumbersAlone
 numbers_alone p sound matched l m first other codes are input n =
-    let at = sound_at p.units sound in
+    let at = placed_at p.units (all_placed p.units sound) in
     let t = twins p at matched l m first other in
     let start = codes_named p at matched l m first other codes are l.main (first.main.0, first.main.1) in
     shown_same t _ _

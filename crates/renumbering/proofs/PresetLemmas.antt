@@ -1,4 +1,4 @@
--- The places that DATA fills are real: in a sound unit each is of a name with places, and within its dimensions.
+-- The places that DATA fills are real: each is of a name with places, and within its dimensions.
 use Rattle.std.proofs.Common.{◌≡◌, ◌++◌, ℕ, zero, suc, ◌+◌, Bool, true, false, true≢false, List, [], ◌∷◌, Some, None, refl, sym, ap, ◌∙◌, subst, arith}
 use Rattle.std.specs.Prelude.{is_some, not, unsigned_abs, if◌then◌else◌}
 use Rattle.std.specs.Option.{option_or}
@@ -8,17 +8,12 @@ use Rattle.std.proofs.lemmas.Bool.{and_parts, or_parts, or_left, or_right, not-f
 use Rattle.std.proofs.lemmas.List.Elements.{All-nil, All-cons, All-append}
 use Rattle.std.proofs.lemmas.List.Folds.{list_any-append}
 use Rattle.std.proofs.lemmas.Slice.Eq.{bytes_eq-Decides}
-use Rattle.rule_table.specs.declared.rule.Rule.TheVariants.{NotAssignable}
-use Rattle.rule_table.specs.Words.{is_some_and}
 use Rattle.ground.specs.Content.{Content}
 use Rattle.f66_tree.specs.Syntax.{Text, Formula, Ref, Item, Formulas, Header, MainUnit, SubUnit, FuncUnit, DataUnit, PresetPart, Act, Line, Routine}
 use Rattle.f66_tree.specs.Syntax as f66
 use Rattle.f66_tree.specs.Units.{Context, sizes_of}
 use Rattle.f66_tree.specs.Evaluation.{Sort, AnArray, AnIntrinsic, AFunction, array_or, sort_of}
 use Rattle.f66_names.specs.Sorts.{form_by, is_array_form, is_array_name}
-use Rattle.f66_names.specs.StoreRules.{stores_wrong}
-use Rattle.f66_flow.specs.FlowRules.{breaks_flow}
-use Rattle.f66_flow.specs.declared.scope.Scope.TheVariants.{Whole}
 use Rattle.f66_soundness.specs.SoundUnits.{acts_in_unit}
 use Rattle.f66_soundness.proofs.KindLemmas.{none_of_both, no_some, some_same}
 use Rattle.f66_soundness.proofs.SoundLemmas.{sizes_same}
@@ -26,11 +21,10 @@ use Rattle.unit_rules.specs.declared.roles.Role.{Role}
 use Rattle.unit_rules.specs.declared.roles.Role.TheVariants.{Variable}
 use Rattle.unit_rules.specs.Storage.{is_held, are_within, may_hold, takes_value, presets_wrong}
 use Rattle.f66_check.specs.CheckRules as check
-use Rattle.f66_check.specs.UnitChecks.{breaks_statement}
-use Rattle.f66_check.specs.Answers.{IsSoundUnit}
 use Rattle.f66_program.specs.Mentions.{Mention, context_of, applied, mentions_of, mentions_in, is_variable, is_dummy, has_places}
 use Rattle.f66_program.specs.Association.{shift, IsReal}
 use Rattle.f66_program.specs.Initial.{values_of, Preset, paired, part_presets, act_presets, line_presets, presets_from, presets_of}
+use Rattle.renumbering.specs.Placed.{IsPlaced}
 use Rattle.renumbering.proofs.SoundLemmas.{has_one, variable_has_places}
 use Rattle.renumbering.proofs.ElementLemmas.{inside}
 
@@ -63,7 +57,7 @@ any_there test (y ∷ xs) (suc i) x is e = or_right (test y) _ (any_there test x
 abbrev pub IsRealPreset : List Routine → Preset → Type 0
 IsRealPreset rs q = IsReal rs q.unit q.name q.at
 
-module _ (rs : List Routine) (u : ℕ) (r : Routine) (here : slice_get rs u ≡ Some r) (sound : IsSoundUnit r) where
+module _ (rs : List Routine) (u : ℕ) (r : Routine) (here : slice_get rs u ≡ Some r) (placed : IsPlaced r) where
   abbrev own : Context
   own = check.context_of r
 
@@ -90,7 +84,7 @@ module _ (rs : List Routine) (u : ℕ) (r : Routine) (here : slice_get rs u ≡ 
   ref_real : (x : Text) → takes_value own (acts_in_unit r.lines) (Ref x) ≡ true → Told (mentions_of c (Ref x)) → IsReal rs u x 0
   ref_real x e told =
       let has = told x (held_not x (and_parts (not (is_array_name own x)) _ e).1) (or_left (bytes_eq x x) false (itself x)) in
-      record { unit = r; here = here; named = has; inside = has_one r sound x has }
+      record { unit = r; here = here; named = has; inside = has_one r placed x has }
 
   item_real : (x : Text) (es : Formulas) → takes_value own (acts_in_unit r.lines) (Item x es) ≡ true → Told (mentions_of c (Item x es)) → IsReal rs u x (unsigned_abs (shift 1 (sizes_of x c.notes) es))
   item_real x es e told =
@@ -132,30 +126,24 @@ module _ (rs : List Routine) (u : ℕ) (r : Routine) (here : slice_get rs u ≡ 
   pub told_there : (i : ℕ) (s : Line) → slice_get r.lines i ≡ Some s → Told (mentions_in c s.act)
   told_there i s is x free e = variable_has_places r x free (any_there (λ t. list_any (is_variable x) (mentions_in c t.act)) r.lines i s is e)
 
-  fit_there : (i : ℕ) (s : Line) → slice_get r.lines i ≡ Some s → presets_wrong own (acts_in_unit r.lines) s.act ≡ false
-  fit_there i s is =
-      (or_parts (stores_wrong own s.act) _
-      (or_parts (breaks_flow Whole r.header r.lines i s NotAssignable) _
-      (subst (λ o. is_some_and (λ t. breaks_statement Whole own (acts_in_unit r.lines) r.lines i t NotAssignable) o ≡ false) is (sound.clean (suc i) NotAssignable))).1).1
-
   lines_real : (i : ℕ) (lines : List Line) → ((j : ℕ) (s : Line) → slice_get lines j ≡ Some s → (k : ℕ) → All (IsRealPreset rs) (act_presets u k c s.act)) → All (IsRealPreset rs) (line_presets u i c lines)
   lines_real i [] h = All-nil (IsRealPreset rs)
   lines_real i (s ∷ lines) h = All-append (IsRealPreset rs) (act_presets u i c s.act) (line_presets u (suc i) c lines) (h zero s refl i) (lines_real (suc i) lines (λ j t is k. h (suc j) t is k))
 
   unit_real : All (IsRealPreset rs) (line_presets u 0 c r.lines)
-  unit_real = lines_real 0 r.lines (λ j s is k. act_real k s.act (fit_there j s is) (told_there j s is))
+  unit_real = lines_real 0 r.lines (λ j s is k. act_real k s.act (placed.filled j s is) (told_there j s is))
 
 -- ---- the units of the program ----
 
 onward : (s v : ℕ) → s + suc v ≡ suc s + v
 onward s v = omega arith
 
-module _ (rs : List Routine) (sound : (u : ℕ) (r : Routine) → slice_get rs u ≡ Some r → IsSoundUnit r) where
+module _ (rs : List Routine) (placed : (u : ℕ) (r : Routine) → slice_get rs u ≡ Some r → IsPlaced r) where
   from_real : (s : ℕ) (rest : List Routine) → ((v : ℕ) (r : Routine) → slice_get rest v ≡ Some r → slice_get rs (s + v) ≡ Some r) → All (IsRealPreset rs) (presets_from s rest)
   from_real s [] h = All-nil (IsRealPreset rs)
   from_real s (r ∷ rest) h =
       let here = subst (λ n. slice_get rs n ≡ Some r) (omega arith) (h zero r refl) in
-      All-append (IsRealPreset rs) (line_presets s 0 (context_of r) r.lines) (presets_from (suc s) rest) (unit_real rs s r here (sound s r here))
+      All-append (IsRealPreset rs) (line_presets s 0 (context_of r) r.lines) (presets_from (suc s) rest) (unit_real rs s r here (placed s r here))
       (from_real (suc s) rest (λ v t is. subst (λ n. slice_get rs n ≡ Some t) (onward s v) (h (suc v) t is)))
 
   pub presets_real : All (IsRealPreset rs) (presets_of rs)

@@ -1,4 +1,4 @@
--- A program of sound units has what two runs of its units rest on, over any two of its linkages.
+-- A program of units with right places has what two runs of its units rest on, over any two of its linkages.
 use Rattle.std.proofs.Common.{◌≡◌, ◌<◌, ℕ, zero, suc, Bool, true, false, List, [], ◌∷◌, Option, Some, None, ◌⊎◌, inl, inr, refl, sym, ap, ◌∙◌, subst, arith}
 use Rattle.std.specs.Prelude.{◌↔◌, ◌||◌, nat_lt, length, slice_index_or, if◌then◌else◌}
 use Rattle.std.specs.List.{AllByRecursion, Contains, list_any, slice_get, flat_map}
@@ -11,7 +11,6 @@ use Rattle.f66_tree.specs.Units.{Context, dummies_of, position, sizes_of, places
 use Rattle.f66_tree.specs.Uses.{Using, NamesOfPars, NamesOfActBy, NamesOfLinesBy}
 use Rattle.f66_tree.specs.Evaluation.{Sort, AnArray, AnIntrinsic, AFunction, sort_of}
 use Rattle.f66_soundness.proofs.KindLemmas.{no_some, some_same}
-use Rattle.f66_check.specs.Answers.{IsSoundUnit}
 use Rattle.f66_program.specs.Mentions.{Mention, AVariable, ACall, AKnown, context_of, mentions_in, is_variable, is_dummy, has_places}
 use Rattle.f66_program.specs.Association.{IsReal}
 use Rattle.f66_program.specs.Calls.{Call, call_in, calls_in, is_called, one_further, unit_named, fits_header, clashes}
@@ -20,6 +19,7 @@ use Rattle.f66_program.specs.Linking.{Program, at_part, IsLinkage}
 use Rattle.linked_soundness.specs.Laws.{AreCodes}
 use Rattle.renumbering.specs.Laws.{IsMatched}
 use Rattle.renumbering.specs.Bodies.{HasPlaces, CallsFunction, ListedBy, InUnit, names_in}
+use Rattle.renumbering.specs.Placed.{IsPlaced}
 use Rattle.renumbering.proofs.PairLemmas.{Applied, Twins, Agree}
 use Rattle.renumbering.proofs.RunLemmas.{CodesNamed}
 use Rattle.renumbering.proofs.MentionLemmas.{IsFine, names_of_act}
@@ -54,13 +54,13 @@ lines_named : (U : Using) (code : List Line) → ((i : ℕ) (s : Line) → slice
 lines_named U [] h = tt
 lines_named U (s ∷ code) h = (h zero s refl, lines_named U code (λ i t is. h (suc i) t is))
 
-module _ (p : Program) (sound : (u : ℕ) (r : Routine) → slice_get p.units u ≡ Some r → IsSoundUnit r) (matched : IsMatched p) where
+module _ (p : Program) (placed : (u : ℕ) (r : Routine) → slice_get p.units u ≡ Some r → IsPlaced r) (matched : IsMatched p) where
   abbrev rs : List Routine
   rs = p.units
 
   -- what has places has a real one
   pub real_at : (u : ℕ) (r : Routine) → slice_get rs u ≡ Some r → (x : Text) → has_places r x ≡ true → IsReal rs u x 0
-  real_at u r here x has = record { unit = r; here = here; named = has; inside = has_one r (sound u r here) x has }
+  real_at u r here x has = record { unit = r; here = here; named = has; inside = has_one r (placed u r here) x has }
 
   -- a reference calls a function
   calls_function : (u : ℕ) (r : Routine) → slice_get rs u ≡ Some r → (i : ℕ) (s : Line) → slice_get r.lines i ≡ Some s → (k : Call) → k.by_call ≡ false → Contains (calls_in (context_of r) s.act) k → CallsFunction rs k.name
@@ -78,7 +78,7 @@ module _ (p : Program) (sound : (u : ℕ) (r : Routine) → slice_get p.units u 
   only : (P : Routine → Type 0) (u : ℕ) (r : Routine) → slice_get rs u ≡ Some r → P r → InUnit rs u P
   only P u r here h q there = subst P (some_same (sym here ∙ there)) h
 
-  -- ---- a sound unit's own statements ----
+  -- ---- a unit's own statements ----
 
   act_named : (u : ℕ) (r : Routine) (here : slice_get rs u ≡ Some r) (i : ℕ) (s : Line) → slice_get r.lines i ≡ Some s → NamesOfActBy (names_in rs u) s.act
   act_named u r here i s stands =
@@ -89,7 +89,7 @@ module _ (p : Program) (sound : (u : ℕ) (r : Routine) → slice_get p.units u 
     where
       by_dummy : (x : Text) (b : Bool) → is_dummy x r.header ≡ b → list_any (is_variable x) (mentions_in (context_of r) s.act) ≡ true → HasPlaces r x
       by_dummy x true d e = or_left (is_dummy x r.header) _ d
-      by_dummy x false d e = or_right (is_dummy x r.header) _ (told_there rs u r here (sound u r here) i s stands x d e)
+      by_dummy x false d e = or_right (is_dummy x r.header) _ (told_there rs u r here (placed u r here) i s stands x d e)
 
   pub unit_named_so : (u : ℕ) (r : Routine) → slice_get rs u ≡ Some r → NamesOfLinesBy (names_in rs u) r.lines
   unit_named_so u r here = lines_named (names_in rs u) r.lines (act_named u r here)
@@ -107,7 +107,7 @@ module _ (p : Program) (sound : (u : ℕ) (r : Routine) → slice_get p.units u 
     value_real : (x : Text) → CallsFunction rs x → (v : ℕ) → m.find x ≡ Some v → IsReal rs v x 0
     value_real x h v e =
         let n = unit_there x rs v (sym (second.finds x) ∙ e) in
-        real_at v n.0 n.1 x (value_has_places n.0 (sound v n.0 n.1) x (h v n.0 (sym (second.finds x) ∙ e) n.1))
+        real_at v n.0 n.1 x (value_has_places n.0 (placed v n.0 n.1) x (h v n.0 (sym (second.finds x) ∙ e) n.1))
 
     abbrev IsApplied : ℕ → Text → Sort → Type 0
     IsApplied u x o = Applied ((names_in rs u).alone x) ((v : ℕ) → m.find x ≡ Some v → IsReal rs v x 0) o
@@ -123,7 +123,7 @@ module _ (p : Program) (sound : (u : ℕ) (r : Routine) → slice_get p.units u 
     pub dimensions_stand : (u : ℕ) (x : Text) (r : Routine) → slice_get rs u ≡ Some r → NamesOfPars (names_in rs u).alone (sizes_of x (m.context u).notes)
     dimensions_stand u x r here =
         told u r here (λ c. NamesOfPars (names_in rs u).alone (sizes_of x c.notes))
-        (sizes_named r (sound u r here) (names_in rs u).alone (λ n e. only (λ q. HasPlaces q n) u r here (or_left (is_dummy n r.header) _ e)) x)
+        (sizes_named r (placed u r here) (names_in rs u).alone (λ n e. only (λ q. HasPlaces q n) u r here (or_left (is_dummy n r.header) _ e)) x)
 
     pub further_real : (u : ℕ) (x : Text) (o n : ℕ) → IsReal rs u x o → nat_lt n (places_of (sizes_of x (m.context u).notes)) ≡ true → IsReal rs u x n
     further_real u x o n h e = record {
@@ -190,7 +190,7 @@ module _ (p : Program) (sound : (u : ℕ) (r : Routine) → slice_get p.units u 
             by_place (suc j) lt is = none q (j, omega (arith, lt), is) e
 
     real_preset : (q : Preset) → Contains (presets_of rs) q → IsReal rs q.unit q.name q.at
-    real_preset q c = All-contains (λ a. IsReal rs a.unit a.name a.at) (presets_of rs) q (presets_real rs sound) c
+    real_preset q c = All-contains (λ a. IsReal rs a.unit a.name a.at) (presets_of rs) q (presets_real rs placed) c
 
     pub first_agree : Agree twins l.first m.first
     first_agree u x o h = elim (filled_or_not l (l.number u x o) (presets_of rs)) [

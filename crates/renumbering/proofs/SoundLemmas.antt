@@ -1,5 +1,5 @@
--- The places of a sound unit: what stands there as a variable and is no dummy has places, a function's own name has one, and the
--- dimensions of a name are positive constants, or dummies where it is one.
+-- The places of a unit: what stands there as a variable and is no dummy has places, a function's own name has one, and the dimensions
+-- of a name are positive constants, or dummies where it is one. Of a sound unit all that is asked for it holds.
 use Rattle.std.proofs.Common.{◌≡◌, ◌<◌, ℕ, zero, suc, ℤ, pos, negsuc, Bool, true, false, true≢false, List, [], ◌∷◌, Option, Some, None, refl, sym, ◌∙◌, subst, arith}
 use Rattle.std.specs.Prelude.{unsigned_abs, not, ◌||◌, int_le, if◌then◌else◌}
 use Rattle.std.specs.List.{list_any, slice_get, flat_map}
@@ -7,25 +7,28 @@ use Rattle.std.specs.Str.{bytes_eq}
 use Rattle.std.proofs.Math.Nat.{mul-pos}
 use Rattle.std.proofs.lemmas.Bool.{and_parts, and_from, or_parts, or_left, or_right, not-false, not-true, not_from_false, both_ways}
 use Rattle.std.proofs.lemmas.Slice.Eq.{bytes_eq-Decides}
-use Rattle.rule_table.specs.declared.rule.Rule.TheVariants.{DuplicateName}
-use Rattle.rule_table.specs.Words.{repeats}
+use Rattle.rule_table.specs.declared.rule.Rule.TheVariants.{DuplicateName, NotAssignable}
+use Rattle.rule_table.specs.Words.{repeats, is_some_and}
 use Rattle.f66_tree.specs.Syntax.{Text, Par, Constant, Named, Declared, Area, Header, MainUnit, SubUnit, FuncUnit, DataUnit, Act, Typed, Dimension, Common, Line, Routine}
 use Rattle.f66_tree.specs.Units.{Context, Note, is_note, notes_of, dummies_of, one_on, position, if_any, sizes_in, sizes_in_areas, sizes_by, sizes_of, places_of}
 use Rattle.f66_tree.specs.Uses.{NamesOfPars}
 use Rattle.f66_tree.proofs.Tries.{if_both}
 use Rattle.f66_names.specs.Sorts as names
-use Rattle.f66_names.specs.StoreRules.{is_bad_size, has_bad_size, has_bad_constant}
-use Rattle.f66_flow.specs.FlowRules.{header_breaks_flow}
+use Rattle.f66_names.specs.StoreRules.{is_bad_size, has_bad_size, has_bad_constant, stores_wrong}
+use Rattle.f66_flow.specs.FlowRules.{header_breaks_flow, breaks_flow}
 use Rattle.f66_flow.specs.declared.scope.Scope.TheVariants.{Whole}
+use Rattle.f66_soundness.specs.SoundUnits.{acts_in_unit}
 use Rattle.f66_soundness.proofs.KindLemmas.{none_of_both, no_some}
 use Rattle.unit_rules.specs.Heads.{header_names}
 use Rattle.unit_rules.specs.Listed.{common_in}
 use Rattle.f66_check.specs.CheckRules as check
+use Rattle.f66_check.specs.UnitChecks.{breaks_statement}
 use Rattle.f66_check.specs.Answers.{IsSoundUnit}
 use Rattle.f66_program.specs.Mentions.{context_of, mentioned, is_variable, is_dummy, is_own_value, has_places}
 use Rattle.f66_program.specs.Association.{size_in}
 use Rattle.f66_program.specs.Calls.{Call, is_called, fits_header}
 use Rattle.linked_soundness.proofs.RuleLemmas.{sound_fit}
+use Rattle.renumbering.specs.Placed.{IsPlaced}
 
 -- ---- dummies ----
 
@@ -106,12 +109,12 @@ module _ (c : Context) (x : Text) where
       let q = and_parts (names.is_dummy c x) _ (not-false _ p.0) in
       (f n (and_parts (names.is_dummy c n) _ q.1).0, dummies_alone P f ns p.1)
 
-module _ (r : Routine) (sound : IsSoundUnit r) where
+module _ (r : Routine) (placed : IsPlaced r) where
   abbrev own : Context
   own = check.context_of r
 
   good : (x : Text) → AllGood own x (sizes_of x (context_of r).notes)
-  good x = sizes_good own x r.lines (λ i s is. (((sound_fit r sound).rules i s is).sizes, ((sound_fit r sound).rules i s is).shared))
+  good x = sizes_good own x r.lines (λ i s is. (placed.sizes i s is, placed.shared i s is))
 
   -- what has places has one
   pub has_one : (x : Text) → has_places r x ≡ true → 0 < size_in (context_of r) x
@@ -120,10 +123,7 @@ module _ (r : Routine) (sound : IsSoundUnit r) where
   pub sizes_named : (P : Text → Type 0) → ((n : Text) → is_dummy n r.header ≡ true → P n) → (x : Text) → NamesOfPars P (sizes_of x (context_of r).notes)
   sizes_named P f x = dummies_alone own x P f (sizes_of x (context_of r).notes) (good x)
 
-  -- ---- a function's own name ----
-
-  pub heads_differ : repeats (header_names r.header) ≡ false
-  heads_differ = (or_parts (header_breaks_flow Whole r.header r.lines DuplicateName) _ (sound.clean zero DuplicateName)).1
+-- ---- a function's own name ----
 
 -- no dummy has it
 own_value : (x : Text) (h : Header) → is_own_value x h ≡ true → repeats (header_names h) ≡ false → is_dummy x h ≡ false
@@ -132,9 +132,9 @@ own_value x (SubUnit y ds) e d = absurd (true≢false (sym e))
 own_value x (FuncUnit t y ds) e d = subst (λ q. list_any (bytes_eq q) ds ≡ false) (sym ((bytes_eq-Decides x y).0 e)) (or_parts (list_any (bytes_eq y) ds) _ d).0
 own_value x DataUnit e d = absurd (true≢false (sym e))
 
-pub value_has_places : (r : Routine) → IsSoundUnit r → (x : Text) → is_own_value x r.header ≡ true → has_places r x ≡ true
-value_has_places r sound x e =
-    and_from (not (is_dummy x r.header)) _ (not_from_false (is_dummy x r.header) (own_value x r.header e (heads_differ r sound))) (or_left (is_own_value x r.header) _ e)
+pub value_has_places : (r : Routine) → IsPlaced r → (x : Text) → is_own_value x r.header ≡ true → has_places r x ≡ true
+value_has_places r placed x e =
+    and_from (not (is_dummy x r.header)) _ (not_from_false (is_dummy x r.header) (own_value x r.header e placed.header)) (or_left (is_own_value x r.header) _ e)
 
 -- the header that a reference fits is a function's
 pub function_header : (c : Context) (k : Call) (h : Header) (notes : List Note) → k.by_call ≡ false → fits_header c k (record { header = h; notes = notes }) ≡ true → is_called k.name h ≡ true → is_own_value k.name h ≡ true
@@ -148,3 +148,16 @@ function_header c k DataUnit notes f e i = absurd (true≢false (sym e))
 pub variable_has_places : (r : Routine) (x : Text) → is_dummy x r.header ≡ false → mentioned (is_variable x) (context_of r) r.lines ≡ true → has_places r x ≡ true
 variable_has_places r x free e =
     and_from (not (is_dummy x r.header)) _ (not_from_false (is_dummy x r.header) free) (or_right (is_own_value x r.header) _ (or_left (mentioned (is_variable x) (context_of r) r.lines) _ e))
+
+-- ---- a sound unit ----
+
+pub sound_placed : (r : Routine) → IsSoundUnit r → IsPlaced r
+sound_placed r sound = record {
+  header = (or_parts (header_breaks_flow Whole r.header r.lines DuplicateName) _ (sound.clean zero DuplicateName)).1;
+  sizes = λ i s is. ((sound_fit r sound).rules i s is).sizes;
+  shared = λ i s is. ((sound_fit r sound).rules i s is).shared;
+  filled = λ i s is.
+      (or_parts (stores_wrong (check.context_of r) s.act) _
+      (or_parts (breaks_flow Whole r.header r.lines i s NotAssignable) _
+      (subst (λ o. is_some_and (λ t. breaks_statement Whole (check.context_of r) (acts_in_unit r.lines) r.lines i t NotAssignable) o ≡ false) is (sound.clean (suc i) NotAssignable))).1).1;
+}

@@ -1,4 +1,4 @@
--- The names that the bodies of a program of Ratfor use, as sound units of FORTRAN with the same names would use them.
+-- The names that the bodies of a program of Ratfor use, as units of FORTRAN with the same names would use them.
 use Rattle.std.specs.Prelude.{◌≡◌, ◌||◌, ℕ, true, List, Some, None, ⊤}
 use Rattle.std.specs.List.{slice_get}
 use Rattle.f66_tree.specs.Syntax.{Text, Routine}

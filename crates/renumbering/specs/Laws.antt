@@ -11,6 +11,7 @@ use Rattle.f66_program.specs.Linking.{Program, Part, Breaks, IsWhole, IsLinkage}
 use Rattle.linked_soundness.specs.Laws.{AreCodes}
 use Rattle.rat_tree.specs.Meaning.{Body, Theirs, ratfor}
 use Rattle.renumbering.specs.Bodies.{AreNamed}
+use Rattle.renumbering.specs.Placed.{IsPlaced}
 
 -- there is one main, and a reference leads to a function, as the rules 22 MainCount and 12 TypeClash of a program ask
 pub record IsMatched (p : Program) : Type 0 where
@@ -27,12 +28,12 @@ abbrev pub NumbersAlone : Type 0
 NumbersAlone =
     (p : Program) → All IsSoundUnit p.units → IsMatched p → (l m : Linkage) → IsLinkage p.units l → IsLinkage p.units m → (codes : ℕ → List Line) → AreCodes p.units codes → (input : List Record) (n : ℕ) → f66 l codes input n ≡ f66 m codes input n
 
--- The same of what a program of Ratfor means whose units stand for sound units of FORTRAN with the same names: whatever the numbers,
--- it shows the same records, the same end with its place, and the same work.
+-- The same of what a program of Ratfor means whose units stand for units of FORTRAN with the same names, of which nothing is asked but
+-- their places: whatever the numbers, it shows the same records, the same end with its place, and the same work.
 abbrev pub RatforNumbersAlone : Type 0
 RatforNumbersAlone =
-    (p : Program) → All IsSoundUnit p.units → IsMatched p → (l m : Linkage) → IsLinkage p.units l → IsLinkage p.units m → (bodies : ℕ → Body) → AreNamed p.units bodies → (b : ℕ) (input : List Record) → ratfor l bodies b input ≡ ratfor m bodies b input
+    (p : Program) → All IsPlaced p.units → IsMatched p → (l m : Linkage) → IsLinkage p.units l → IsLinkage p.units m → (bodies : ℕ → Body) → AreNamed p.units bodies → (b : ℕ) (input : List Record) → ratfor l bodies b input ≡ ratfor m bodies b input
 
--- the names that sound units of a program use by themselves stand for something there, as is asked of bodies
+-- the names that such units of a program use by themselves stand for something there, as is asked of bodies
 abbrev pub OwnAreNamed : Type 0
-OwnAreNamed = (p : Program) → All IsSoundUnit p.units → IsMatched p → (codes : ℕ → List Line) → AreCodes p.units codes → AreNamed p.units (λ u. Theirs (codes u))
+OwnAreNamed = (p : Program) → All IsPlaced p.units → IsMatched p → (codes : ℕ → List Line) → AreCodes p.units codes → AreNamed p.units (λ u. Theirs (codes u))

@@ -1,5 +1,6 @@
 -- The definitions that the contracts of renumbering cite.
 pub mod Bodies
+pub mod Placed
 pub mod Numbered
 pub mod Laws
 pub mod Alone

@@ -10,12 +10,12 @@ pub fn numbers_alone()
     ensures { NumbersAlone }
 {}
 
-/// So is what a program of Ratfor means whose names stand for what those of sound units do.
+/// So is what a program of Ratfor means whose names stand for what those of units do whose places are right by the rules of names.
 pub fn ratfor_numbers_alone()
     ensures { RatforNumbersAlone }
 {}
 
-/// The names that sound units use by themselves do.
+/// The names that such units use by themselves do.
 pub fn own_are_named()
     ensures { OwnAreNamed }
 {}

@@ -2,7 +2,7 @@
 -- variable.
 use Rattle.std.proofs.Common.{◌≡◌, ◌≢◌, inl, inr, ℕ, ◌+◌, ℤ, Bool, true, false, true≢false, List, [], ◌∷◌, ◌++◌, map, Option, Some, refl, sym, ap, ◌∙◌, subst}
 use Rattle.std.specs.Prelude.{◌||◌, if◌then◌else◌, ⊤}
-use Rattle.std.specs.List.{flat_map, list_any}
+use Rattle.std.specs.List.{Contains, flat_map, list_any}
 use Rattle.std.specs.Str.{bytes_eq}
 use Rattle.std.proofs.lemmas.Bool.{or_parts}
 use Rattle.std.proofs.lemmas.Slice.Eq.{bytes_eq-Decides}
@@ -18,9 +18,19 @@ use Rattle.spared_units.proofs.Units.{same_ties}
 use Rattle.spared_units.proofs.Places.{real_too, real_back}
 use Rattle.spared_units.proofs.CallKinds.{applied_name, not_same}
 
+-- a row that no tie speaks of is tied to itself alone
+pub alone : (r : Row) (ts : List Tie) → ((t : Tie) → Contains ts t → (t.from ≢ r) × (t.to ≢ r)) → {a b : Row} {d : ℤ} → IsSame ts a b d → (a ≡ r → b ≡ r) × (b ≡ r → a ≡ r)
+alone r ts h (by_tie t k) = let o = h t k in (λ e. absurd (o.0 e), λ e. absurd (o.1 e))
+alone r ts h (itself a) = (λ e. e, λ e. e)
+alone r ts h (back k) = let q = alone r ts h k in (q.1, q.0)
+alone r ts h (onward k j) =
+    let q = alone r ts h k in
+    let p = alone r ts h j in
+    (λ e. p.0 (q.0 e), λ e. q.1 (p.1 e))
+
 module _ (y : Text) where
   -- no name of these is the one
-  abbrev AllOthers : List Mention → Type 0
+  abbrev pub AllOthers : List Mention → Type 0
   AllOthers ms = (m : Mention) → Among ms m → mention_name m ≢ y
 
   first : (xs ys : List Mention) → AllOthers (xs ++ ys) → AllOthers xs
@@ -86,11 +96,11 @@ module _ (y : Text) where
 
     -- ---- ties ----
 
-    abbrev IsOtherRow : Row → Type 0
+    abbrev pub IsOtherRow : Row → Type 0
     IsOtherRow (Own u x) = x ≢ y
     IsOtherRow (Block b) = ⊤
 
-    abbrev AreOtherRows : List Tie → Type 0
+    abbrev pub AreOtherRows : List Tie → Type 0
     AreOtherRows ts = (t : Tie) → Among ts t → IsOtherRow t.from × IsOtherRow t.to
 
     both : (xs ys : List Tie) → AreOtherRows xs → AreOtherRows ys → AreOtherRows (xs ++ ys)
@@ -137,23 +147,15 @@ module _ (y : Text) where
         t g.2
     act_other u f _ h = λ t k. absurd k
 
-    lines_other : (u : ℕ) (f : Filled) (lines : List Line) → AllOthers (mentions_of_lines c lines) → AreOtherRows (line_ties u c f lines)
+    pub lines_other : (u : ℕ) (f : Filled) (lines : List Line) → AllOthers (mentions_of_lines c lines) → AreOtherRows (line_ties u c f lines)
     lines_other u f [] h = λ t k. absurd k
     lines_other u f (s ∷ lines) h =
         both (act_ties u c f s.act) _ (act_other u f s.act (first (mentions_in c s.act) (mentions_of_lines c lines) h))
         (lines_other u (act_filled c f s.act) lines (rest (mentions_in c s.act) (mentions_of_lines c lines) h))
 
-    -- so it is tied to itself alone
-    alone : (ts : List Tie) → AreOtherRows ts → {a b : Row} {d : ℤ} → IsSame ts a b d → (a ≡ Own 0 y → b ≡ Own 0 y) × (b ≡ Own 0 y → a ≡ Own 0 y)
-    alone ts h (by_tie t k) =
-        let o = h t (among ts t k) in
-        (λ e. absurd (subst IsOtherRow e o.0 refl), λ e. absurd (subst IsOtherRow e o.1 refl))
-    alone ts h (itself a) = (λ e. e, λ e. e)
-    alone ts h (back k) = let r = alone ts h k in (r.1, r.0)
-    alone ts h (onward k j) =
-        let r = alone ts h k in
-        let q = alone ts h j in
-        (λ e. q.0 (r.0 e), λ e. r.1 (q.1 e))
+    -- they are not the name's own
+    pub other_row : (u : ℕ) (r : Row) → IsOtherRow r → r ≢ Own u y
+    other_row u r other e = subst IsOtherRow e other refl
 
   abbrev IsBlock : Row → Type 0
   IsBlock (Own u x) = ⊥
@@ -162,7 +164,9 @@ module _ (y : Text) where
   pub not_in_block : (s : Routine) → Lacks s y → (b : Option Text) (d : ℤ) → IsSame (unit_ties 0 s) (Own 0 y) (Block b) d → ⊥
   not_in_block s l b d k =
       let others : AllOthers (mentions_of_lines (context_of s) s.lines) = λ m i. l.mentioned (context_of s) m (contained (mentions_of_lines (context_of s) s.lines) m i) in
-      let e = (alone (context_of s) (unit_ties 0 s) (lines_other (context_of s) 0 not_filled s.lines others) k).0 refl in
+      let rows = lines_other (context_of s) 0 not_filled s.lines others in
+      let apart : (t : Tie) → Contains (unit_ties 0 s) t → (t.from ≢ Own 0 y) × (t.to ≢ Own 0 y) = λ t c. let o = rows t (among (unit_ties 0 s) t c) in (other_row (context_of s) 0 t.from o.0, other_row (context_of s) 0 t.to o.1) in
+      let e = (alone (Own 0 y) (unit_ties 0 s) apart k).0 refl in
       subst IsBlock e tt
 
 pub lacks : (s : Routine) (o : Option Text) (y : Text) → o ≡ Some y → LacksIfAny s o → Lacks s y

@@ -10,4 +10,5 @@ pub mod Blocks
 pub mod Programs
 pub mod Rules
 pub mod Limit
+pub mod Numbers
 pub mod Wholes

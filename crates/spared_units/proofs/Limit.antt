@@ -31,7 +31,7 @@ module _ (ps : List Pair) where
       let lt = k.inside in
       omega (arith, lt, size)
 
-  one_spare : (u v : ℕ) (x y : Text) → u ≡ v → IsSpareAt ps u x → IsSpareAt ps v y → x ≡ y
+  pub one_spare : (u v : ℕ) (x y : Text) → u ≡ v → IsSpareAt ps u x → IsSpareAt ps v y → x ≡ y
   one_spare u v x y e a b =
       let same : a.pair ≡ b.pair = some_of a.pair b.pair (sym a.here ∙ ap (slice_get ps) e ∙ b.here) in
       some_of x y (sym a.is ∙ ap (λ p. p.spare) same ∙ b.is)

@@ -1,5 +1,5 @@
 -- Why `refusal_of` keeps its clauses.
-use Rattle.front.proofs.Answered.{ends_efl}
+use Rattle.front.proofs.Ending.{ends_efl}
 use Rattle.front.proofs.efl.refusal_of.Goals as goal
 
 pub parse-requires : goal.parse-requires

@@ -1,0 +1,13 @@
+-- Why `program_of` keeps its clauses.
+use Rattle.rat_tree.specs.Views.{program_of}
+use Rattle.front.proofs.Ending.{ends_ratfor}
+use Rattle.front.proofs.ratfor.program_of.Goals as goal
+
+pub parse-requires : goal.parse-requires
+parse-requires c = ends_ratfor c.args.tokens.now.items c.requires
+
+pub made_of-requires-clause-room : goal.made_of-requires-clause-room
+made_of-requires-clause-room c = c.parsed_has_room.ensures c.args.tokens.now.items (program_of c.in_ok-program.program) c.in_ok-program.ensures
+
+pub made_of-requires-clause-few : goal.made_of-requires-clause-few
+made_of-requires-clause-few c = c.parsed_has_few_units.ensures c.args.tokens.now.items (program_of c.in_ok-program.program) c.in_ok-program.ensures
