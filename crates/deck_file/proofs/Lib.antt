@@ -1,4 +1,3 @@
 -- The lemmas of deck_file.
-pub mod BuiltLemmas
 pub mod FetchLemmas
 pub mod OneLoaded

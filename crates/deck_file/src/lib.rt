@@ -1,7 +1,8 @@
-//! A deck in a file: the main unit that runs, or the deck's first fault.
+//! A deck in a file: units that link, or the deck's first fault.
 #![tactic(auto)]
 
+mod deck;
 mod load;
-mod main_unit;
 
+pub use deck::Deck;
 pub use load::load_deck;

@@ -1,24 +1,24 @@
-// From a file to the unit that runs.
+// From a file to its units.
 ghost use Rattle.std.specs.Prelude.{◌≡◌};
 ghost use Rattle.macro_define.specs.Gathered.{HasCause};
 ghost use Rattle.ports.specs.Held.{fetched};
 ghost use Rattle.deck_file.specs.Answers.{Finds, IsDeckIn, IsNamed};
 ghost use Rattle.deck_file.specs.Loaded.{IsLoaded};
 
-use crate::main_unit::unit_in;
-use f66_check::CheckedUnit;
+use crate::Deck;
+use crate::deck::deck_in;
 use ground::{Fault, FaultKind, Place, Refusal, Text};
 use macro_define::TextRefusal;
 use ports::{FetchFault, Library};
 use std::alloc::Global;
 
-/// The unit of the deck under this name, or the deck's first fault: that it is missing, of its cards, its statements, its units, or
-/// MainCount (X3.9-1966, sections 3 to 10). The place of a fault is a card, or line 0.
+/// The units of the deck under this name, which link, or the deck's first fault: that it is missing, of its cards, its statements,
+/// its units, or linking (X3.9-1966, sections 3 to 10). The place of a fault is a card, or line 0.
 pub fn load_deck<L: Library>(
     alloc: Global,
     name: &str,
     library: &mut L,
-) -> Result<CheckedUnit, TextRefusal>
+) -> Result<Deck, TextRefusal>
     ensures deck { IsDeckIn (L.files library.old) name.now result }
     ensures same { L.files library.new ≡ L.files library.old }
     ensures becomes { L.becomes library.old library.new }
@@ -29,21 +29,21 @@ pub fn load_deck<L: Library>(
         Err(FetchFault::Failed) => return Err(TextRefusal::Library),
         Err(FetchFault::Memory) => return Err(TextRefusal::Memory),
     };
-    match unit_of(alloc, bytes) {
-        Ok(unit) => Ok(unit),
+    match deck_of(alloc, bytes) {
+        Ok(deck) => Ok(deck),
         Err(refusal) => Err(named(alloc, name, refusal)),
     }
 }
 
-/// The unit that runs of a file's bytes, where there is such a file.
-fn unit_of(alloc: Global, bytes: Option<Vec<u8>>) -> Result<CheckedUnit, Refusal>
+/// The units of a file's bytes, where there is such a file.
+fn deck_of(alloc: Global, bytes: Option<Vec<u8>>) -> Result<Deck, Refusal>
     ensures { Finds (IsLoaded (fetched bytes)) result }
 {
     let Some(bytes) = bytes else {
         let start = Place { file: 0, line: 0 };
         return Err(Refusal::Fault(Fault::new(start, FaultKind::IncludeMissing)));
     };
-    unit_in(alloc, &bytes)
+    deck_in(alloc, &bytes)
 }
 
 /// A refusal with the name of the file.

@@ -1,2 +1,3 @@
 -- The lemmas of deck_room.
 mod PrintedDecks
+mod PrintedTexts

@@ -11,7 +11,7 @@ use Rattle.deck.specs.Written.{written_header, written_line}
 use Rattle.deck_laws.proofs.CardBytes.{small_is_sound}
 use Rattle.deck_room.specs.Printed.{printed, PrintedPassesNoLimit}
 
-header_one : (h : Header) → length (written_header h) ≤ 1
+pub header_one : (h : Header) → length (written_header h) ≤ 1
 header_one MainUnit = omega arith
 header_one (SubUnit x ds) = omega arith
 header_one (FuncUnit w x ds) = omega arith

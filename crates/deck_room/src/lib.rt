@@ -3,4 +3,4 @@
 
 mod laws;
 
-pub use laws::cards_pass_no_limit;
+pub use laws::{cards_pass_no_limit, printed_are_few, small_texts_pass_no_limit};

@@ -12,10 +12,10 @@ returns-in-Err-Failed-clause-deck g c = let k = some_known _ in record { known =
 pub returns-in-Err-Memory-clause-deck : goal.returns-in-Err-Memory-clause-deck
 returns-in-Err-Memory-clause-deck g c = let k = some_known _ in record { known = k.0; of = k.1; gives = tt }
 
-pub returns-in-Ok-unit_of-clause-deck : goal.returns-in-Ok-unit_of-clause-deck
-returns-in-Ok-unit_of-clause-deck g c =
+pub returns-in-Ok-deck_of-clause-deck : goal.returns-in-Ok-deck_of-clause-deck
+returns-in-Ok-deck_of-clause-deck g c =
     let f = fetched (g.L.Library.files c.args.library.now) c.args.name.now (bytes_of c.in-Ok.bytes) c.in-Ok.ensures.bytes in
-    record { known = f.known; of = f.of; gives = subst (λ o. IsAnswered c.args.name.now (IsLoaded o) (Ok c.in-Ok-unit_of.unit)) (sym f.gave) c.in-Ok-unit_of.ensures }
+    record { known = f.known; of = f.of; gives = subst (λ o. IsAnswered c.args.name.now (IsLoaded o) (Ok c.in-Ok-deck_of.deck)) (sym f.gave) c.in-Ok-deck_of.ensures }
 
 pub returns-in-Err-clause-deck : goal.returns-in-Err-clause-deck
 returns-in-Err-clause-deck g c =
