@@ -1,12 +1,12 @@
 -- The code of the statements of a unit, put behind other code: where each stands.
-use Rattle.std.proofs.Common.{◌≡◌, cond, ◌++◌, ℕ, suc, ◌+◌, ◌-◌, ◌<◌, ◌≤◌, Bool, true, false, List, [], ◌∷◌, length, Result, OnOk, refl, ap, sym, ◌∙◌, append_assoc, arith, length-append, drop, get_or}
+use Rattle.std.proofs.Common.{◌≡◌, cond, ◌++◌, ℕ, ◌+◌, ◌-◌, ◌<◌, ◌≤◌, Bool, true, false, List, [], ◌∷◌, length, Result, OnOk, refl, ap, sym, ◌∙◌, append_assoc, arith, length-append, drop, get_or}
 use Rattle.std.proofs.lemmas.List.{drop_all, drop-map}
 use Rattle.std.proofs.lemmas.Result.{on_ok_weaker}
 use Rattle.f66_tree.specs.declared.statement.Stmt.{Stmt}
 use Rattle.f66_tree.specs.Syntax.{Line}
 use Rattle.f66_tree.specs.Units.{is_note}
 use Rattle.f66_tree.specs.Execution.{Closer}
-use Rattle.f66_tree.specs.Views.{act_of, line_of, lines_of}
+use Rattle.f66_tree.specs.Views.{line_of, lines_of}
 use Rattle.stack_code.specs.declared.op.Op.{Op}
 use Rattle.stack_code.specs.Instructions.{Instruction, Begin}
 use Rattle.stack_code.specs.Views.{code_of}

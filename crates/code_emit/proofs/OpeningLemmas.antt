@@ -1,5 +1,5 @@
 -- What stands before the statements of a unit, put behind other code; and the code of units.
-use Rattle.std.proofs.Common.{◌≡◌, ◌++◌, ℕ, suc, ◌+◌, ◌<◌, ◌≤◌, List, [], ◌∷◌, length, Result, OnOk, refl, ap, sym, ◌∙◌, append_assoc, arith, length-append, drop, get_or}
+use Rattle.std.proofs.Common.{◌≡◌, ◌++◌, ℕ, suc, ◌+◌, ◌<◌, ◌≤◌, List, [], ◌∷◌, length, Result, Ok, Err, IfOk, OnOk, refl, ap, sym, ◌∙◌, append_assoc, arith, length-append, length-drop, drop, get_or}
 use Rattle.std.proofs.lemmas.List.{append-nil, drop_all}
 use Rattle.std.proofs.lemmas.Result.{on_ok_weaker}
 use Rattle.f66_tree.specs.declared.statement.Stmt.{Stmt}
@@ -96,3 +96,34 @@ body_stands y u old new enters put =
     let rest = runnable (y.lines u) in
     let h = ended old new (prologue_code y u first rest) (prologue_size first rest) put (prologue_length y u first rest) in
     omega arith
+
+-- how much stands before the statements
+pub nothing_long : (first : List Instruction) (rest : List Line) → length first ≡ 0 → prologue_size first rest ≡ 0
+nothing_long [] rest is = refl
+nothing_long (i ∷ first) rest is = absurd (omega arith)
+
+none_long : (first : List Instruction) → prologue_size first [] ≡ 0
+none_long [] = refl
+none_long (i ∷ first) = refl
+
+pub none_runs_long : (all : List Stmt) (lines : List Line) (n : ℕ) (first : List Instruction) → lines_of all ≡ lines → runnable (lines_of all) ≡ lines_of (drop n all) → length all ≤ n → prologue_size first (runnable lines) ≡ 0
+none_runs_long all lines n first is runs past =
+    ap (λ ls. prologue_size first (runnable ls)) (sym is) ∙ ap (prologue_size first) (runs ∙ ap lines_of (drop_all n all past)) ∙ none_long first
+
+long : (first : List Instruction) (s : Line) (rest : List Line) → 0 < length first → prologue_size first (s ∷ rest) ≡ length first + 2
+long [] s rest is = absurd (omega arith)
+long (i ∷ first) s rest is = omega arith
+
+-- some statement is executed
+some_left : (all : List Stmt) → 0 < length all → (s : Stmt) × ((rest : List Stmt) × (all ≡ s ∷ rest))
+some_left [] is = absurd (omega arith)
+some_left (s ∷ rest) is = (s, (rest, refl))
+
+pub some_long : (all : List Stmt) (lines : List Line) (n : ℕ) (first : List Instruction) → lines_of all ≡ lines → runnable (lines_of all) ≡ lines_of (drop n all) → n < length all → 0 < length first → prologue_size first (runnable lines) ≡ length first + 2
+some_long all lines n first is runs within some =
+    let left = some_left (drop n all) (omega (arith, length-drop n all)) in
+    ap (λ ls. prologue_size first (runnable ls)) (sym is) ∙ ap (prologue_size first) (runs ∙ ap lines_of left.1.1) ∙ long first (line_of left.0) (lines_of left.1.0) some
+
+pub prologue_sized : {E : Type 0} (result : Result ℕ E) (first : List Instruction) (rest : List Line) (size : ℕ) → size ≡ length first → prologue_size first rest ≡ length first + 2 → IfOk result (λ n. n ≡ size + 2) → IfOk result (λ n. n ≡ prologue_size first rest)
+prologue_sized (Ok n) first rest size is whole sum = omega arith
+prologue_sized (Err e) first rest size is whole sum = sum

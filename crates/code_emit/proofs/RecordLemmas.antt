@@ -6,7 +6,7 @@ use Rattle.f66_tree.specs.declared.editing.Way.{Way}
 use Rattle.f66_tree.specs.Syntax as f66
 use Rattle.f66_tree.specs.Syntax.{Formula, Entries, Act, When}
 use Rattle.stack_code.specs.declared.op.Op.{Op}
-use Rattle.stack_code.specs.Instructions.{Instruction, Start, Finish, JumpFalse, Begin}
+use Rattle.stack_code.specs.Instructions.{Start, Finish, JumpFalse, Begin}
 use Rattle.stack_code.specs.Views.{code_of}
 use Rattle.code_gen.specs.Layout.{Layout}
 use Rattle.code_gen.specs.Expressions.{par_code, value_code}

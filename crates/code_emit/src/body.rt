@@ -10,7 +10,7 @@ use crate::acts::put_leave;
 use crate::coded_unit::CodedUnit;
 use crate::operators::put;
 use crate::statements::{Stand, put_act};
-use crate::turns::{count_from, put_turns, size_of_turns, turns_at};
+use crate::turns::{count_from, put_turns, size_of_turns};
 use f66_tree::{Stmt, StmtKind};
 use stack_code::Op;
 use std::alloc::{AllocError, Global};
@@ -41,7 +41,7 @@ fn put_executed<U: CodedUnit>(
     requires { length ops.old.items + (line_size (U.layout unit.now) (U.number unit.now) (line_of statement.now) + body_size (U.layout unit.now) (U.number unit.now) (drop behind ((U.layout unit.now).lines (U.number unit.now)))) ≡ stop (U.layout unit.now) (U.number unit.now) }
     ensures { OnOk result (code_of ops.new.items ≡ code_of ops.old.items ++ (Begin statement.now.place ∷ (act_code (U.layout unit.now) (U.number unit.now) (length (drop behind ((U.layout unit.now).lines (U.number unit.now)))) (turns_place (U.layout unit.now) (U.number unit.now) (line_of statement.now) (drop behind ((U.layout unit.now).lines (U.number unit.now)))) statement.now.place (act_of statement.now.kind) ++ turns_code (U.layout unit.now) (U.number unit.now) (enders (U.layout unit.now) (U.number unit.now) (line_of statement.now))))) }
 {
-    let turns = turns_at(unit, statement);
+    let turns = unit.turns(statement);
     let size = size_of_turns(unit, turns)?;
     let key = count_from(unit, behind)?;
     let after = unit.place(behind);

@@ -1,11 +1,10 @@
 // What the code of a unit goes by.
 ghost use Rattle.std.specs.Prelude.{◌≡◌, ℕ, drop, map};
-ghost use Rattle.f66_tree.specs.Execution.{closers};
 ghost use Rattle.f66_tree.specs.Units.{is_main, kind_of, sizes_of};
-ghost use Rattle.f66_tree.specs.Views.{lines_of, par_of};
+ghost use Rattle.f66_tree.specs.Views.{line_of, lines_of, par_of};
 ghost use Rattle.code_gen.specs.Layout.{Layout};
 ghost use Rattle.code_gen.specs.Expressions.{base_code};
-ghost use Rattle.code_gen.specs.Statements.{place_of, target};
+ghost use Rattle.code_gen.specs.Statements.{enders, place_of, target};
 ghost use Rattle.code_emit.specs.Names.{base_of, callee_of, preset_in};
 ghost use Rattle.code_emit.specs.Turns.{closer_in};
 
@@ -73,10 +72,6 @@ pub trait NamedUnit {
     fn is_main(&self) -> bool
         ensures { result ≡ is_main ((layout self.now).linked.context (number self.now)).header };
 
-    /// The loops that end at a label, the innermost first.
-    fn turns(&self, label: u32) -> &[Turn<'_>]
-        ensures { map (closer_in ((layout self.now).lines (number self.now))) result.now ≡ closers label ((layout self.now).lines (number self.now)) };
-
     /// The initial values of the program's storage units.
     fn presets(&self) -> &[(u32, Value)]
         ensures { map preset_in result.now ≡ (layout self.now).presets };
@@ -91,6 +86,10 @@ pub trait CodedUnit: NamedUnit {
     /// The instruction to which a branch to a label goes.
     fn target(&self, label: u32) -> u32
         ensures { result ≡ target (Self.layout self.now) (Self.number self.now) label };
+
+    /// The loops that end at a statement, the innermost first.
+    fn turns(&self, statement: &Stmt) -> &[Turn<'_>]
+        ensures { map (closer_in ((Self.layout self.now).lines (Self.number self.now))) result.now ≡ enders (Self.layout self.now) (Self.number self.now) (line_of statement.now) };
 
     /// The plan of the format with a label.
     fn plan(&self, label: u32) -> u32

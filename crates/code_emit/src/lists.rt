@@ -89,7 +89,7 @@ fn entry_room<U: NamedUnit>(unit: &U, entry: &Entry) -> Result<u32, AllocError>
 
 /// How many spare storage units a list takes.
 #[cycle(entry_room)]
-fn entries_room<U: NamedUnit>(unit: &U, list: &[Entry]) -> Result<u32, AllocError>
+pub fn entries_room<U: NamedUnit>(unit: &U, list: &[Entry]) -> Result<u32, AllocError>
     ensures { IfOk result (λ n. n ≡ entries_room ((U.layout unit.now).linked.context (U.number unit.now)) (entries_of list.now)) }
 {
     let mut sum = 0;

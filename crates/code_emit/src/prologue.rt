@@ -5,7 +5,7 @@ ghost use Rattle.f66_tree.specs.Views.{act_of, lines_of};
 ghost use Rattle.stack_code.specs.Instructions.{Push};
 ghost use Rattle.stack_code.specs.Views.{code_of, instruction_of};
 ghost use Rattle.code_gen.specs.Layout.{Layout};
-ghost use Rattle.code_gen.specs.Statements.{first_code, preset_code, prologue_code, reset_by, reset_code};
+ghost use Rattle.code_gen.specs.Statements.{first_code, preset_code, prologue_code, prologue_size, reset_by, reset_code};
 ghost use Rattle.code_emit.specs.Names.{content_in, preset_in};
 
 use crate::acts::limit_of;
@@ -162,4 +162,20 @@ pub(crate) fn put_prologue<U: CodedUnit>(unit: &U, ops: &mut Vec<Op>) -> Result<
     put(ops, Op::Begin(first.place))?;
     put_opening(unit, ops)?;
     put(ops, Op::Jump(entry))
+}
+
+/// How long the code is that stands before the statements of a unit.
+pub(crate) fn prologue_size<U: NamedUnit>(unit: &U) -> Result<u32, AllocError>
+    ensures { IfOk result (λ n. n ≡ prologue_size (first_code (U.layout unit.now) (U.number unit.now)) (runnable ((U.layout unit.now).lines (U.number unit.now)))) }
+{
+    let statements = unit.statements();
+    let number = first_executed(statements);
+    let size = opening_size(unit)?;
+    if size == 0 {
+        return Ok(0);
+    }
+    if number >= statements.len() {
+        return Ok(0);
+    }
+    plus(size, 2)
 }

@@ -43,7 +43,7 @@ pub(crate) fn names_place<U: NamedUnit>(unit: &U, e: &Expr) -> bool
 
 /// How many spare storage units an expression takes.
 #[cycle(room)]
-pub(crate) fn room_of<U: NamedUnit>(unit: &U, e: &Expr) -> Result<u32, AllocError>
+pub fn room_of<U: NamedUnit>(unit: &U, e: &Expr) -> Result<u32, AllocError>
     ensures { IfOk result (λ n. n ≡ room_of ((U.layout unit.now).linked.context (U.number unit.now)) (formula_of e.now)) }
 {
     match e {
@@ -99,7 +99,7 @@ pub(crate) fn room_to_hand<U: NamedUnit>(unit: &U, e: &Expr) -> Result<u32, Allo
 
 /// How many actuals take.
 #[cycle(room)]
-pub(crate) fn rooms_to_hand<U: NamedUnit>(unit: &U, list: &[Expr]) -> Result<u32, AllocError>
+pub fn rooms_to_hand<U: NamedUnit>(unit: &U, list: &[Expr]) -> Result<u32, AllocError>
     ensures { IfOk result (λ n. n ≡ rooms_to_hand ((U.layout unit.now).linked.context (U.number unit.now)) (formulas_of list.now)) }
 {
     let mut sum = 0;

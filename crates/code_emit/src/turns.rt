@@ -1,8 +1,7 @@
 // The code of the turns of DO loops, behind the statement at which they end.
 ghost use Rattle.std.specs.Prelude.{◌≡◌, ◌++◌, ◌∷◌, [], IfOk, OnOk, drop, length, map};
-ghost use Rattle.f66_tree.specs.Views.{line_of};
 ghost use Rattle.stack_code.specs.Views.{code_of};
-ghost use Rattle.code_gen.specs.Statements.{enders, turns_code, turns_size};
+ghost use Rattle.code_gen.specs.Statements.{turns_code, turns_size};
 ghost use Rattle.code_emit.specs.Turns.{closer_in};
 
 use crate::acts::limit_of;
@@ -10,7 +9,6 @@ use crate::coded_unit::{CodedUnit, NamedUnit, Turn};
 use crate::operators::put;
 use crate::rooms::plus;
 use crate::variables::put_base;
-use f66_tree::{Stmt, StmtKind};
 use stack_code::Op;
 use std::alloc::AllocError;
 
@@ -22,19 +20,6 @@ pub(crate) fn count_from<U: NamedUnit>(unit: &U, statement: usize) -> Result<u32
     match u32::try_from(count) {
         Ok(count) => Ok(count),
         Err(_) => Err(AllocError),
-    }
-}
-
-/// The loops that end at a statement, the innermost first.
-pub(crate) fn turns_at<'a, U: NamedUnit>(unit: &'a U, statement: &Stmt) -> &'a [Turn<'a>]
-    ensures { map (closer_in ((U.layout unit.now).lines (U.number unit.now))) result.now ≡ enders (U.layout unit.now) (U.number unit.now) (line_of statement.now) }
-{
-    if let StmtKind::Loop(_, _, _, _, _) = statement.kind {
-        return &[];
-    }
-    match statement.label {
-        None => &[],
-        Some(label) => unit.turns(label),
     }
 }
 

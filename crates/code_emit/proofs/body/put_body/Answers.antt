@@ -1,7 +1,6 @@
 -- One statement more, and the end.
-use Rattle.std.proofs.Common.{◌≡◌, ◌+◌, ◌++◌, List, length, drop, refl, ap, sym, subst, ◌∙◌}
+use Rattle.std.proofs.Common.{◌≡◌, ◌+◌, ◌++◌, List, length, refl, ap, sym, subst, ◌∙◌}
 use Rattle.f66_tree.specs.Syntax.{Line}
-use Rattle.f66_tree.specs.Views.{line_of}
 use Rattle.stack_code.specs.Views.{code_of}
 use Rattle.code_gen.specs.Statements.{body_code, body_size, stop}
 use Rattle.code_emit.proofs.BodyLemmas.{body_end, lines_at, lines_from}

@@ -1,5 +1,5 @@
 -- Each turn has two instructions.
-use Rattle.std.proofs.Common.{◌≡◌, ℕ, ◌+◌, List, [], ◌∷◌, length, map, refl, arith, rules}
+use Rattle.std.proofs.Common.{◌≡◌, ◌+◌, List, [], ◌∷◌, length, map, refl, arith, rules}
 use Rattle.f66_tree.specs.Syntax.{Line}
 use Rattle.code_gen.specs.Statements.{turns_size}
 use Rattle.code_emit.specs.declared.coded_unit.Turn.{Turn}
