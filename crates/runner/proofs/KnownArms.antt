@@ -232,7 +232,7 @@ module _ (f n : ℕ) (buffer : List Word) (top : ℕ) (le : top ≤ length buffe
   abbrev pushing : List Content → List Entry → Out Core
   pushing vs rest = pushed s rest w (intrinsic_by (known f) vs)
 
-  values : Taken Val (act plans (Some (i.Known f n)) s w) pushing buffer n 0 top
+  values : Taken Val (act plans (Some (i.Known f n)) s w) pushing buffer n 0 top s.stack
   values = taken_values buffer P w n 0 s.stack [] pushing top le refl st tt h
 
   values_given : IsGiven (intrinsic_by (known f) values.got)

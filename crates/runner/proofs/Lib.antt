@@ -16,4 +16,17 @@ pub mod Measure
 pub mod Roles
 pub mod Live
 pub mod Turn
+pub mod Moving
+pub mod Starting
+pub mod Recorded
+pub mod Transferring
+pub mod Keeping
+pub mod Exchanging
+pub mod ItemArms
+pub mod RowSteps
+pub mod Extents
+pub mod RowArms
+pub mod UnderWay
+pub mod RecordArms
 pub mod Calls
+pub mod Opening

@@ -17,7 +17,7 @@ use Rattle.runner.specs.Reaching.{capped, advanced, value_at, reaches, Alike, Sa
 
 -- ---- numbers that are the same up to the cap ----
 
-alike_capped : (a b : ℕ) → Alike a b → Alike (capped a) b
+pub alike_capped : (a b : ℕ) → Alike a b → Alike (capped a) b
 alike_capped a b alike = by_test (nat_lt a (2 ^ 31)) refl alike
   where
     by_test : (t : Bool) → nat_lt a (2 ^ 31) ≡ t → Alike a b → Alike (if t then a else 2 ^ 31) b
@@ -29,7 +29,7 @@ alike_capped a b alike = by_test (nat_lt a (2 ^ 31)) refl alike
 many_times : (k n : ℕ) → 2 ^ 31 ≤ n → 2 ^ 31 ≤ suc k * n
 many_times k n large = grind arith
 
-alike_times : (k a b : ℕ) → Alike a b → Alike (k * a) (k * b)
+pub alike_times : (k a b : ℕ) → Alike a b → Alike (k * a) (k * b)
 alike_times k a b (Same same) = Same (ap (λ (x : ℕ). k * x) same)
 alike_times zero a b (Many m n) = Same (omega arith)
 alike_times (suc k) a b (Many m n) = Many (many_times k a m) (many_times k b n)

@@ -1,14 +1,19 @@
 -- What the role of an instruction tells of it.
-use Rattle.std.proofs.Common.{◌≡◌, ℕ, ◌+◌, ◌<◌, ◌^◌, true, false, List, Some, None, refl, sym, subst, arith}
+use Rattle.std.proofs.Common.{◌≡◌, ℕ, ◌+◌, ◌<◌, ◌^◌, true, false, List, [], ◌∷◌, Some, None, refl, sym, subst, arith}
 use Rattle.std.proofs.lemmas.Bool.{leb-true, ltb-true, and_parts}
 use Rattle.ground.specs.Content.{Nothing, Whole, Truth}
 use Rattle.stack_code.specs.Instructions as i
 use Rattle.stack_code.specs.Instructions.{Instruction}
-use Rattle.stack_code.specs.ValidCode.{is_counted, is_in_range}
+use Rattle.stack_code.specs.ValidCode.{ways, is_counted, is_in_range}
 use Rattle.runner.specs.declared.run.Role.{Role}
 use Rattle.runner.specs.declared.run.Role.TheVariants as roles
 use Rattle.runner.specs.Work.{is_leap}
+use Rattle.runner.specs.Recording.{HasPlan}
 use Rattle.runner.specs.Running.{role, HasRange, HasUnits}
+
+-- it leads to the next instruction
+abbrev pub IsNext : Instruction → Type 0
+IsNext j = (pc : ℕ) → ways j pc ≡ (pc + 1) ∷ []
 
 abbrev pub Tells : Role → Instruction → Type 0
 Tells (roles.Begins p) j = j ≡ i.Begin p
@@ -22,7 +27,7 @@ Tells (roles.Loops limit step to) j = j ≡ i.LoopTurn limit step to
 Tells (roles.Dummies n) j = j ≡ i.Dummy n
 Tells (roles.Calls to n) j = j ≡ i.Call to n
 Tells roles.Returns j = j ≡ i.Return
-Tells roles.Other j = Unit {0}
+Tells roles.Records j = (is_counted (Some j) ≡ false) × IsNext j
 
 tells : (j : Instruction) → Tells (role j) j
 tells (i.Begin p) = refl
@@ -48,10 +53,10 @@ tells (i.LoopStart limit step) = refl
 tells (i.LoopTurn limit step to) = refl
 tells (i.Call to n) = refl
 tells i.Return = refl
-tells (i.Start way n) = tt
-tells (i.Item way k) = tt
-tells (i.Row way k n) = tt
-tells i.Finish = tt
+tells (i.Start way n) = (refl, λ pc. refl)
+tells (i.Item way k) = (refl, λ pc. refl)
+tells (i.Row way k n) = (refl, λ pc. refl)
+tells i.Finish = (refl, λ pc. refl)
 tells (i.Halt None) = refl
 tells (i.Halt (Some n)) = refl
 
@@ -119,6 +124,37 @@ units_of code plans units pc (i.Item way k) h = tt
 units_of code plans units pc (i.Row way k n) h = tt
 units_of code plans units pc i.Finish h = tt
 units_of code plans units pc (i.Halt n) h = tt
+
+-- the format of a statement that begins is there
+pub plan_of : (code : List Instruction) (plans units pc : ℕ) (j : Instruction) → is_in_range code plans units pc j ≡ true → HasPlan j plans
+plan_of code plans units pc (i.Start way n) h = ltb-true n plans h
+plan_of code plans units pc (i.Begin p) h = tt
+plan_of code plans units pc i.Step h = tt
+plan_of code plans units pc (i.Push v) h = tt
+plan_of code plans units pc (i.PushSpot first size) h = tt
+plan_of code plans units pc (i.Dummy n) h = tt
+plan_of code plans units pc (i.Element n) h = tt
+plan_of code plans units pc (i.Load k) h = tt
+plan_of code plans units pc i.Store h = tt
+plan_of code plans units pc i.Forget h = tt
+plan_of code plans units pc (i.Lend q) h = tt
+plan_of code plans units pc (i.Both op) h = tt
+plan_of code plans units pc (i.Compare op) h = tt
+plan_of code plans units pc i.Minus h = tt
+plan_of code plans units pc i.Not h = tt
+plan_of code plans units pc (i.Known g n) h = tt
+plan_of code plans units pc (i.Jump to) h = tt
+plan_of code plans units pc (i.JumpFalse to) h = tt
+plan_of code plans units pc (i.JumpSign a b c) h = tt
+plan_of code plans units pc (i.JumpTable ts) h = tt
+plan_of code plans units pc (i.LoopStart limit step) h = tt
+plan_of code plans units pc (i.LoopTurn limit step to) h = tt
+plan_of code plans units pc (i.Call to n) h = tt
+plan_of code plans units pc i.Return h = tt
+plan_of code plans units pc (i.Item way k) h = tt
+plan_of code plans units pc (i.Row way k n) h = tt
+plan_of code plans units pc i.Finish h = tt
+plan_of code plans units pc (i.Halt n) h = tt
 
 -- the units of a DO are there
 pub loop_units : (code : List Instruction) (plans units pc limit step to : ℕ) → is_in_range code plans units pc (i.LoopTurn limit step to) ≡ true → (limit < units) × (step < units)

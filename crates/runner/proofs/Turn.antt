@@ -1,42 +1,47 @@
 -- What is known at each turn of the loop, and what one more turn keeps.
-use Rattle.std.proofs.Common.{◌≡◌, ℕ, zero, suc, ◌+◌, ◌-◌, ◌*◌, ◌<◌, ◌≤◌, List, [], ◌∷◌, length, get_or, Option, Some, None, refl, sym, ap, ◌∙◌, subst, arith, slice_get}
+use Rattle.std.proofs.Common.{◌≡◌, ℕ, zero, suc, ◌+◌, ◌-◌, ◌*◌, ◌<◌, ◌≤◌, List, [], ◌∷◌, ◌++◌, length, get_or, Option, Some, None, refl, sym, ap, ◌∙◌, subst, arith, slice_get}
 use Rattle.std.specs.Prelude.{Ok, true, false, option_map}
 use Rattle.std.proofs.lemmas.Option.{slice_get-map, slice_get_read, slice_get_within}
 use Rattle.ground.specs.declared.place.Place.{Place}
 use Rattle.ground.specs.declared.trap.Trap.{Trap}
 use Rattle.ground.specs.Content.{Nothing}
 use Rattle.f66_tree.specs.Fields.{Fields}
-use Rattle.f66_tree.specs.World.{Record, World, End, Out, Gives, Halts, GoesOn, Ended, Trapped, bind, take_from, holding}
+use Rattle.f66_tree.specs.Turns.{Hand}
+use Rattle.format_io.specs.Places.{Stand as Standing}
+use Rattle.f66_tree.specs.World.{empty_hand, Record, World, End, Out, Gives, Halts, GoesOn, Ended, Trapped, bind, take_from, holding}
 use Rattle.stack_code.specs.declared.op.Op.{Op}
 use Rattle.stack_code.specs.declared.valid.Code.{Code}
 use Rattle.stack_code.specs.Instructions as i
 use Rattle.stack_code.specs.Instructions.{Instruction}
 use Rattle.stack_code.specs.Views.{instruction_of, code_of}
 use Rattle.stack_code.specs.StackMachine.{At, Core, act, jump, start, first_world, empty, entered, next, stopped}
-use Rattle.stack_code.specs.ValidCode.{IsIn, ways, is_counted, is_in_range}
+use Rattle.stack_code.specs.ValidCode.{Open, opens, IsIn, ways, is_counted, is_in_range}
 use Rattle.stack_code.specs.Safety.{IsRight, AllWithin, IsSafe, ValidIsSafe}
 use Rattle.runner.specs.declared.words.Word.{Word}
 use Rattle.runner.specs.declared.words.Cell.{Cell}
 use Rattle.runner.specs.declared.words.Cell.TheVariants as cell
-use Rattle.runner.specs.declared.run.End.{End as TheEnd}
-use Rattle.runner.specs.declared.run.Ran.{Ran}
 use Rattle.runner.specs.declared.frames.Resume.{Resume}
 use Rattle.runner.specs.Words.{Stand, Agrees, Lies, content_in, pile_of}
 use Rattle.runner.specs.Frames.{Level, Framed}
 use Rattle.runner.specs.Work.{MayWork, MayHold, IsFine, IsAtMost, GoesOver, Works, Holds, Leaps, LeapsOver, is_leap}
-use Rattle.runner.specs.Running.{bounded, ran, end_of, RunsTo, IsValidCode, IsRunOf, program}
+use Rattle.runner.specs.Recording.{tape_at, InHand}
+use Rattle.runner.specs.Running.{role, is_apart, bounded, RunsTo, IsValidCode, program}
 use Rattle.runner.proofs.Measure.{far, nearer_on, nearer_leap, nearer_turn}
 use Rattle.runner.proofs.Cells.{over_same}
 use Rattle.runner.proofs.FrameArms.{times_more}
+use Rattle.runner.proofs.Opening.{NoneOpen, IsOpen, open_first, open_on, open_same, is_straight, straight_apart, leads_on}
 use Rattle.runner.proofs.Live as live
 use Rattle.runner.proofs.Live.{Live, Held, Goes, Stops}
 
--- whatever the input, the locals of the loop stand for a state of the machine
-pub record IsTurn (code : Code) (steps pc left top : ℕ) (stack : List Word) (cells : List Cell) (place : Place) (executed from : ℕ) (level : Level) : Type 0 where
-  pub held : (input : List Record) → Held (program code) input steps pc left (pile_of stack top) cells place code.dummies level executed from
+-- whatever follows the records that were taken, the locals of the loop stand for a state of the machine
+pub record IsTurn (code : Code) (steps pc left top : ℕ) (stack : List Word) (cells : List Cell) (place : Place) (executed from : ℕ) (level : Level) (taken written : List Record) (hand : Hand) (stand : Standing) (plan : ℕ) : Type 0 where
+  pub held : (input : List Record) → Held (program code) (taken ++ input) steps pc left (pile_of stack top) cells place code.dummies level (tape_at hand written input) executed from
   pub within : top ≤ length stack
   pub order : from ≤ pc
   pub units : length cells ≡ code.units
+  pub among : Open
+  pub opened : IsOpen (code_of code.ops.items) pc among
+  pub in_hand : InHand code.plans.items among hand stand plan
 
 -- one more instruction than up to here is counted
 abbrev pub CountsOne : ℕ → ℕ → ℕ → ℕ → Type 0
@@ -54,13 +59,16 @@ empty_agrees cells h = record { same = λ q. by q (slice_get cells q) refl; smal
     by q (Some x) e = sym (ap content_in (h q (slice_get_within cells q x e)))
 
 -- at first
-pub begins : (code : Code) (steps : ℕ) (stack : List Word) (cells : List Cell) (place : Place) (spots : List Word) (resumes : List Resume) → place ≡ start.frame.place → length cells ≡ code.units → ((q : ℕ) → q < length cells → slice_get cells q ≡ Some cell.Nothing) → IsTurn code steps 0 steps 0 stack cells place 0 0 (record { level = 0; base = 0; spots = spots; resumes = resumes })
-begins code steps stack cells place spots resumes first units none =
+pub begins : (code : Code) (steps : ℕ) (stack : List Word) (cells : List Cell) (place : Place) (spots : List Word) (resumes : List Resume) (stand : Standing) (plan : ℕ) → place ≡ start.frame.place → length cells ≡ code.units → ((q : ℕ) → q < length cells → slice_get cells q ≡ Some cell.Nothing) → IsTurn code steps 0 steps 0 stack cells place 0 0 (record { level = 0; base = 0; spots = spots; resumes = resumes }) [] [] empty_hand stand plan
+begins code steps stack cells place spots resumes stand plan first units none =
     record {
-      held = λ input. record { count = 0; core = start; world = first_world input steps; comes = refl; live = record { here = refl; stack = tt; line = sym first; agrees = empty_agrees cells none; rest = refl; sums = omega arith; written = refl; framed = record { base = omega arith; own = tt; wait = refl } }; base = 0; told = refl; adds = omega arith };
+      held = λ input. record { count = 0; core = start; world = first_world input steps; comes = refl; live = record { here = refl; stack = tt; line = sym first; agrees = empty_agrees cells none; rest = refl; sums = omega arith; taped = refl; framed = record { base = omega arith; own = tt; wait = refl } }; waits = tt; base = 0; told = refl; adds = omega arith };
       within = omega arith;
       order = omega arith;
       units = units;
+      among = None;
+      opened = open_first (code_of code.ops.items);
+      in_hand = tt;
     }
 
 right_fine : (P : Core → Type 0) (o : Out Core) → IsRight P o → IsFine o
@@ -71,12 +79,12 @@ right_more : (P Q : Core → Type 0) (o : Out Core) → ((s : Core) → P s → 
 right_more P Q (Gives s w) f h = f s h
 right_more P Q (Halts e w) f h = h
 
-module _ {code : Code} (valid : IsValidCode code) (law : ValidIsSafe) {steps pc left top : ℕ} {stack : List Word} {cells : List Cell} {place : Place} {executed from : ℕ} {level : Level} (t : IsTurn code steps pc left top stack cells place executed from level) where
+module _ {code : Code} (valid : IsValidCode code) (law : ValidIsSafe) {steps pc left top : ℕ} {stack : List Word} {cells : List Cell} {place : Place} {executed from : ℕ} {level : Level} {taken written : List Record} {hand : Hand} {stand : Standing} {plan : ℕ} (t : IsTurn code steps pc left top stack cells place executed from level taken written hand stand plan) where
   abbrev pub Safe : Core → Type 0
   Safe s = IsSafe (program code) code.units code.stack code.dummies code.depth s
 
   pub safe : (input : List Record) → Safe (t.held input).core
-  safe input = live.now (program code) input steps code.units code.stack code.dummies code.depth valid.valid valid.bounds law pc left (pile_of stack top) cells place level executed from (t.held input)
+  safe input = live.now (program code) (taken ++ input) steps code.units code.stack code.dummies code.depth valid.valid valid.bounds law pc left (pile_of stack top) cells place level (tape_at hand written input) executed from (t.held input)
 
   pub within : pc < length code.ops.items
   within = let a = (safe []).there in let b = (t.held []).live.here in let c = length-code_of code.ops.items in omega arith
@@ -87,7 +95,7 @@ module _ {code : Code} (valid : IsValidCode code) (law : ValidIsSafe) {steps pc 
 
   module _ {j : Instruction} (at : slice_get (code_of code.ops.items) pc ≡ Some j) where
     pub right : (input : List Record) → IsRight Safe (act code.plans.items (Some j) (t.held input).core (t.held input).world)
-    right input = live.right (program code) input steps code.units code.stack code.dummies code.depth valid.valid valid.bounds law pc left (pile_of stack top) cells place level executed from (t.held input) j at
+    right input = live.right (program code) (taken ++ input) steps code.units code.stack code.dummies code.depth valid.valid valid.bounds law pc left (pile_of stack top) cells place level (tape_at hand written input) executed from (t.held input) j at
 
     pub fine : (input : List Record) → IsFine (act code.plans.items (Some j) (t.held input).core (t.held input).world)
     fine input = right_fine _ _ (right input)
@@ -127,110 +135,117 @@ module _ {code : Code} (valid : IsValidCode code) (law : ValidIsSafe) {steps pc 
     nearer_end {limit} {step} {a} {to} e way =
         nearer_turn (code_of code.ops.items) (length code.plans.items) code.units pc limit step a to left level.level (at ∙ ap Some e) (subst (λ x. is_in_range (code_of code.ops.items) (length code.plans.items) code.units pc x ≡ true) e in_range) (omega (arith, within, length-code_of code.ops.items)) way
 
+    pub opened_at : (to : ℕ) → IsIn to (ways j pc) → (o1 : Open) × (opens j t.among ≡ Some o1) × IsOpen (code_of code.ops.items) to o1
+    opened_at to way = open_on (code_of code.ops.items) (length code.plans.items) code.units pc valid.valid t.among t.opened j at to way
+
+    -- the same statement stays open
+    opened_same : (to : ℕ) → IsIn to (ways j pc) → is_apart (role j) ≡ true → IsOpen (code_of code.ops.items) to t.among
+    opened_same to way plain = let o = opened_at to way in subst (IsOpen (code_of code.ops.items) to) (open_same j t.among o.0 plain o.1) o.2
+
     -- ---- the run goes on ----
 
-    to_next : (input : List Record) (to : ℕ) (pile1 : List Word) (cells1 : List Cell) → GoesOver (act code.plans.items (Some j) (t.held input).core (t.held input).world) (t.held input).core (t.held input).world to pile1 cells1 → Goes (act code.plans.items (Some j) (t.held input).core (t.held input).world) steps to left pile1 cells1 place code.dummies level
+    to_next : (input : List Record) (to : ℕ) (pile1 : List Word) (cells1 : List Cell) → GoesOver (act code.plans.items (Some j) (t.held input).core (t.held input).world) (t.held input).core (t.held input).world to pile1 cells1 → Goes (code_of code.ops.items) (act code.plans.items (Some j) (t.held input).core (t.held input).world) steps to left pile1 cells1 place code.dummies level (tape_at hand written input)
     to_next input to pile1 cells1 g =
         let k = t.held input in
         let l = k.live in
         let f = l.framed in
-        record { core = jump k.core to g.stack; world = holding g.store k.world; is = g.is; live = record { here = refl; stack = g.stand; line = l.line; agrees = g.agrees; rest = l.rest; sums = l.sums; written = l.written; framed = record { base = f.base; own = f.own; wait = f.wait } } }
+        record { core = jump k.core to g.stack; world = holding g.store k.world; is = g.is; live = record { here = refl; stack = g.stand; line = l.line; agrees = g.agrees; rest = l.rest; sums = l.sums; taped = l.taped; framed = record { base = f.base; own = f.own; wait = f.wait } }; waits = k.waits }
 
-    goes_on : (input : List Record) (left1 : ℕ) (pile1 : List Word) (cells1 : List Cell) (place1 : Place) → Goes (act code.plans.items (Some j) (t.held input).core (t.held input).world) steps (pc + 1) left1 pile1 cells1 place1 code.dummies level → Held (program code) input steps (pc + 1) left1 pile1 cells1 place1 code.dummies level executed from
+    goes_on : (input : List Record) (left1 : ℕ) (pile1 : List Word) (cells1 : List Cell) (place1 : Place) → Goes (code_of code.ops.items) (act code.plans.items (Some j) (t.held input).core (t.held input).world) steps (pc + 1) left1 pile1 cells1 place1 code.dummies level (tape_at hand written input) → Held (program code) (taken ++ input) steps (pc + 1) left1 pile1 cells1 place1 code.dummies level (tape_at hand written input) executed from
     goes_on input left1 pile1 cells1 place1 g =
         let k = t.held input in
         let adds = k.adds in
         let order = t.order in
-        live.goes (program code) input steps code.units code.stack code.dummies code.depth valid.valid valid.bounds law pc left (pile_of stack top) cells place level executed from k j at (pc + 1) left1 pile1 cells1 place1 level executed from k.base g k.told (omega arith)
+        live.goes (program code) (taken ++ input) steps code.units code.stack code.dummies code.depth valid.valid valid.bounds law pc left (pile_of stack top) cells place level (tape_at hand written input) executed from k j at (pc + 1) left1 pile1 cells1 place1 level (tape_at hand written input) executed from k.base g k.told (omega arith)
 
     -- an instruction is counted that goes on elsewhere
-    pub arrives : (input : List Record) (to left1 : ℕ) (pile1 : List Word) (cells1 : List Cell) (place1 : Place) (level1 : Level) (executed1 : ℕ) → CountsOne executed from pc executed1 → Goes (act code.plans.items (Some j) (t.held input).core (t.held input).world) steps to left1 pile1 cells1 place1 code.dummies level1 → Held (program code) input steps to left1 pile1 cells1 place1 code.dummies level1 executed1 to
+    pub arrives : (input : List Record) (to left1 : ℕ) (pile1 : List Word) (cells1 : List Cell) (place1 : Place) (level1 : Level) (executed1 : ℕ) → CountsOne executed from pc executed1 → Goes (code_of code.ops.items) (act code.plans.items (Some j) (t.held input).core (t.held input).world) steps to left1 pile1 cells1 place1 code.dummies level1 (tape_at hand written input) → Held (program code) (taken ++ input) steps to left1 pile1 cells1 place1 code.dummies level1 (tape_at hand written input) executed1 to
     arrives input to left1 pile1 cells1 place1 level1 executed1 told g =
         let k = t.held input in
         let adds = k.adds in
-        live.goes (program code) input steps code.units code.stack code.dummies code.depth valid.valid valid.bounds law pc left (pile_of stack top) cells place level executed from k j at to left1 pile1 cells1 place1 level1 executed1 to (k.base + (pc - from) + 1) g (told k.base k.told) (omega arith)
+        live.goes (program code) (taken ++ input) steps code.units code.stack code.dummies code.depth valid.valid valid.bounds law pc left (pile_of stack top) cells place level (tape_at hand written input) executed from k j at to left1 pile1 cells1 place1 level1 (tape_at hand written input) executed1 to (k.base + (pc - from) + 1) g (told k.base k.told) (omega arith)
 
     -- at the next instruction
-    pub steps_on : {new : List Word} {cells1 : List Cell} {top1 : ℕ} → ((input : List Record) → GoesOver (act code.plans.items (Some j) (t.held input).core (t.held input).world) (t.held input).core (t.held input).world ((t.held input).core.pc + 1) (pile_of new top1) cells1) → top1 ≤ length new → length cells1 ≡ length cells → IsTurn code steps (pc + 1) left top1 new cells1 place executed from level
-    steps_on {new} {cells1} {top1} g room long =
-        record { held = held; within = room; order = let order = t.order in omega arith; units = long ∙ t.units }
+    pub steps_on : {new : List Word} {cells1 : List Cell} {top1 : ℕ} → is_straight (role j) ≡ true → ((input : List Record) → GoesOver (act code.plans.items (Some j) (t.held input).core (t.held input).world) (t.held input).core (t.held input).world ((t.held input).core.pc + 1) (pile_of new top1) cells1) → top1 ≤ length new → length cells1 ≡ length cells → IsTurn code steps (pc + 1) left top1 new cells1 place executed from level taken written hand stand plan
+    steps_on {new} {cells1} {top1} straight g room long =
+        record { held = held; within = room; order = let order = t.order in omega arith; units = long ∙ t.units; among = t.among; opened = opened_same (pc + 1) (leads_on j pc straight) (straight_apart (role j) straight); in_hand = t.in_hand }
       where
-        held : (input : List Record) → Held (program code) input steps (pc + 1) left (pile_of new top1) cells1 place code.dummies level executed from
+        held : (input : List Record) → Held (program code) (taken ++ input) steps (pc + 1) left (pile_of new top1) cells1 place code.dummies level (tape_at hand written input) executed from
         held input =
             let k = t.held input in
-            goes_on input left (pile_of new top1) cells1 place (subst (λ n. Goes (act code.plans.items (Some j) k.core k.world) steps n left (pile_of new top1) cells1 place code.dummies level) (ap (λ n. n + 1) k.live.here) (to_next input (k.core.pc + 1) (pile_of new top1) cells1 (g input)))
+            goes_on input left (pile_of new top1) cells1 place (subst (λ n. Goes (code_of code.ops.items) (act code.plans.items (Some j) k.core k.world) steps n left (pile_of new top1) cells1 place code.dummies level (tape_at hand written input)) (ap (λ n. n + 1) k.live.here) (to_next input (k.core.pc + 1) (pile_of new top1) cells1 (g input)))
 
     -- or elsewhere
-    jumps_on : {to top1 executed1 : ℕ} {cells1 : List Cell} → CountsOne executed from pc executed1 → ((input : List Record) → GoesOver (act code.plans.items (Some j) (t.held input).core (t.held input).world) (t.held input).core (t.held input).world to (pile_of stack top1) cells1) → top1 ≤ length stack → length cells1 ≡ length cells → IsTurn code steps to left top1 stack cells1 place executed1 to level
-    jumps_on {to} {top1} {executed1} {cells1} told g room long =
-        record { held = λ input. arrives input to left (pile_of stack top1) cells1 place level executed1 told (to_next input to (pile_of stack top1) cells1 (g input)); within = room; order = omega arith; units = long ∙ t.units }
+    jumps_on : {to top1 executed1 : ℕ} {cells1 : List Cell} → CountsOne executed from pc executed1 → IsIn to (ways j pc) → is_apart (role j) ≡ true → ((input : List Record) → GoesOver (act code.plans.items (Some j) (t.held input).core (t.held input).world) (t.held input).core (t.held input).world to (pile_of stack top1) cells1) → top1 ≤ length stack → length cells1 ≡ length cells → IsTurn code steps to left top1 stack cells1 place executed1 to level taken written hand stand plan
+    jumps_on {to} {top1} {executed1} {cells1} told way plain g room long =
+        record { held = λ input. arrives input to left (pile_of stack top1) cells1 place level executed1 told (to_next input to (pile_of stack top1) cells1 (g input)); within = room; order = omega arith; units = long ∙ t.units; among = t.among; opened = opened_same to way plain; in_hand = t.in_hand }
 
-    pub holds_on : {new : List Word} {cells1 : List Cell} {top1 : ℕ} → Holds j stack top cells new cells1 (Ok top1) → top1 ≤ length new → length cells1 ≡ length cells → IsTurn code steps (pc + 1) left top1 new cells1 place executed from level
-    holds_on f room long = steps_on (λ input. let k = t.held input in f code.plans.items k.core k.world k.live.stack k.live.agrees (fine input)) room long
+    pub holds_on : {new : List Word} {cells1 : List Cell} {top1 : ℕ} → is_straight (role j) ≡ true → Holds j stack top cells new cells1 (Ok top1) → top1 ≤ length new → length cells1 ≡ length cells → IsTurn code steps (pc + 1) left top1 new cells1 place executed from level taken written hand stand plan
+    holds_on straight f room long = steps_on straight (λ input. let k = t.held input in f code.plans.items k.core k.world k.live.stack k.live.agrees (fine input)) room long
 
-    pub works_on : {new : List Word} {top1 : ℕ} → Works j stack top new (Ok top1) → top1 ≤ length new → IsTurn code steps (pc + 1) left top1 new cells place executed from level
-    works_on f room = steps_on (λ input. let k = t.held input in over_same _ k.core k.world _ _ cells k.live.agrees (f code.plans.items k.core k.world k.live.stack (fine input))) room refl
+    pub works_on : {new : List Word} {top1 : ℕ} → is_straight (role j) ≡ true → Works j stack top new (Ok top1) → top1 ≤ length new → IsTurn code steps (pc + 1) left top1 new cells place executed from level taken written hand stand plan
+    works_on straight f room = steps_on straight (λ input. let k = t.held input in over_same _ k.core k.world _ _ cells k.live.agrees (f code.plans.items k.core k.world k.live.stack (fine input))) room refl
 
-    pub leaps_on : {to top1 executed1 : ℕ} → CountsOne executed from pc executed1 → Leaps j pc stack top (Ok (to, top1)) → top1 ≤ length stack → IsTurn code steps to left top1 stack cells place executed1 to level
-    leaps_on told f room = jumps_on told (λ input. let k = t.held input in over_same _ k.core k.world _ _ cells k.live.agrees (f code.plans.items k.core k.world k.live.here k.live.stack (fine input))) room refl
+    pub leaps_on : {to top1 executed1 : ℕ} → CountsOne executed from pc executed1 → IsIn to (ways j pc) → is_apart (role j) ≡ true → Leaps j pc stack top (Ok (to, top1)) → top1 ≤ length stack → IsTurn code steps to left top1 stack cells place executed1 to level taken written hand stand plan
+    leaps_on told way plain f room = jumps_on told way plain (λ input. let k = t.held input in over_same _ k.core k.world _ _ cells k.live.agrees (f code.plans.items k.core k.world k.live.here k.live.stack (fine input))) room refl
 
-    pub loops_on : {to top1 executed1 : ℕ} {cells1 : List Cell} → CountsOne executed from pc executed1 → LeapsOver j pc stack top cells cells1 (Ok (to, top1)) → top1 ≤ length stack → length cells1 ≡ length cells → IsTurn code steps to left top1 stack cells1 place executed1 to level
-    loops_on told f room long = jumps_on told (λ input. let k = t.held input in f code.plans.items k.core k.world k.live.here k.live.stack k.live.agrees (fine input)) room long
+    pub loops_on : {to top1 executed1 : ℕ} {cells1 : List Cell} → CountsOne executed from pc executed1 → IsIn to (ways j pc) → is_apart (role j) ≡ true → LeapsOver j pc stack top cells cells1 (Ok (to, top1)) → top1 ≤ length stack → length cells1 ≡ length cells → IsTurn code steps to left top1 stack cells1 place executed1 to level taken written hand stand plan
+    loops_on told way plain f room long = jumps_on told way plain (λ input. let k = t.held input in f code.plans.items k.core k.world k.live.here k.live.stack k.live.agrees (fine input)) room long
 
     -- ---- the run ends ----
 
-    over : (end : End) (executed1 : ℕ) → CountsOne executed from pc executed1 → ((input : List Record) → Stops (act code.plans.items (Some j) (t.held input).core (t.held input).world) end steps left) → (input : List Record) → RunsTo (program code) input steps end left executed1
+    over : (end : End) (executed1 : ℕ) → CountsOne executed from pc executed1 → ((input : List Record) → Stops (act code.plans.items (Some j) (t.held input).core (t.held input).world) written end steps left) → (input : List Record) → RunsTo (program code) (taken ++ input) steps written end left executed1
     over end executed1 told stops input =
         let k = t.held input in
         let adds = k.adds in
         let same : k.base + (pc - from) + 1 ≡ suc k.count = omega arith in
-        live.ends (program code) input steps code.units code.stack code.dummies code.depth valid.valid valid.bounds law pc left (pile_of stack top) cells place level executed from k j at end executed1 (stops input) (told k.base k.told ∙ ap bounded same)
+        live.ends (program code) (taken ++ input) steps code.units code.stack code.dummies code.depth valid.valid valid.bounds law pc left (pile_of stack top) cells place level (tape_at hand written input) executed from k j at written end executed1 (stops input) (told k.base k.told ∙ ap bounded same)
 
-    ends_at : (input : List Record) (o : Out Core) (end : End) → o ≡ Halts end (t.held input).world → Stops o end steps left
-    ends_at input o end is = let l = (t.held input).live in record { world = (t.held input).world; is = is; count = let e = l.sums in let f = l.rest in omega arith; written = l.written }
+    ends_at : (input : List Record) (o : Out Core) (end : End) → o ≡ Halts end (t.held input).world → Stops o written end steps left
+    ends_at input o end is = let l = (t.held input).live in record { world = (t.held input).world; is = is; count = let e = l.sums in let f = l.rest in omega arith; shows = ap (λ x. x.written) l.taped }
 
-    trapped_over : (trap : Trap) (executed1 : ℕ) → CountsOne executed from pc executed1 → ((input : List Record) → act code.plans.items (Some j) (t.held input).core (t.held input).world ≡ Halts (Ended (Trapped trap (t.held input).core.frame.place)) (t.held input).world) → (input : List Record) → RunsTo (program code) input steps (Ended (Trapped trap place)) left executed1
+    trapped_over : (trap : Trap) (executed1 : ℕ) → CountsOne executed from pc executed1 → ((input : List Record) → act code.plans.items (Some j) (t.held input).core (t.held input).world ≡ Halts (Ended (Trapped trap (t.held input).core.frame.place)) (t.held input).world) → (input : List Record) → RunsTo (program code) (taken ++ input) steps written (Ended (Trapped trap place)) left executed1
     trapped_over trap executed1 told is =
         over (Ended (Trapped trap place)) executed1 told (λ input. let k = t.held input in ends_at input _ _ (is input ∙ ap (λ p. Halts (Ended (Trapped trap p)) k.world) k.live.line))
 
-    pub holds_over : {trap : Trap} {executed1 : ℕ} → CountsOne executed from pc executed1 → ((plans : List Fields) (s : Core) (w : World) → Stand s.stack (pile_of stack top) → Agrees cells w.state.store → IsFine (act plans (Some j) s w) → act plans (Some j) s w ≡ Halts (Ended (Trapped trap s.frame.place)) w) → (input : List Record) → RunsTo (program code) input steps (Ended (Trapped trap place)) left executed1
+    pub holds_over : {trap : Trap} {executed1 : ℕ} → CountsOne executed from pc executed1 → ((plans : List Fields) (s : Core) (w : World) → Stand s.stack (pile_of stack top) → Agrees cells w.state.store → IsFine (act plans (Some j) s w) → act plans (Some j) s w ≡ Halts (Ended (Trapped trap s.frame.place)) w) → (input : List Record) → RunsTo (program code) (taken ++ input) steps written (Ended (Trapped trap place)) left executed1
     holds_over {trap} {executed1} told f = trapped_over trap executed1 told (λ input. let k = t.held input in f code.plans.items k.core k.world k.live.stack k.live.agrees (fine input))
 
-    pub works_over : {trap : Trap} {executed1 : ℕ} → CountsOne executed from pc executed1 → ((plans : List Fields) (s : Core) (w : World) → Stand s.stack (pile_of stack top) → IsFine (act plans (Some j) s w) → act plans (Some j) s w ≡ Halts (Ended (Trapped trap s.frame.place)) w) → (input : List Record) → RunsTo (program code) input steps (Ended (Trapped trap place)) left executed1
+    pub works_over : {trap : Trap} {executed1 : ℕ} → CountsOne executed from pc executed1 → ((plans : List Fields) (s : Core) (w : World) → Stand s.stack (pile_of stack top) → IsFine (act plans (Some j) s w) → act plans (Some j) s w ≡ Halts (Ended (Trapped trap s.frame.place)) w) → (input : List Record) → RunsTo (program code) (taken ++ input) steps written (Ended (Trapped trap place)) left executed1
     works_over {trap} {executed1} told f = trapped_over trap executed1 told (λ input. let k = t.held input in f code.plans.items k.core k.world k.live.stack (fine input))
 
-    pub leaps_over : {trap : Trap} {executed1 : ℕ} → CountsOne executed from pc executed1 → ((plans : List Fields) (s : Core) (w : World) → s.pc ≡ pc → Stand s.stack (pile_of stack top) → IsFine (act plans (Some j) s w) → act plans (Some j) s w ≡ Halts (Ended (Trapped trap s.frame.place)) w) → (input : List Record) → RunsTo (program code) input steps (Ended (Trapped trap place)) left executed1
+    pub leaps_over : {trap : Trap} {executed1 : ℕ} → CountsOne executed from pc executed1 → ((plans : List Fields) (s : Core) (w : World) → s.pc ≡ pc → Stand s.stack (pile_of stack top) → IsFine (act plans (Some j) s w) → act plans (Some j) s w ≡ Halts (Ended (Trapped trap s.frame.place)) w) → (input : List Record) → RunsTo (program code) (taken ++ input) steps written (Ended (Trapped trap place)) left executed1
     leaps_over {trap} {executed1} told f = trapped_over trap executed1 told (λ input. let k = t.held input in f code.plans.items k.core k.world k.live.here k.live.stack (fine input))
 
-    pub loops_over : {trap : Trap} {executed1 : ℕ} → CountsOne executed from pc executed1 → ((plans : List Fields) (s : Core) (w : World) → s.pc ≡ pc → Stand s.stack (pile_of stack top) → Agrees cells w.state.store → IsFine (act plans (Some j) s w) → act plans (Some j) s w ≡ Halts (Ended (Trapped trap s.frame.place)) w) → (input : List Record) → RunsTo (program code) input steps (Ended (Trapped trap place)) left executed1
+    pub loops_over : {trap : Trap} {executed1 : ℕ} → CountsOne executed from pc executed1 → ((plans : List Fields) (s : Core) (w : World) → s.pc ≡ pc → Stand s.stack (pile_of stack top) → Agrees cells w.state.store → IsFine (act plans (Some j) s w) → act plans (Some j) s w ≡ Halts (Ended (Trapped trap s.frame.place)) w) → (input : List Record) → RunsTo (program code) (taken ++ input) steps written (Ended (Trapped trap place)) left executed1
     loops_over {trap} {executed1} told f = trapped_over trap executed1 told (λ input. let k = t.held input in f code.plans.items k.core k.world k.live.here k.live.stack k.live.agrees (fine input))
 
-    pub halts_over : (n : Option ℕ) {executed1 : ℕ} → CountsOne executed from pc executed1 → j ≡ i.Halt n → (input : List Record) → RunsTo (program code) input steps (stopped n) left executed1
+    pub halts_over : (n : Option ℕ) {executed1 : ℕ} → CountsOne executed from pc executed1 → j ≡ i.Halt n → (input : List Record) → RunsTo (program code) (taken ++ input) steps written (stopped n) left executed1
     halts_over n {executed1} told is = over (stopped n) executed1 told (λ input. let k = t.held input in ends_at input _ _ (ap (λ x. act code.plans.items (Some x) k.core k.world) is))
 
     -- ---- a statement begins, or a turn of an implied DO ----
 
     module _ (begun : Core → Core) (p : Place) (is : (s : Core) (w : World) → act code.plans.items (Some j) s w ≡ bind (take_from w.state w.left w.count) (λ _ w1. Gives (begun s) w1)) where
-      counted_by : (s : Core) (w : World) (n : ℕ) → n ≡ left → (left ≡ 0 → ⊥) → Live steps pc left (pile_of stack top) cells place code.dummies level s w → (begun s).pc ≡ s.pc + 1 → (begun s).stack ≡ s.stack → (begun s).frame.place ≡ p → Framed code.dummies level (begun s) → Goes (bind (take_from w.state n w.count) (λ _ w1. Gives (begun s) w1)) steps (pc + 1) (left - 1) (pile_of stack top) cells p code.dummies level
-      counted_by s w zero e some l one two three four = absurd (some (sym e))
-      counted_by s w (suc m) e some l one two three four =
+      counted_by : (input : List Record) (s : Core) (w : World) (n : ℕ) → n ≡ left → (left ≡ 0 → ⊥) → Live steps pc left (pile_of stack top) cells place code.dummies level (tape_at hand written input) s w → (begun s).pc ≡ s.pc + 1 → (begun s).stack ≡ s.stack → (begun s).frame.place ≡ p → Framed code.dummies level (begun s) → NoneOpen (code_of code.ops.items) (begun s).callers → Goes (code_of code.ops.items) (bind (take_from w.state n w.count) (λ _ w1. Gives (begun s) w1)) steps (pc + 1) (left - 1) (pile_of stack top) cells p code.dummies level (tape_at hand written input)
+      counted_by input s w zero e some l one two three four five = absurd (some (sym e))
+      counted_by input s w (suc m) e some l one two three four five =
           let sums = l.sums in
-          record { core = begun s; world = record { state = w.state; left = m; count = w.count + 1 }; is = refl; live = record { here = one ∙ ap (λ n. n + 1) l.here; stack = subst (λ es. Stand es (pile_of stack top)) (sym two) l.stack; line = three; agrees = l.agrees; rest = omega arith; sums = omega arith; written = l.written; framed = four } }
+          record { core = begun s; world = record { state = w.state; left = m; count = w.count + 1 }; is = refl; live = record { here = one ∙ ap (λ n. n + 1) l.here; stack = subst (λ es. Stand es (pile_of stack top)) (sym two) l.stack; line = three; agrees = l.agrees; rest = omega arith; sums = omega arith; taped = l.taped; framed = four }; waits = five }
 
-      counts_on : (left ≡ 0 → ⊥) → ((s : Core) → (begun s).pc ≡ s.pc + 1) → ((s : Core) → (begun s).stack ≡ s.stack) → ((s : Core) → s.frame.place ≡ place → (begun s).frame.place ≡ p) → ((s : Core) → Framed code.dummies level s → Framed code.dummies level (begun s)) → IsTurn code steps (pc + 1) (left - 1) top stack cells p executed from level
-      counts_on some one two three four = record { held = held; within = t.within; order = let order = t.order in omega arith; units = t.units }
+      counts_on : is_straight (role j) ≡ true → (left ≡ 0 → ⊥) → ((s : Core) → (begun s).pc ≡ s.pc + 1) → ((s : Core) → (begun s).stack ≡ s.stack) → ((s : Core) → s.frame.place ≡ place → (begun s).frame.place ≡ p) → ((s : Core) → Framed code.dummies level s → Framed code.dummies level (begun s)) → ((s : Core) → (begun s).callers ≡ s.callers) → IsTurn code steps (pc + 1) (left - 1) top stack cells p executed from level taken written hand stand plan
+      counts_on straight some one two three four five = record { held = held; within = t.within; order = let order = t.order in omega arith; units = t.units; among = t.among; opened = opened_same (pc + 1) (leads_on j pc straight) (straight_apart (role j) straight); in_hand = t.in_hand }
         where
-          held : (input : List Record) → Held (program code) input steps (pc + 1) (left - 1) (pile_of stack top) cells p code.dummies level executed from
+          held : (input : List Record) → Held (program code) (taken ++ input) steps (pc + 1) (left - 1) (pile_of stack top) cells p code.dummies level (tape_at hand written input) executed from
           held input =
               let k = t.held input in
-              goes_on input (left - 1) (pile_of stack top) cells p (subst (λ o. Goes o steps (pc + 1) (left - 1) (pile_of stack top) cells p code.dummies level) (sym (is k.core k.world)) (counted_by k.core k.world k.world.left k.live.rest some k.live (one k.core) (two k.core) (three k.core k.live.line) (four k.core k.live.framed)))
+              goes_on input (left - 1) (pile_of stack top) cells p (subst (λ o. Goes (code_of code.ops.items) o steps (pc + 1) (left - 1) (pile_of stack top) cells p code.dummies level (tape_at hand written input)) (sym (is k.core k.world)) (counted_by input k.core k.world k.world.left k.live.rest some k.live (one k.core) (two k.core) (three k.core k.live.line) (four k.core k.live.framed) (subst (NoneOpen (code_of code.ops.items)) (sym (five k.core)) k.waits)))
 
-      none_by : (s : Core) (w : World) (n : ℕ) → n ≡ left → left ≡ 0 → Live steps pc left (pile_of stack top) cells place code.dummies level s w → Stops (bind (take_from w.state n w.count) (λ _ w1. Gives (begun s) w1)) GoesOn steps left
-      none_by s w zero e none l = record { world = record { state = w.state; left = 0; count = w.count }; is = refl; count = let e1 = l.sums in omega arith; written = l.written }
-      none_by s w (suc m) e none l = absurd (omega arith)
+      none_by : (input : List Record) (s : Core) (w : World) (n : ℕ) → n ≡ left → left ≡ 0 → Live steps pc left (pile_of stack top) cells place code.dummies level (tape_at hand written input) s w → Stops (bind (take_from w.state n w.count) (λ _ w1. Gives (begun s) w1)) written GoesOn steps left
+      none_by input s w zero e none l = record { world = record { state = w.state; left = 0; count = w.count }; is = refl; count = let e1 = l.sums in omega arith; shows = ap (λ x. x.written) l.taped }
+      none_by input s w (suc m) e none l = absurd (omega arith)
 
-      counts_out : {executed1 : ℕ} → CountsOne executed from pc executed1 → left ≡ 0 → (input : List Record) → RunsTo (program code) input steps GoesOn left executed1
-      counts_out {executed1} told none = over GoesOn executed1 told (λ input. let k = t.held input in subst (λ o. Stops o GoesOn steps left) (sym (is k.core k.world)) (none_by k.core k.world k.world.left k.live.rest none k.live))
+      counts_out : {executed1 : ℕ} → CountsOne executed from pc executed1 → left ≡ 0 → (input : List Record) → RunsTo (program code) (taken ++ input) steps written GoesOn left executed1
+      counts_out {executed1} told none = over GoesOn executed1 told (λ input. let k = t.held input in subst (λ o. Stops o written GoesOn steps left) (sym (is k.core k.world)) (none_by input k.core k.world k.world.left k.live.rest none k.live))
 
     begin_is : (p : Place) → j ≡ i.Begin p → (s : Core) (w : World) → act code.plans.items (Some j) s w ≡ bind (take_from w.state w.left w.count) (λ _ w1. Gives (entered s p) w1)
     begin_is p e s w = ap (λ x. act code.plans.items (Some x) s w) e
@@ -238,18 +253,14 @@ module _ {code : Code} (valid : IsValidCode code) (law : ValidIsSafe) {steps pc 
     step_is : j ≡ i.Step → (s : Core) (w : World) → act code.plans.items (Some j) s w ≡ bind (take_from w.state w.left w.count) (λ _ w1. Gives (next s s.stack) w1)
     step_is e s w = ap (λ x. act code.plans.items (Some x) s w) e
 
-    pub begins_on : {p : Place} → j ≡ i.Begin p → (left ≡ 0 → ⊥) → IsTurn code steps (pc + 1) (left - 1) top stack cells p executed from level
-    begins_on {p} e some = counts_on (λ s. entered s p) p (begin_is p e) some (λ s. refl) (λ s. refl) (λ s h. refl) (λ s f. record { base = f.base; own = f.own; wait = f.wait })
+    pub begins_on : {p : Place} → j ≡ i.Begin p → (left ≡ 0 → ⊥) → IsTurn code steps (pc + 1) (left - 1) top stack cells p executed from level taken written hand stand plan
+    begins_on {p} e some = counts_on (λ s. entered s p) p (begin_is p e) (ap (λ x. is_straight (role x)) e) some (λ s. refl) (λ s. refl) (λ s h. refl) (λ s f. record { base = f.base; own = f.own; wait = f.wait }) (λ s. refl)
 
-    pub begins_out : {p : Place} {executed1 : ℕ} → j ≡ i.Begin p → CountsOne executed from pc executed1 → left ≡ 0 → (input : List Record) → RunsTo (program code) input steps GoesOn left executed1
+    pub begins_out : {p : Place} {executed1 : ℕ} → j ≡ i.Begin p → CountsOne executed from pc executed1 → left ≡ 0 → (input : List Record) → RunsTo (program code) (taken ++ input) steps written GoesOn left executed1
     begins_out {p} e told none = counts_out (λ s. entered s p) p (begin_is p e) told none
 
-    pub turns_on : j ≡ i.Step → (left ≡ 0 → ⊥) → IsTurn code steps (pc + 1) (left - 1) top stack cells place executed from level
-    turns_on e some = counts_on (λ s. next s s.stack) place (step_is e) some (λ s. refl) (λ s. refl) (λ s h. h) (λ s f. record { base = f.base; own = f.own; wait = f.wait })
+    pub turns_on : j ≡ i.Step → (left ≡ 0 → ⊥) → IsTurn code steps (pc + 1) (left - 1) top stack cells place executed from level taken written hand stand plan
+    turns_on e some = counts_on (λ s. next s s.stack) place (step_is e) (ap (λ x. is_straight (role x)) e) some (λ s. refl) (λ s. refl) (λ s h. h) (λ s f. record { base = f.base; own = f.own; wait = f.wait }) (λ s. refl)
 
-    pub turns_out : {executed1 : ℕ} → j ≡ i.Step → CountsOne executed from pc executed1 → left ≡ 0 → (input : List Record) → RunsTo (program code) input steps GoesOn left executed1
+    pub turns_out : {executed1 : ℕ} → j ≡ i.Step → CountsOne executed from pc executed1 → left ≡ 0 → (input : List Record) → RunsTo (program code) (taken ++ input) steps written GoesOn left executed1
     turns_out e told none = counts_out (λ s. next s s.stack) place (step_is e) told none
-
--- what is answered at the end
-pub answered : (code : Code) (steps : ℕ) (end : TheEnd) (left executed : ℕ) (r : Ran) → r ≡ ran end left executed → ((input : List Record) → RunsTo (program code) input steps (end_of end) left executed) → IsRunOf code steps r
-answered code steps end left executed r e h = subst (IsRunOf code steps) (sym e) h

@@ -5,4 +5,7 @@ pub mod Reaching
 pub mod Arguments
 pub mod Frames
 pub mod Running
+pub mod Endings
+pub mod Recording
+pub mod Exchanges
 pub mod Runners

@@ -2,6 +2,7 @@
 use Rattle.std.specs.Prelude.{◌≡◌, ℕ, zero, suc, ◌+◌, ◌*◌, ◌^◌, ◌≤◌, ℤ, pos, ◌-ℤ◌, unsigned_abs, int_le, nat_lt, ◌&&◌, List, get_or, Option, Some, None, if◌then◌else◌}
 use Rattle.ground.specs.declared.trap.Trap.TheVariants.{Subscript}
 use Rattle.f66_tree.specs.World.{Try, Yields, Traps}
+use Rattle.f66_tree.specs.Statements.{times}
 use Rattle.stack_code.specs.StackMachine.{Spot, At}
 use Rattle.stack_code.specs.ValidCode.{and_then}
 use Rattle.runner.specs.declared.words.Word.{Word}
@@ -41,3 +42,24 @@ abbrev pub IsShifted : Try Spot → Option Word → Type 0
 IsShifted (Yields q) (Some w) = Shows (At q) w
 IsShifted (Traps t) None = t ≡ Subscript
 IsShifted _ _ = ⊥
+
+-- ---- the places of an array ----
+
+-- with one more dimension
+abbrev pub widened : ℕ → ℤ → Option ℕ
+widened far d = if int_le (pos 1) d then Some (capped (far * unsigned_abs d)) else None
+
+-- the product of so many dimensions that lie in a buffer, behind those so far
+abbrev pub product : ℕ → List Word → ℕ → ℕ → Option ℕ
+product far buffer at zero = Some far
+product far buffer at (suc n) = and_then (widened far (value_at buffer at)) (λ next. product next buffer (suc at) n)
+
+-- the number of places, by the same dimensions
+abbrev pub exactly : List Word → ℕ → ℕ → Try ℕ
+exactly buffer at zero = Yields 1
+exactly buffer at (suc n) = times (value_at buffer at) (exactly buffer (suc at) n)
+
+abbrev pub IsProduct : Try ℕ → Option ℕ → ℕ → Type 0
+IsProduct (Yields k) (Some far) m = Alike far (m * k)
+IsProduct (Traps t) None m = t ≡ Subscript
+IsProduct _ _ m = ⊥

@@ -1,5 +1,5 @@
 -- What a run comes to.
-use Rattle.std.specs.Prelude.{◌≡◌, ℕ, suc, ◌+◌, ◌*◌, ◌-◌, ◌^◌, ◌<◌, ◌≤◌, Bool, true, false, List, [], length, Some, None, slice_get, nat_le, if◌then◌else◌}
+use Rattle.std.specs.Prelude.{◌≡◌, ℕ, suc, ◌+◌, ◌*◌, ◌-◌, ◌^◌, ◌<◌, ◌≤◌, Bool, true, false, List, length, Some, None, slice_get, nat_le, if◌then◌else◌}
 use Rattle.ground.specs.Arithmetic.{IsInRange}
 use Rattle.ground.specs.Content.{Whole}
 use Rattle.f66_tree.specs.World as w
@@ -13,7 +13,6 @@ use Rattle.stack_code.specs.Bounds.{IsChecked}
 use Rattle.stack_code.specs.StackMachine.{Program, Runs}
 use Rattle.runner.specs.declared.frames.Resume.{Resume}
 use Rattle.runner.specs.declared.run.End.{End}
-use Rattle.runner.specs.declared.run.End.TheVariants as ends
 use Rattle.runner.specs.declared.run.Ran.{Ran}
 use Rattle.runner.specs.declared.run.Role.{Role}
 use Rattle.runner.specs.declared.run.Role.TheVariants as roles
@@ -46,9 +45,12 @@ role (i.LoopStart limit step) = roles.Holds
 role (i.LoopTurn limit step to) = roles.Loops limit step to
 role (i.Call to n) = roles.Calls to n
 role i.Return = roles.Returns
+role (i.Start way n) = roles.Records
+role (i.Item way k) = roles.Records
+role (i.Row way k n) = roles.Records
+role i.Finish = roles.Records
 role (i.Halt None) = roles.Halts
 role (i.Halt (Some n)) = roles.Stops n
-role _ = roles.Other
 
 -- the operands that the stack's words hold are small enough, and a function has as many arguments as it takes
 abbrev pub HasRange : Instruction → Type 0
@@ -62,14 +64,10 @@ HasUnits (i.Lend q) units = q < units
 HasUnits (i.LoopStart limit step) units = (limit < units) × (step < units)
 HasUnits _ units = Unit {0}
 
--- the instructions that this runner has
-abbrev pub is_plain : Role → Bool
-is_plain roles.Other = false
-is_plain _ = true
-
--- nothing that has to do with records
-abbrev pub IsPlainCode : List Instruction → Type 0
-IsPlainCode code = (pc : ℕ) (i : Instruction) → slice_get code pc ≡ Some i → is_plain (role i) ≡ true
+-- those that have nothing to do with records
+abbrev pub is_apart : Role → Bool
+is_apart roles.Records = false
+is_apart _ = true
 
 abbrev pub IsValidCode : Code → Type 0
 IsValidCode c = IsChecked (code_of c.ops.items) (length c.plans.items) c.units c.stack c.dummies c.depth
@@ -77,7 +75,6 @@ IsValidCode c = IsChecked (code_of c.ops.items) (length c.plans.items) c.units c
 -- the code is valid, its store is empty, and its stack and its levels are great enough
 pub record IsReady (c : Code) (stack : List Word) (held : List Cell) (spots : List Word) (resumes : List Resume) : Type 0 where
   pub valid : IsValidCode c
-  pub plain : IsPlainCode (code_of c.ops.items)
   pub room : suc c.depth * c.stack ≤ length stack
   pub dummies : suc c.depth * c.dummies ≤ length spots
   pub callers : c.depth ≤ length resumes
@@ -92,21 +89,10 @@ bounded n = if nat_le n (2 ^ 64 - 1) then n else 2 ^ 64 - 1
 abbrev pub program : Code → Program
 program c = record { code = code_of c.ops.items; plans = c.plans.items }
 
-pub record RunsTo (c : Program) (input : List Record) (steps : ℕ) (end : w.End) (left shown : ℕ) : Type 0 where
+pub record RunsTo (c : Program) (input : List Record) (steps : ℕ) (records : List Record) (end : w.End) (left shown : ℕ) : Type 0 where
   pub count : ℕ
-  pub runs : Runs c input steps (record { records = []; end = end; work = steps - left }) count
+  pub runs : Runs c input steps (record { records = records; end = end; work = steps - left }) count
   pub executed : shown ≡ bounded count
-
--- the end in the machine's words
-abbrev pub end_of : End → w.End
-end_of ends.Done = w.Ended w.Done
-end_of (ends.Stopped n) = w.Ended (w.Stopped n)
-end_of (ends.Trapped t p) = w.Ended (w.Trapped t p)
-end_of ends.StepLimit = w.GoesOn
 
 abbrev pub ran : End → ℕ → ℕ → Ran
 ran end left executed = record { end = end; left = left; executed = executed }
-
--- the end, the count and the number of instructions are the machine's, whatever the input
-abbrev pub IsRunOf : Code → ℕ → Ran → Type 0
-IsRunOf c steps ran = (input : List Record) → RunsTo (program c) input steps (end_of ran.end) ran.left ran.executed

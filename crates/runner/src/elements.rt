@@ -4,7 +4,7 @@ ghost use Rattle.stack_code.specs.Instructions.{Element};
 ghost use Rattle.stack_code.specs.StackMachine.{Spot, At, shift};
 ghost use Rattle.runner.specs.Words.{Shows};
 ghost use Rattle.runner.specs.Work.{MayWork, Works, IsRoomFor};
-ghost use Rattle.runner.specs.Reaching.{IsCapped, Alike, IsShifted, advanced, reaches, at_first, value_at, capped as capped_at};
+ghost use Rattle.runner.specs.Reaching.{IsCapped, Alike, IsShifted, advanced, reaches, at_first, value_at, product, widened as widened_by, capped as capped_at};
 
 use crate::places::unit_of;
 use crate::words::{Word, push, word_at};
@@ -82,6 +82,45 @@ fn far_of(stack: &[Word], subscripts: usize, sizes: usize, count: usize) -> Opti
     Some(reach.far)
 }
 
+/// The product so far with one more dimension, or None where that is below one.
+fn widened(far: u64, size: i32) -> Option<u64>
+    requires { far ≤ 2 ^ 31 }
+    ensures is { result ≡ widened_by far size }
+    ensures small { IfSome result (λ n. n ≤ 2 ^ 31) }
+{
+    if 1 <= size {
+        Some(capped(far * u64::from(size.unsigned_abs())))
+    } else {
+        None
+    }
+}
+
+/// With the dimension that lies there.
+fn widened_at(far: u64, stack: &[Word], at: usize) -> Option<u64>
+    requires small { far ≤ 2 ^ 31 }
+    requires within { at < length stack.now }
+    ensures is { result ≡ widened_by far (value_at stack.now at) }
+    ensures small { IfSome result (λ n. n ≤ 2 ^ 31) }
+{
+    widened(far, value_of(stack, at))
+}
+
+/// The product of so many dimensions.
+pub(crate) fn extent_of(stack: &[Word], from: usize, count: usize) -> Option<u64>
+    requires { from + count ≤ length stack.now }
+    ensures is { result ≡ product 1 stack.now from count }
+    ensures small { IfSome result (λ n. n ≤ 2 ^ 31) }
+{
+    let mut far = 1;
+    for index in 0..count {
+        match widened_at(far, stack, from + index) {
+            Some(next) => far = next,
+            None => return None,
+        }
+    }
+    Some(far)
+}
+
 /// A unit of a variable with this unit behind it.
 #[inline(always)]
 fn placed(unit: u64, behind: u32) -> Word
@@ -97,7 +136,7 @@ fn placed(unit: u64, behind: u32) -> Word
 
 /// The spot so many places on.
 #[inline(always)]
-fn shifted(word: Word, far: u64) -> Option<Word>
+pub(crate) fn shifted(word: Word, far: u64) -> Option<Word>
     requires spot { (p : Spot) × Shows (At p) word }
     requires few { far ≤ 2 ^ 31 }
     ensures { (p : Spot) (n : ℕ) → Shows (At p) word → Alike far n → IsShifted (shift p n) result }

@@ -1,8 +1,9 @@
 // The loop that runs code, over a stack and a store that are given to it.
-ghost use Rattle.std.specs.Prelude.{◌≡◌, ◌+◌, ◌-◌, ◌<◌, ◌≤◌, ◌^◌, ℕ, length};
+ghost use Rattle.std.specs.Prelude.{◌≡◌, ◌+◌, ◌-◌, ◌<◌, ◌≤◌, ◌^◌, ℕ, [], length};
 ghost use Rattle.stack_code.specs.Views.{code_of, instruction_of};
 ghost use Rattle.runner.specs.Work.{MayWork, Works, MayHold, Holds, IsRoomFor};
-ghost use Rattle.runner.specs.Running.{IsReady, IsRunOf, HasRange, HasUnits, bounded, ran, role as role_for};
+ghost use Rattle.runner.specs.Running.{IsReady, HasRange, HasUnits, bounded, ran, role as role_for};
+ghost use Rattle.runner.specs.Endings.{IsUnread, IsRunOf, end_in};
 ghost use Rattle.runner.specs.declared.run.Role.TheVariants.{Works as works, Holds as holds};
 
 use crate::branches::leap;
@@ -11,10 +12,13 @@ use crate::frames::{Resume, call, caller_below, dummy, keep_caller};
 use crate::intrinsics::known;
 use crate::loops::{loop_start, loop_turn};
 use crate::places::{forget, lend, load, store};
+use crate::records::record_step;
 use crate::values::{both, minus, not, push_integer, push_spot, push_truth};
 use crate::words::{Cell, Word};
 use f66_tree::Operator;
 use ground::{Kind, Place, Trap};
+use ports::{Sink, Source};
+use record_flow::{Flow, Stop};
 use stack_code::{Code, Op, valid_is_safe};
 
 /// How a run ended.
@@ -28,6 +32,10 @@ pub enum End {
     Trapped(Trap, Place),
     /// Where no further statement may begin.
     StepLimit,
+    /// A read failed where the run asks for a record.
+    InputFault,
+    /// A put failed.
+    OutputFault,
 }
 
 /// How a run went.
@@ -63,8 +71,8 @@ enum Role {
     /// It calls this entry with so many dummies.
     Calls(u32, u32),
     Returns,
-    /// It has to do with records.
-    Other,
+    /// A READ or WRITE begins or ends, or items of it come or go.
+    Records,
 }
 
 #[inline(always)]
@@ -103,13 +111,13 @@ fn role_of(op: &Op) -> Role
         Op::LoopTurn(limit, step, to) => Role::Loops(*limit, *step, *to),
         Op::Call(to, count) => Role::Calls(*to, *count),
         Op::Return => Role::Returns,
-        Op::WriteStart(_) => Role::Other,
-        Op::ReadStart(_) => Role::Other,
-        Op::PutItem(_) => Role::Other,
-        Op::TakeItem(_) => Role::Other,
-        Op::PutRow(_, _) => Role::Other,
-        Op::TakeRow(_, _) => Role::Other,
-        Op::Finish => Role::Other,
+        Op::WriteStart(_) => Role::Records,
+        Op::ReadStart(_) => Role::Records,
+        Op::PutItem(_) => Role::Records,
+        Op::TakeItem(_) => Role::Records,
+        Op::PutRow(_, _) => Role::Records,
+        Op::TakeRow(_, _) => Role::Records,
+        Op::Finish => Role::Records,
         Op::Halt => Role::Halts,
         Op::HaltWith(number) => Role::Stops(*number),
     }
@@ -176,16 +184,20 @@ fn counted(executed: u64, from: usize, pc: usize) -> u64
 }
 
 /// Runs the code, and takes no memory.
-pub(crate) fn run_code(
+pub(crate) fn run_code<S: Source, K: Sink>(
     code: &Code,
+    flow: &mut Flow,
+    input: &mut S,
+    out: &mut K,
     stack: &mut [Word],
     cells: &mut [Cell],
     spots: &mut [Word],
     resumes: &mut [Resume],
     steps: u64,
 ) -> Ran
-    requires { IsReady code.now stack.old cells.old spots.old resumes.old }
-    ensures { IsRunOf code.now steps result }
+    requires ready { IsReady code.now stack.old cells.old spots.old resumes.old }
+    requires unread { IsUnread flow.old.intake }
+    ensures { IsRunOf S.left K.puts S.faults K.faults input.old input.new out.old out.new code.now steps result }
 {
     valid_is_safe();
     let ops: &[Op] = &code.ops;
@@ -197,6 +209,7 @@ pub(crate) fn run_code(
     let mut from = 0;
     let mut level = 0;
     let mut base = 0;
+    let mut plan: usize = 0;
     'turn: loop {
         prove!(pc < ops.len());
         let op = &ops[pc];
@@ -293,8 +306,36 @@ pub(crate) fn run_code(
                 level -= 1;
                 base -= code.dummies as usize;
             }
-            Role::Other => unreachable!(),
+            Role::Records => match record_step(
+                op,
+                &code.plans,
+                plan,
+                stack,
+                top,
+                cells,
+                flow,
+                input,
+                out,
+            ) {
+                Ok((rest, number)) => {
+                    top = rest;
+                    plan = number;
+                    pc += 1;
+                }
+                Err(stop) => return over(end_at(stop, place), left, counted(executed, from, pc)),
+            },
         }
+    }
+}
+
+/// How a run ends in the statement at this place.
+fn end_at(stop: Stop, place: Place) -> End
+    ensures { result ≡ end_in stop place }
+{
+    match stop {
+        Stop::Trapped(trap) => End::Trapped(trap, place),
+        Stop::Input => End::InputFault,
+        Stop::Output => End::OutputFault,
     }
 }
 

@@ -1,13 +1,14 @@
 // A run of code, with the memory that it needs.
 ghost use Rattle.std.specs.Prelude.{◌≡◌, ◌<◌, ◌*◌, ◌^◌, ◌+◌, suc, length, IfOk, OnOk};
-ghost use Rattle.stack_code.specs.Views.{code_of};
-ghost use Rattle.runner.specs.Running.{IsValidCode, IsPlainCode};
+ghost use Rattle.runner.specs.Running.{IsValidCode};
 ghost use Rattle.runner.specs.Runners.{IsFresh, MayRun, IsRun, AreEmpty};
 
 use crate::frames::Resume;
 use crate::run::{End, run_code};
 use crate::words::{Cell, Word};
 use ground::{Memory, Place};
+use ports::{Sink, Source};
+use record_flow::Flow;
 use stack_code::Code;
 use std::alloc::{AllocError, Global};
 
@@ -19,6 +20,7 @@ pub struct Runner {
     cells: Vec<Cell>,
     spots: Vec<Word>,
     resumes: Vec<Resume>,
+    flow: Flow,
     steps: u64,
     begun: u64,
     executed: u64,
@@ -29,7 +31,6 @@ impl Runner {
     /// Takes all the memory that a run of the code needs, in which at most so many statements may begin.
     pub fn new(alloc: Global, code: Code, steps: u64) -> Result<Runner, Memory>
         requires valid { IsValidCode code }
-        requires plain { IsPlainCode (code_of code.ops.items) }
         requires few { code.units < 2 ^ 31 }
         ensures { IfOk result (λ r. IsFresh code steps r) }
     {
@@ -37,12 +38,14 @@ impl Runner {
         let stack = blank_words(alloc, code.stack, code.depth)?;
         let spots = blank_words(alloc, code.dummies as usize, code.depth)?;
         let resumes = blank_callers(alloc, code.depth)?;
+        let flow = Flow::new(alloc)?;
         Ok(Runner {
             code,
             stack,
             cells,
             spots,
             resumes,
+            flow,
             steps,
             begun: 0,
             executed: 0,
@@ -50,16 +53,19 @@ impl Runner {
         })
     }
 
-    /// Runs the code, and takes no memory. Later calls answer the first end and do nothing.
-    pub fn run(&mut self) -> End
+    /// Runs the code over a source and a sink, and takes no memory. Later calls answer the first end and do nothing.
+    pub fn run<S: Source, K: Sink>(&mut self, input: &mut S, out: &mut K) -> End
         requires { MayRun self.old }
-        ensures { IsRun self.old self.new result }
+        ensures { IsRun S.left K.puts S.faults K.faults input.old input.new out.old out.new self.old self.new result }
     {
         if let Some(end) = self.end {
             return end;
         }
         let ran = run_code(
             &self.code,
+            &mut self.flow,
+            input,
+            out,
             &mut self.stack,
             &mut self.cells,
             &mut self.spots,

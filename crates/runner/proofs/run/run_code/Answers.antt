@@ -1,288 +1,318 @@
 -- Each turn of the loop: what it needs, what it keeps, and that it is nearer the end.
 use Rattle.std.proofs.Common.{suc, subst, ◌*◌, ◌≤◌, ◌<◌, ◌+◌, length, refl, sym, ap, ◌∙◌, arith, None, Some}
-use Rattle.std.proofs.lemmas.Bool.{true≢false}
 use Rattle.stack_code.specs.Views.{code_of, instruction_of}
 use Rattle.stack_code.specs.ValidCode.{is_counted}
 use Rattle.runner.specs.declared.run.Role.TheVariants as role
-use Rattle.runner.specs.Running.{HasUnits, is_plain}
+use Rattle.runner.specs.Recording.{MayAct}
+use Rattle.runner.specs.Endings.{IsEnd}
+use Rattle.runner.specs.Running.{HasUnits, is_apart}
 use Rattle.runner.proofs.Measure.{nearer_begun, nearer_call, nearer_return}
+use Rattle.runner.proofs.Opening.{is_straight}
 use Rattle.runner.proofs.Turn as turn
 use Rattle.runner.proofs.Calls as calls
+use Rattle.runner.proofs.RecordArms.{may_act, acts_on, acts_over}
+use Rattle.runner.proofs.UnderWay.{under_way, keeps_on, whole, answered}
 use Rattle.runner.proofs.Roles as roles
 use Rattle.runner.proofs.run.run_code.Goals as goal
 
 pub turn-init : goal.turn-init
-turn-init c = turn.begins c.args.code.now c.args.steps c.args.stack.now c.args.cells.now _ c.args.spots.now c.args.resumes.now refl c.requires.units c.requires.empty
+turn-init g c = under_way g.S.Source.left g.K.Sink.puts g.S.Source.faults g.K.Sink.faults g.met.K.Sink.nothing c.args.input.now c.args.out.now c.args.flow.now c.args.code.now c.args.steps _ _ _ _ _ _ _ _ _ _ (turn.begins c.args.code.now c.args.steps c.args.stack.now c.args.cells.now _ c.args.spots.now c.args.resumes.now c.args.flow.now.stand 0 refl c.requires.ready.units c.requires.ready.empty)
 
 pub prove-unreachable-requires : goal.prove-unreachable-requires
-prove-unreachable-requires c =
-    let in_code = turn.within c.requires.valid c.valid_is_safe.ensures c.turn.invariant in
+prove-unreachable-requires g c =
+    let in_code = turn.within c.requires.ready.valid c.valid_is_safe.ensures c.turn.invariant.turn in
     let same = ap length c.deref-ops.ensures.value in
     omega arith
 
 pub returns-then-left-eq0 : goal.returns-then-left-eq0
-returns-then-left-eq0 c =
-    let at = turn.stands c.requires.valid c.valid_is_safe.ensures c.turn.invariant c.index-ops-pc.result c.deref-ops.result.now c.deref-ops.ensures.value c.index-ops-pc.is in
+returns-then-left-eq0 g c =
+    let at = turn.stands c.requires.ready.valid c.valid_is_safe.ensures c.turn.invariant.turn c.index-ops-pc.result c.deref-ops.result.now c.deref-ops.ensures.value c.index-ops-pc.is in
     let told = roles.told (role.Begins c.in-Begins.begun) (instruction_of c.index-ops-pc.result) (sym c.in-Begins.is ∙ c.role_of.ensures) in
-    turn.answered c.args.code.now c.args.steps _ _ _ _ c.over.ensures (turn.begins_out c.requires.valid c.valid_is_safe.ensures c.turn.invariant at told c.counted.ensures c.if-left-eq0.true)
+    answered g.S.Source.left g.K.Sink.puts g.S.Source.faults g.K.Sink.faults c.args.input.now c.turn.input c.args.out.now c.turn.out c.args.code.now c.args.steps _ _ _ _ c.over.ensures (whole c.turn.invariant c.requires.unread _ _ _ (turn.begins_out c.requires.ready.valid c.valid_is_safe.ensures c.turn.invariant.turn at told c.counted.ensures c.if-left-eq0.true))
 
 pub turn-smaller-in-Begins : goal.turn-smaller-in-Begins
-turn-smaller-in-Begins c =
+turn-smaller-in-Begins g c =
     nearer_begun (code_of c.args.code.now.ops.items) c.turn.pc (c.turn.pc + 1) c.turn.left c.turn.level c.if-left-eq0.false
 
 pub turn-preserved-in-Begins : goal.turn-preserved-in-Begins
-turn-preserved-in-Begins c =
-    let at = turn.stands c.requires.valid c.valid_is_safe.ensures c.turn.invariant c.index-ops-pc.result c.deref-ops.result.now c.deref-ops.ensures.value c.index-ops-pc.is in
+turn-preserved-in-Begins g c =
+    let at = turn.stands c.requires.ready.valid c.valid_is_safe.ensures c.turn.invariant.turn c.index-ops-pc.result c.deref-ops.result.now c.deref-ops.ensures.value c.index-ops-pc.is in
     let told = roles.told (role.Begins c.in-Begins.begun) (instruction_of c.index-ops-pc.result) (sym c.in-Begins.is ∙ c.role_of.ensures) in
-    turn.begins_on c.requires.valid c.valid_is_safe.ensures c.turn.invariant at told c.if-left-eq0.false
+    keeps_on c.turn.invariant (turn.begins_on c.requires.ready.valid c.valid_is_safe.ensures c.turn.invariant.turn at told c.if-left-eq0.false)
 
 pub returns-then-left-eq0-2 : goal.returns-then-left-eq0-2
-returns-then-left-eq0-2 c =
-    let at = turn.stands c.requires.valid c.valid_is_safe.ensures c.turn.invariant c.index-ops-pc.result c.deref-ops.result.now c.deref-ops.ensures.value c.index-ops-pc.is in
+returns-then-left-eq0-2 g c =
+    let at = turn.stands c.requires.ready.valid c.valid_is_safe.ensures c.turn.invariant.turn c.index-ops-pc.result c.deref-ops.result.now c.deref-ops.ensures.value c.index-ops-pc.is in
     let told = roles.told role.Turns (instruction_of c.index-ops-pc.result) (sym c.in-Turns.is ∙ c.role_of.ensures) in
-    turn.answered c.args.code.now c.args.steps _ _ _ _ c.over-then-left-eq0-2.ensures (turn.turns_out c.requires.valid c.valid_is_safe.ensures c.turn.invariant at told c.counted-then-left-eq0-2.ensures c.if-left-eq0-2.true)
+    answered g.S.Source.left g.K.Sink.puts g.S.Source.faults g.K.Sink.faults c.args.input.now c.turn.input c.args.out.now c.turn.out c.args.code.now c.args.steps _ _ _ _ c.over-then-left-eq0-2.ensures (whole c.turn.invariant c.requires.unread _ _ _ (turn.turns_out c.requires.ready.valid c.valid_is_safe.ensures c.turn.invariant.turn at told c.counted-then-left-eq0-2.ensures c.if-left-eq0-2.true))
 
 pub turn-smaller-in-Turns : goal.turn-smaller-in-Turns
-turn-smaller-in-Turns c =
+turn-smaller-in-Turns g c =
     nearer_begun (code_of c.args.code.now.ops.items) c.turn.pc (c.turn.pc + 1) c.turn.left c.turn.level c.if-left-eq0-2.false
 
 pub turn-preserved-in-Turns : goal.turn-preserved-in-Turns
-turn-preserved-in-Turns c =
-    let at = turn.stands c.requires.valid c.valid_is_safe.ensures c.turn.invariant c.index-ops-pc.result c.deref-ops.result.now c.deref-ops.ensures.value c.index-ops-pc.is in
+turn-preserved-in-Turns g c =
+    let at = turn.stands c.requires.ready.valid c.valid_is_safe.ensures c.turn.invariant.turn c.index-ops-pc.result c.deref-ops.result.now c.deref-ops.ensures.value c.index-ops-pc.is in
     let told = roles.told role.Turns (instruction_of c.index-ops-pc.result) (sym c.in-Turns.is ∙ c.role_of.ensures) in
-    turn.turns_on c.requires.valid c.valid_is_safe.ensures c.turn.invariant at told c.if-left-eq0-2.false
+    keeps_on c.turn.invariant (turn.turns_on c.requires.ready.valid c.valid_is_safe.ensures c.turn.invariant.turn at told c.if-left-eq0-2.false)
 
 pub returns-in-Halts : goal.returns-in-Halts
-returns-in-Halts c =
-    let at = turn.stands c.requires.valid c.valid_is_safe.ensures c.turn.invariant c.index-ops-pc.result c.deref-ops.result.now c.deref-ops.ensures.value c.index-ops-pc.is in
+returns-in-Halts g c =
+    let at = turn.stands c.requires.ready.valid c.valid_is_safe.ensures c.turn.invariant.turn c.index-ops-pc.result c.deref-ops.result.now c.deref-ops.ensures.value c.index-ops-pc.is in
     let told = roles.told role.Halts (instruction_of c.index-ops-pc.result) (sym c.in-Halts.is ∙ c.role_of.ensures) in
-    turn.answered c.args.code.now c.args.steps _ _ _ _ c.over-in-Halts.ensures (turn.halts_over c.requires.valid c.valid_is_safe.ensures c.turn.invariant at None c.counted-in-Halts.ensures told)
+    answered g.S.Source.left g.K.Sink.puts g.S.Source.faults g.K.Sink.faults c.args.input.now c.turn.input c.args.out.now c.turn.out c.args.code.now c.args.steps _ _ _ _ c.over-in-Halts.ensures (whole c.turn.invariant c.requires.unread _ _ _ (turn.halts_over c.requires.ready.valid c.valid_is_safe.ensures c.turn.invariant.turn at None c.counted-in-Halts.ensures told))
 
 pub returns-in-Stops : goal.returns-in-Stops
-returns-in-Stops c =
-    let at = turn.stands c.requires.valid c.valid_is_safe.ensures c.turn.invariant c.index-ops-pc.result c.deref-ops.result.now c.deref-ops.ensures.value c.index-ops-pc.is in
+returns-in-Stops g c =
+    let at = turn.stands c.requires.ready.valid c.valid_is_safe.ensures c.turn.invariant.turn c.index-ops-pc.result c.deref-ops.result.now c.deref-ops.ensures.value c.index-ops-pc.is in
     let told = roles.told (role.Stops c.in-Stops.number) (instruction_of c.index-ops-pc.result) (sym c.in-Stops.is ∙ c.role_of.ensures) in
-    turn.answered c.args.code.now c.args.steps _ _ _ _ c.over-in-Stops.ensures (turn.halts_over c.requires.valid c.valid_is_safe.ensures c.turn.invariant at (Some c.in-Stops.number) c.counted-in-Stops.ensures told)
+    answered g.S.Source.left g.K.Sink.puts g.S.Source.faults g.K.Sink.faults c.args.input.now c.turn.input c.args.out.now c.turn.out c.args.code.now c.args.steps _ _ _ _ c.over-in-Stops.ensures (whole c.turn.invariant c.requires.unread _ _ _ (turn.halts_over c.requires.ready.valid c.valid_is_safe.ensures c.turn.invariant.turn at (Some c.in-Stops.number) c.counted-in-Stops.ensures told))
 
 pub leap-requires-clause-work : goal.leap-requires-clause-work
-leap-requires-clause-work c =
-    let at = turn.stands c.requires.valid c.valid_is_safe.ensures c.turn.invariant c.index-ops-pc.result c.deref-ops.result.now c.deref-ops.ensures.value c.index-ops-pc.is in
-    let room = subst (λ n. suc c.args.code.now.depth * c.args.code.now.stack ≤ n) (sym c.turn.auto.stack) c.requires.room in
-    turn.may_work c.requires.valid c.valid_is_safe.ensures c.turn.invariant at room
+leap-requires-clause-work g c =
+    let at = turn.stands c.requires.ready.valid c.valid_is_safe.ensures c.turn.invariant.turn c.index-ops-pc.result c.deref-ops.result.now c.deref-ops.ensures.value c.index-ops-pc.is in
+    let room = subst (λ n. suc c.args.code.now.depth * c.args.code.now.stack ≤ n) (sym c.turn.auto.stack) c.requires.ready.room in
+    turn.may_work c.requires.ready.valid c.valid_is_safe.ensures c.turn.invariant.turn at room
 
 pub turn-smaller-in-Ok : goal.turn-smaller-in-Ok
-turn-smaller-in-Ok c =
-    let at = turn.stands c.requires.valid c.valid_is_safe.ensures c.turn.invariant c.index-ops-pc.result c.deref-ops.result.now c.deref-ops.ensures.value c.index-ops-pc.is in
+turn-smaller-in-Ok g c =
+    let at = turn.stands c.requires.ready.valid c.valid_is_safe.ensures c.turn.invariant.turn c.index-ops-pc.result c.deref-ops.result.now c.deref-ops.ensures.value c.index-ops-pc.is in
     let told = roles.told role.Leaps (instruction_of c.index-ops-pc.result) (sym c.in-Leaps.is ∙ c.role_of.ensures) in
-    turn.nearer_to c.requires.valid c.valid_is_safe.ensures c.turn.invariant at told.0 told.1 c.in-Ok.ensures.way
+    turn.nearer_to c.requires.ready.valid c.valid_is_safe.ensures c.turn.invariant.turn at told.0 told.1 c.in-Ok.ensures.way
 
 pub turn-preserved-in-Ok : goal.turn-preserved-in-Ok
-turn-preserved-in-Ok c =
-    let at = turn.stands c.requires.valid c.valid_is_safe.ensures c.turn.invariant c.index-ops-pc.result c.deref-ops.result.now c.deref-ops.ensures.value c.index-ops-pc.is in
-    turn.leaps_on c.requires.valid c.valid_is_safe.ensures c.turn.invariant at c.counted-executed.ensures c.in-Ok.ensures.leaps c.in-Ok.ensures.room
+turn-preserved-in-Ok g c =
+    let at = turn.stands c.requires.ready.valid c.valid_is_safe.ensures c.turn.invariant.turn c.index-ops-pc.result c.deref-ops.result.now c.deref-ops.ensures.value c.index-ops-pc.is in
+    keeps_on c.turn.invariant (turn.leaps_on c.requires.ready.valid c.valid_is_safe.ensures c.turn.invariant.turn at c.counted-executed.ensures c.in-Ok.ensures.way (ap is_apart (sym c.role_of.ensures ∙ c.in-Leaps.is)) c.in-Ok.ensures.leaps c.in-Ok.ensures.room)
 
 pub returns-in-Err : goal.returns-in-Err
-returns-in-Err c =
-    let at = turn.stands c.requires.valid c.valid_is_safe.ensures c.turn.invariant c.index-ops-pc.result c.deref-ops.result.now c.deref-ops.ensures.value c.index-ops-pc.is in
-    turn.answered c.args.code.now c.args.steps _ _ _ _ c.over-in-Err.ensures (turn.leaps_over c.requires.valid c.valid_is_safe.ensures c.turn.invariant at c.counted-in-Err.ensures c.in-Err.ensures.leaps)
+returns-in-Err g c =
+    let at = turn.stands c.requires.ready.valid c.valid_is_safe.ensures c.turn.invariant.turn c.index-ops-pc.result c.deref-ops.result.now c.deref-ops.ensures.value c.index-ops-pc.is in
+    answered g.S.Source.left g.K.Sink.puts g.S.Source.faults g.K.Sink.faults c.args.input.now c.turn.input c.args.out.now c.turn.out c.args.code.now c.args.steps _ _ _ _ c.over-in-Err.ensures (whole c.turn.invariant c.requires.unread _ _ _ (turn.leaps_over c.requires.ready.valid c.valid_is_safe.ensures c.turn.invariant.turn at c.counted-in-Err.ensures c.in-Err.ensures.leaps))
 
 pub work-requires-clause-ranges : goal.work-requires-clause-ranges
-work-requires-clause-ranges c =
-    let at = turn.stands c.requires.valid c.valid_is_safe.ensures c.turn.invariant c.index-ops-pc.result c.deref-ops.result.now c.deref-ops.ensures.value c.index-ops-pc.is in
-    roles.range_of (code_of c.args.code.now.ops.items) (length c.args.code.now.plans.items) c.args.code.now.units c.turn.pc (instruction_of c.index-ops-pc.result) c.requires.few (turn.in_range c.requires.valid c.valid_is_safe.ensures c.turn.invariant at)
+work-requires-clause-ranges g c =
+    let at = turn.stands c.requires.ready.valid c.valid_is_safe.ensures c.turn.invariant.turn c.index-ops-pc.result c.deref-ops.result.now c.deref-ops.ensures.value c.index-ops-pc.is in
+    roles.range_of (code_of c.args.code.now.ops.items) (length c.args.code.now.plans.items) c.args.code.now.units c.turn.pc (instruction_of c.index-ops-pc.result) c.requires.ready.few (turn.in_range c.requires.ready.valid c.valid_is_safe.ensures c.turn.invariant.turn at)
 
 pub work-requires-clause-work : goal.work-requires-clause-work
-work-requires-clause-work c =
-    let at = turn.stands c.requires.valid c.valid_is_safe.ensures c.turn.invariant c.index-ops-pc.result c.deref-ops.result.now c.deref-ops.ensures.value c.index-ops-pc.is in
-    let room = subst (λ n. suc c.args.code.now.depth * c.args.code.now.stack ≤ n) (sym c.turn.auto.stack) c.requires.room in
-    turn.may_work c.requires.valid c.valid_is_safe.ensures c.turn.invariant at room
+work-requires-clause-work g c =
+    let at = turn.stands c.requires.ready.valid c.valid_is_safe.ensures c.turn.invariant.turn c.index-ops-pc.result c.deref-ops.result.now c.deref-ops.ensures.value c.index-ops-pc.is in
+    let room = subst (λ n. suc c.args.code.now.depth * c.args.code.now.stack ≤ n) (sym c.turn.auto.stack) c.requires.ready.room in
+    turn.may_work c.requires.ready.valid c.valid_is_safe.ensures c.turn.invariant.turn at room
 
 pub turn-smaller-in-Ok-work : goal.turn-smaller-in-Ok-work
-turn-smaller-in-Ok-work c =
-    let at = turn.stands c.requires.valid c.valid_is_safe.ensures c.turn.invariant c.index-ops-pc.result c.deref-ops.result.now c.deref-ops.ensures.value c.index-ops-pc.is in
+turn-smaller-in-Ok-work g c =
+    let at = turn.stands c.requires.ready.valid c.valid_is_safe.ensures c.turn.invariant.turn c.index-ops-pc.result c.deref-ops.result.now c.deref-ops.ensures.value c.index-ops-pc.is in
     let told = roles.told role.Works (instruction_of c.index-ops-pc.result) (sym c.in-Works.is ∙ c.role_of.ensures) in
-    turn.nearer_next c.requires.valid c.valid_is_safe.ensures c.turn.invariant at told
+    turn.nearer_next c.requires.ready.valid c.valid_is_safe.ensures c.turn.invariant.turn at told
 
 pub turn-preserved-in-Ok-work : goal.turn-preserved-in-Ok-work
-turn-preserved-in-Ok-work c =
-    let at = turn.stands c.requires.valid c.valid_is_safe.ensures c.turn.invariant c.index-ops-pc.result c.deref-ops.result.now c.deref-ops.ensures.value c.index-ops-pc.is in
-    turn.works_on c.requires.valid c.valid_is_safe.ensures c.turn.invariant at c.in-Ok-work.ensures.works c.in-Ok-work.ensures.room
+turn-preserved-in-Ok-work g c =
+    let at = turn.stands c.requires.ready.valid c.valid_is_safe.ensures c.turn.invariant.turn c.index-ops-pc.result c.deref-ops.result.now c.deref-ops.ensures.value c.index-ops-pc.is in
+    keeps_on c.turn.invariant (turn.works_on c.requires.ready.valid c.valid_is_safe.ensures c.turn.invariant.turn at (ap is_straight (sym c.role_of.ensures ∙ c.in-Works.is)) c.in-Ok-work.ensures.works c.in-Ok-work.ensures.room)
 
 pub returns-in-Err-work : goal.returns-in-Err-work
-returns-in-Err-work c =
-    let at = turn.stands c.requires.valid c.valid_is_safe.ensures c.turn.invariant c.index-ops-pc.result c.deref-ops.result.now c.deref-ops.ensures.value c.index-ops-pc.is in
-    turn.answered c.args.code.now c.args.steps _ _ _ _ c.over-in-Err-work.ensures (turn.works_over c.requires.valid c.valid_is_safe.ensures c.turn.invariant at c.counted-in-Err-work.ensures c.in-Err-work.ensures.works)
+returns-in-Err-work g c =
+    let at = turn.stands c.requires.ready.valid c.valid_is_safe.ensures c.turn.invariant.turn c.index-ops-pc.result c.deref-ops.result.now c.deref-ops.ensures.value c.index-ops-pc.is in
+    answered g.S.Source.left g.K.Sink.puts g.S.Source.faults g.K.Sink.faults c.args.input.now c.turn.input c.args.out.now c.turn.out c.args.code.now c.args.steps _ _ _ _ c.over-in-Err-work.ensures (whole c.turn.invariant c.requires.unread _ _ _ (turn.works_over c.requires.ready.valid c.valid_is_safe.ensures c.turn.invariant.turn at c.counted-in-Err-work.ensures c.in-Err-work.ensures.works))
 
 pub hold-requires-clause-ranges : goal.hold-requires-clause-ranges
-hold-requires-clause-ranges c =
-    let at = turn.stands c.requires.valid c.valid_is_safe.ensures c.turn.invariant c.index-ops-pc.result c.deref-ops.result.now c.deref-ops.ensures.value c.index-ops-pc.is in
-    subst (HasUnits (instruction_of c.index-ops-pc.result)) (sym c.turn.invariant.units) (roles.units_of (code_of c.args.code.now.ops.items) (length c.args.code.now.plans.items) c.args.code.now.units c.turn.pc (instruction_of c.index-ops-pc.result) (turn.in_range c.requires.valid c.valid_is_safe.ensures c.turn.invariant at))
+hold-requires-clause-ranges g c =
+    let at = turn.stands c.requires.ready.valid c.valid_is_safe.ensures c.turn.invariant.turn c.index-ops-pc.result c.deref-ops.result.now c.deref-ops.ensures.value c.index-ops-pc.is in
+    subst (HasUnits (instruction_of c.index-ops-pc.result)) (sym c.turn.invariant.turn.units) (roles.units_of (code_of c.args.code.now.ops.items) (length c.args.code.now.plans.items) c.args.code.now.units c.turn.pc (instruction_of c.index-ops-pc.result) (turn.in_range c.requires.ready.valid c.valid_is_safe.ensures c.turn.invariant.turn at))
 
 pub hold-requires-clause-hold : goal.hold-requires-clause-hold
-hold-requires-clause-hold c =
-    let at = turn.stands c.requires.valid c.valid_is_safe.ensures c.turn.invariant c.index-ops-pc.result c.deref-ops.result.now c.deref-ops.ensures.value c.index-ops-pc.is in
-    let room = subst (λ n. suc c.args.code.now.depth * c.args.code.now.stack ≤ n) (sym c.turn.auto.stack) c.requires.room in
-    turn.may_hold c.requires.valid c.valid_is_safe.ensures c.turn.invariant at room
+hold-requires-clause-hold g c =
+    let at = turn.stands c.requires.ready.valid c.valid_is_safe.ensures c.turn.invariant.turn c.index-ops-pc.result c.deref-ops.result.now c.deref-ops.ensures.value c.index-ops-pc.is in
+    let room = subst (λ n. suc c.args.code.now.depth * c.args.code.now.stack ≤ n) (sym c.turn.auto.stack) c.requires.ready.room in
+    turn.may_hold c.requires.ready.valid c.valid_is_safe.ensures c.turn.invariant.turn at room
 
 pub turn-smaller-in-Ok-hold : goal.turn-smaller-in-Ok-hold
-turn-smaller-in-Ok-hold c =
-    let at = turn.stands c.requires.valid c.valid_is_safe.ensures c.turn.invariant c.index-ops-pc.result c.deref-ops.result.now c.deref-ops.ensures.value c.index-ops-pc.is in
+turn-smaller-in-Ok-hold g c =
+    let at = turn.stands c.requires.ready.valid c.valid_is_safe.ensures c.turn.invariant.turn c.index-ops-pc.result c.deref-ops.result.now c.deref-ops.ensures.value c.index-ops-pc.is in
     let told = roles.told role.Holds (instruction_of c.index-ops-pc.result) (sym c.in-Holds.is ∙ c.role_of.ensures) in
-    turn.nearer_next c.requires.valid c.valid_is_safe.ensures c.turn.invariant at told
+    turn.nearer_next c.requires.ready.valid c.valid_is_safe.ensures c.turn.invariant.turn at told
 
 pub turn-preserved-in-Ok-hold : goal.turn-preserved-in-Ok-hold
-turn-preserved-in-Ok-hold c =
-    let at = turn.stands c.requires.valid c.valid_is_safe.ensures c.turn.invariant c.index-ops-pc.result c.deref-ops.result.now c.deref-ops.ensures.value c.index-ops-pc.is in
-    turn.holds_on c.requires.valid c.valid_is_safe.ensures c.turn.invariant at c.in-Ok-hold.ensures.works c.in-Ok-hold.ensures.room (omega arith)
+turn-preserved-in-Ok-hold g c =
+    let at = turn.stands c.requires.ready.valid c.valid_is_safe.ensures c.turn.invariant.turn c.index-ops-pc.result c.deref-ops.result.now c.deref-ops.ensures.value c.index-ops-pc.is in
+    keeps_on c.turn.invariant (turn.holds_on c.requires.ready.valid c.valid_is_safe.ensures c.turn.invariant.turn at (ap is_straight (sym c.role_of.ensures ∙ c.in-Holds.is)) c.in-Ok-hold.ensures.works c.in-Ok-hold.ensures.room (omega arith))
 
 pub returns-in-Err-hold : goal.returns-in-Err-hold
-returns-in-Err-hold c =
-    let at = turn.stands c.requires.valid c.valid_is_safe.ensures c.turn.invariant c.index-ops-pc.result c.deref-ops.result.now c.deref-ops.ensures.value c.index-ops-pc.is in
-    turn.answered c.args.code.now c.args.steps _ _ _ _ c.over-in-Err-hold.ensures (turn.holds_over c.requires.valid c.valid_is_safe.ensures c.turn.invariant at c.counted-in-Err-hold.ensures c.in-Err-hold.ensures.works)
+returns-in-Err-hold g c =
+    let at = turn.stands c.requires.ready.valid c.valid_is_safe.ensures c.turn.invariant.turn c.index-ops-pc.result c.deref-ops.result.now c.deref-ops.ensures.value c.index-ops-pc.is in
+    answered g.S.Source.left g.K.Sink.puts g.S.Source.faults g.K.Sink.faults c.args.input.now c.turn.input c.args.out.now c.turn.out c.args.code.now c.args.steps _ _ _ _ c.over-in-Err-hold.ensures (whole c.turn.invariant c.requires.unread _ _ _ (turn.holds_over c.requires.ready.valid c.valid_is_safe.ensures c.turn.invariant.turn at c.counted-in-Err-hold.ensures c.in-Err-hold.ensures.works))
 
 pub loop_turn-requires-clause-limit : goal.loop_turn-requires-clause-limit
-loop_turn-requires-clause-limit c =
-    let at = turn.stands c.requires.valid c.valid_is_safe.ensures c.turn.invariant c.index-ops-pc.result c.deref-ops.result.now c.deref-ops.ensures.value c.index-ops-pc.is in
+loop_turn-requires-clause-limit g c =
+    let at = turn.stands c.requires.ready.valid c.valid_is_safe.ensures c.turn.invariant.turn c.index-ops-pc.result c.deref-ops.result.now c.deref-ops.ensures.value c.index-ops-pc.is in
     let here = at ∙ ap Some (roles.told (role.Loops c.in-Loops.limit c.in-Loops.step c.in-Loops.to) (instruction_of c.index-ops-pc.result) (sym c.in-Loops.is ∙ c.role_of.ensures)) in
-    subst (λ n. c.in-Loops.limit < n) (sym c.turn.invariant.units) (roles.loop_units (code_of c.args.code.now.ops.items) (length c.args.code.now.plans.items) c.args.code.now.units c.turn.pc c.in-Loops.limit c.in-Loops.step c.in-Loops.to (turn.in_range c.requires.valid c.valid_is_safe.ensures c.turn.invariant here)).0
+    subst (λ n. c.in-Loops.limit < n) (sym c.turn.invariant.turn.units) (roles.loop_units (code_of c.args.code.now.ops.items) (length c.args.code.now.plans.items) c.args.code.now.units c.turn.pc c.in-Loops.limit c.in-Loops.step c.in-Loops.to (turn.in_range c.requires.ready.valid c.valid_is_safe.ensures c.turn.invariant.turn here)).0
 
 pub loop_turn-requires-clause-step : goal.loop_turn-requires-clause-step
-loop_turn-requires-clause-step c =
-    let at = turn.stands c.requires.valid c.valid_is_safe.ensures c.turn.invariant c.index-ops-pc.result c.deref-ops.result.now c.deref-ops.ensures.value c.index-ops-pc.is in
+loop_turn-requires-clause-step g c =
+    let at = turn.stands c.requires.ready.valid c.valid_is_safe.ensures c.turn.invariant.turn c.index-ops-pc.result c.deref-ops.result.now c.deref-ops.ensures.value c.index-ops-pc.is in
     let here = at ∙ ap Some (roles.told (role.Loops c.in-Loops.limit c.in-Loops.step c.in-Loops.to) (instruction_of c.index-ops-pc.result) (sym c.in-Loops.is ∙ c.role_of.ensures)) in
-    subst (λ n. c.in-Loops.step < n) (sym c.turn.invariant.units) (roles.loop_units (code_of c.args.code.now.ops.items) (length c.args.code.now.plans.items) c.args.code.now.units c.turn.pc c.in-Loops.limit c.in-Loops.step c.in-Loops.to (turn.in_range c.requires.valid c.valid_is_safe.ensures c.turn.invariant here)).1
+    subst (λ n. c.in-Loops.step < n) (sym c.turn.invariant.turn.units) (roles.loop_units (code_of c.args.code.now.ops.items) (length c.args.code.now.plans.items) c.args.code.now.units c.turn.pc c.in-Loops.limit c.in-Loops.step c.in-Loops.to (turn.in_range c.requires.ready.valid c.valid_is_safe.ensures c.turn.invariant.turn here)).1
 
 pub loop_turn-requires-clause-hold : goal.loop_turn-requires-clause-hold
-loop_turn-requires-clause-hold c =
-    let at = turn.stands c.requires.valid c.valid_is_safe.ensures c.turn.invariant c.index-ops-pc.result c.deref-ops.result.now c.deref-ops.ensures.value c.index-ops-pc.is in
+loop_turn-requires-clause-hold g c =
+    let at = turn.stands c.requires.ready.valid c.valid_is_safe.ensures c.turn.invariant.turn c.index-ops-pc.result c.deref-ops.result.now c.deref-ops.ensures.value c.index-ops-pc.is in
     let here = at ∙ ap Some (roles.told (role.Loops c.in-Loops.limit c.in-Loops.step c.in-Loops.to) (instruction_of c.index-ops-pc.result) (sym c.in-Loops.is ∙ c.role_of.ensures)) in
-    let room = subst (λ n. suc c.args.code.now.depth * c.args.code.now.stack ≤ n) (sym c.turn.auto.stack) c.requires.room in
-    turn.may_hold c.requires.valid c.valid_is_safe.ensures c.turn.invariant here room
+    let room = subst (λ n. suc c.args.code.now.depth * c.args.code.now.stack ≤ n) (sym c.turn.auto.stack) c.requires.ready.room in
+    turn.may_hold c.requires.ready.valid c.valid_is_safe.ensures c.turn.invariant.turn here room
 
 pub turn-smaller-in-Ok-loop_turn : goal.turn-smaller-in-Ok-loop_turn
-turn-smaller-in-Ok-loop_turn c =
-    let at = turn.stands c.requires.valid c.valid_is_safe.ensures c.turn.invariant c.index-ops-pc.result c.deref-ops.result.now c.deref-ops.ensures.value c.index-ops-pc.is in
+turn-smaller-in-Ok-loop_turn g c =
+    let at = turn.stands c.requires.ready.valid c.valid_is_safe.ensures c.turn.invariant.turn c.index-ops-pc.result c.deref-ops.result.now c.deref-ops.ensures.value c.index-ops-pc.is in
     let here = at ∙ ap Some (roles.told (role.Loops c.in-Loops.limit c.in-Loops.step c.in-Loops.to) (instruction_of c.index-ops-pc.result) (sym c.in-Loops.is ∙ c.role_of.ensures)) in
-    turn.nearer_end c.requires.valid c.valid_is_safe.ensures c.turn.invariant here refl c.in-Ok-loop_turn.ensures.way
+    turn.nearer_end c.requires.ready.valid c.valid_is_safe.ensures c.turn.invariant.turn here refl c.in-Ok-loop_turn.ensures.way
 
 pub turn-preserved-in-Ok-loop_turn : goal.turn-preserved-in-Ok-loop_turn
-turn-preserved-in-Ok-loop_turn c =
-    let at = turn.stands c.requires.valid c.valid_is_safe.ensures c.turn.invariant c.index-ops-pc.result c.deref-ops.result.now c.deref-ops.ensures.value c.index-ops-pc.is in
+turn-preserved-in-Ok-loop_turn g c =
+    let at = turn.stands c.requires.ready.valid c.valid_is_safe.ensures c.turn.invariant.turn c.index-ops-pc.result c.deref-ops.result.now c.deref-ops.ensures.value c.index-ops-pc.is in
     let here = at ∙ ap Some (roles.told (role.Loops c.in-Loops.limit c.in-Loops.step c.in-Loops.to) (instruction_of c.index-ops-pc.result) (sym c.in-Loops.is ∙ c.role_of.ensures)) in
-    turn.loops_on c.requires.valid c.valid_is_safe.ensures c.turn.invariant here c.counted-executed-in-Ok-loop_turn.ensures c.in-Ok-loop_turn.ensures.leaps c.in-Ok-loop_turn.ensures.room (omega arith)
+    keeps_on c.turn.invariant (turn.loops_on c.requires.ready.valid c.valid_is_safe.ensures c.turn.invariant.turn here c.counted-executed-in-Ok-loop_turn.ensures c.in-Ok-loop_turn.ensures.way refl c.in-Ok-loop_turn.ensures.leaps c.in-Ok-loop_turn.ensures.room (omega arith))
 
 pub returns-in-Err-loop_turn : goal.returns-in-Err-loop_turn
-returns-in-Err-loop_turn c =
-    let at = turn.stands c.requires.valid c.valid_is_safe.ensures c.turn.invariant c.index-ops-pc.result c.deref-ops.result.now c.deref-ops.ensures.value c.index-ops-pc.is in
+returns-in-Err-loop_turn g c =
+    let at = turn.stands c.requires.ready.valid c.valid_is_safe.ensures c.turn.invariant.turn c.index-ops-pc.result c.deref-ops.result.now c.deref-ops.ensures.value c.index-ops-pc.is in
     let here = at ∙ ap Some (roles.told (role.Loops c.in-Loops.limit c.in-Loops.step c.in-Loops.to) (instruction_of c.index-ops-pc.result) (sym c.in-Loops.is ∙ c.role_of.ensures)) in
-    turn.answered c.args.code.now c.args.steps _ _ _ _ c.over-in-Err-loop_turn.ensures (turn.loops_over c.requires.valid c.valid_is_safe.ensures c.turn.invariant here c.counted-in-Err-loop_turn.ensures c.in-Err-loop_turn.ensures.leaps)
+    answered g.S.Source.left g.K.Sink.puts g.S.Source.faults g.K.Sink.faults c.args.input.now c.turn.input c.args.out.now c.turn.out c.args.code.now c.args.steps _ _ _ _ c.over-in-Err-loop_turn.ensures (whole c.turn.invariant c.requires.unread _ _ _ (turn.loops_over c.requires.ready.valid c.valid_is_safe.ensures c.turn.invariant.turn here c.counted-in-Err-loop_turn.ensures c.in-Err-loop_turn.ensures.leaps))
 
 pub dummy-top-requires : goal.dummy-top-requires
-dummy-top-requires c =
-    let at = turn.stands c.requires.valid c.valid_is_safe.ensures c.turn.invariant c.index-ops-pc.result c.deref-ops.result.now c.deref-ops.ensures.value c.index-ops-pc.is in
+dummy-top-requires g c =
+    let at = turn.stands c.requires.ready.valid c.valid_is_safe.ensures c.turn.invariant.turn c.index-ops-pc.result c.deref-ops.result.now c.deref-ops.ensures.value c.index-ops-pc.is in
     let here = at ∙ ap Some (roles.told (role.Dummies c.in-Dummies.number) (instruction_of c.index-ops-pc.result) (sym c.in-Dummies.is ∙ c.role_of.ensures)) in
-    let room = subst (λ n. suc c.args.code.now.depth * c.args.code.now.stack ≤ n) (sym c.turn.auto.stack) c.requires.room in
-    calls.may_find c.requires.valid c.valid_is_safe.ensures c.turn.invariant here room
+    let room = subst (λ n. suc c.args.code.now.depth * c.args.code.now.stack ≤ n) (sym c.turn.auto.stack) c.requires.ready.room in
+    calls.may_find c.requires.ready.valid c.valid_is_safe.ensures c.turn.invariant.turn here room
 
 pub turn-smaller-in-Dummies : goal.turn-smaller-in-Dummies
-turn-smaller-in-Dummies c =
-    let at = turn.stands c.requires.valid c.valid_is_safe.ensures c.turn.invariant c.index-ops-pc.result c.deref-ops.result.now c.deref-ops.ensures.value c.index-ops-pc.is in
+turn-smaller-in-Dummies g c =
+    let at = turn.stands c.requires.ready.valid c.valid_is_safe.ensures c.turn.invariant.turn c.index-ops-pc.result c.deref-ops.result.now c.deref-ops.ensures.value c.index-ops-pc.is in
     let here = at ∙ ap Some (roles.told (role.Dummies c.in-Dummies.number) (instruction_of c.index-ops-pc.result) (sym c.in-Dummies.is ∙ c.role_of.ensures)) in
-    turn.nearer_next c.requires.valid c.valid_is_safe.ensures c.turn.invariant here refl
+    turn.nearer_next c.requires.ready.valid c.valid_is_safe.ensures c.turn.invariant.turn here refl
 
 pub turn-preserved-in-Dummies : goal.turn-preserved-in-Dummies
-turn-preserved-in-Dummies c =
-    let at = turn.stands c.requires.valid c.valid_is_safe.ensures c.turn.invariant c.index-ops-pc.result c.deref-ops.result.now c.deref-ops.ensures.value c.index-ops-pc.is in
+turn-preserved-in-Dummies g c =
+    let at = turn.stands c.requires.ready.valid c.valid_is_safe.ensures c.turn.invariant.turn c.index-ops-pc.result c.deref-ops.result.now c.deref-ops.ensures.value c.index-ops-pc.is in
     let here = at ∙ ap Some (roles.told (role.Dummies c.in-Dummies.number) (instruction_of c.index-ops-pc.result) (sym c.in-Dummies.is ∙ c.role_of.ensures)) in
-    calls.finds_on c.requires.valid c.valid_is_safe.ensures c.turn.invariant here c.dummy-top.ensures.finds c.dummy-top.ensures.room
+    keeps_on c.turn.invariant (calls.finds_on c.requires.ready.valid c.valid_is_safe.ensures c.turn.invariant.turn here c.dummy-top.ensures.finds c.dummy-top.ensures.room)
 
 pub overflow_add-above : goal.overflow_add-above
-overflow_add-above c =
-    let at = turn.stands c.requires.valid c.valid_is_safe.ensures c.turn.invariant c.index-ops-pc.result c.deref-ops.result.now c.deref-ops.ensures.value c.index-ops-pc.is in
+overflow_add-above g c =
+    let at = turn.stands c.requires.ready.valid c.valid_is_safe.ensures c.turn.invariant.turn c.index-ops-pc.result c.deref-ops.result.now c.deref-ops.ensures.value c.index-ops-pc.is in
     let here = at ∙ ap Some (roles.told (role.Calls c.in-Calls.to c.in-Calls.count) (instruction_of c.index-ops-pc.result) (sym c.in-Calls.is ∙ c.role_of.ensures)) in
-    let room = subst (λ n. suc c.args.code.now.depth * c.args.code.now.dummies ≤ n) (sym c.turn.auto.spots) c.requires.dummies in
-    let enough = calls.call_room c.requires.valid c.valid_is_safe.ensures c.turn.invariant here room in
+    let room = subst (λ n. suc c.args.code.now.depth * c.args.code.now.dummies ≤ n) (sym c.turn.auto.spots) c.requires.ready.dummies in
+    let enough = calls.call_room c.requires.ready.valid c.valid_is_safe.ensures c.turn.invariant.turn here room in
     omega arith
 
 pub call-top-requires-clause-tall : goal.call-top-requires-clause-tall
-call-top-requires-clause-tall c =
-    let at = turn.stands c.requires.valid c.valid_is_safe.ensures c.turn.invariant c.index-ops-pc.result c.deref-ops.result.now c.deref-ops.ensures.value c.index-ops-pc.is in
+call-top-requires-clause-tall g c =
+    let at = turn.stands c.requires.ready.valid c.valid_is_safe.ensures c.turn.invariant.turn c.index-ops-pc.result c.deref-ops.result.now c.deref-ops.ensures.value c.index-ops-pc.is in
     let here = at ∙ ap Some (roles.told (role.Calls c.in-Calls.to c.in-Calls.count) (instruction_of c.index-ops-pc.result) (sym c.in-Calls.is ∙ c.role_of.ensures)) in
-    calls.call_tall c.requires.valid c.valid_is_safe.ensures c.turn.invariant here
+    calls.call_tall c.requires.ready.valid c.valid_is_safe.ensures c.turn.invariant.turn here
 
 pub call-top-requires-clause-spots : goal.call-top-requires-clause-spots
-call-top-requires-clause-spots c =
-    let at = turn.stands c.requires.valid c.valid_is_safe.ensures c.turn.invariant c.index-ops-pc.result c.deref-ops.result.now c.deref-ops.ensures.value c.index-ops-pc.is in
+call-top-requires-clause-spots g c =
+    let at = turn.stands c.requires.ready.valid c.valid_is_safe.ensures c.turn.invariant.turn c.index-ops-pc.result c.deref-ops.result.now c.deref-ops.ensures.value c.index-ops-pc.is in
     let here = at ∙ ap Some (roles.told (role.Calls c.in-Calls.to c.in-Calls.count) (instruction_of c.index-ops-pc.result) (sym c.in-Calls.is ∙ c.role_of.ensures)) in
-    let room = subst (λ n. suc c.args.code.now.depth * c.args.code.now.dummies ≤ n) (sym c.turn.auto.spots) c.requires.dummies in
-    calls.call_room c.requires.valid c.valid_is_safe.ensures c.turn.invariant here room
+    let room = subst (λ n. suc c.args.code.now.depth * c.args.code.now.dummies ≤ n) (sym c.turn.auto.spots) c.requires.ready.dummies in
+    calls.call_room c.requires.ready.valid c.valid_is_safe.ensures c.turn.invariant.turn here room
 
 pub keep_caller-requires : goal.keep_caller-requires
-keep_caller-requires c =
-    let at = turn.stands c.requires.valid c.valid_is_safe.ensures c.turn.invariant c.index-ops-pc.result c.deref-ops.result.now c.deref-ops.ensures.value c.index-ops-pc.is in
+keep_caller-requires g c =
+    let at = turn.stands c.requires.ready.valid c.valid_is_safe.ensures c.turn.invariant.turn c.index-ops-pc.result c.deref-ops.result.now c.deref-ops.ensures.value c.index-ops-pc.is in
     let here = at ∙ ap Some (roles.told (role.Calls c.in-Calls.to c.in-Calls.count) (instruction_of c.index-ops-pc.result) (sym c.in-Calls.is ∙ c.role_of.ensures)) in
-    let levels = subst (λ n. c.args.code.now.depth ≤ n) (sym c.turn.auto.resumes) c.requires.callers in
-    let deep = calls.call_deep c.requires.valid c.valid_is_safe.ensures c.turn.invariant here in
+    let levels = subst (λ n. c.args.code.now.depth ≤ n) (sym c.turn.auto.resumes) c.requires.ready.callers in
+    let deep = calls.call_deep c.requires.ready.valid c.valid_is_safe.ensures c.turn.invariant.turn here in
     omega arith
 
 pub overflow_add-level : goal.overflow_add-level
-overflow_add-level c =
-    let at = turn.stands c.requires.valid c.valid_is_safe.ensures c.turn.invariant c.index-ops-pc.result c.deref-ops.result.now c.deref-ops.ensures.value c.index-ops-pc.is in
+overflow_add-level g c =
+    let at = turn.stands c.requires.ready.valid c.valid_is_safe.ensures c.turn.invariant.turn c.index-ops-pc.result c.deref-ops.result.now c.deref-ops.ensures.value c.index-ops-pc.is in
     let here = at ∙ ap Some (roles.told (role.Calls c.in-Calls.to c.in-Calls.count) (instruction_of c.index-ops-pc.result) (sym c.in-Calls.is ∙ c.role_of.ensures)) in
-    let deep = calls.call_deep c.requires.valid c.valid_is_safe.ensures c.turn.invariant here in
+    let deep = calls.call_deep c.requires.ready.valid c.valid_is_safe.ensures c.turn.invariant.turn here in
     omega arith
 
 pub turn-smaller-in-Calls : goal.turn-smaller-in-Calls
-turn-smaller-in-Calls c =
-    let at = turn.stands c.requires.valid c.valid_is_safe.ensures c.turn.invariant c.index-ops-pc.result c.deref-ops.result.now c.deref-ops.ensures.value c.index-ops-pc.is in
+turn-smaller-in-Calls g c =
+    let at = turn.stands c.requires.ready.valid c.valid_is_safe.ensures c.turn.invariant.turn c.index-ops-pc.result c.deref-ops.result.now c.deref-ops.ensures.value c.index-ops-pc.is in
     let here = at ∙ ap Some (roles.told (role.Calls c.in-Calls.to c.in-Calls.count) (instruction_of c.index-ops-pc.result) (sym c.in-Calls.is ∙ c.role_of.ensures)) in
-    nearer_call (code_of c.args.code.now.ops.items) c.turn.pc c.in-Calls.to c.turn.left c.turn.level (calls.call_counted c.requires.valid c.valid_is_safe.ensures c.turn.invariant here) (ap is_counted here)
+    nearer_call (code_of c.args.code.now.ops.items) c.turn.pc c.in-Calls.to c.turn.left c.turn.level (calls.call_counted c.requires.ready.valid c.valid_is_safe.ensures c.turn.invariant.turn here) (ap is_counted here)
 
 pub turn-preserved-in-Calls : goal.turn-preserved-in-Calls
-turn-preserved-in-Calls c =
-    let at = turn.stands c.requires.valid c.valid_is_safe.ensures c.turn.invariant c.index-ops-pc.result c.deref-ops.result.now c.deref-ops.ensures.value c.index-ops-pc.is in
+turn-preserved-in-Calls g c =
+    let at = turn.stands c.requires.ready.valid c.valid_is_safe.ensures c.turn.invariant.turn c.index-ops-pc.result c.deref-ops.result.now c.deref-ops.ensures.value c.index-ops-pc.is in
     let here = at ∙ ap Some (roles.told (role.Calls c.in-Calls.to c.in-Calls.count) (instruction_of c.index-ops-pc.result) (sym c.in-Calls.is ∙ c.role_of.ensures)) in
-    let levels = subst (λ n. c.args.code.now.depth ≤ n) (sym c.turn.auto.resumes) c.requires.callers in
-    let deep = calls.call_deep c.requires.valid c.valid_is_safe.ensures c.turn.invariant here in
-    calls.calls_on c.requires.valid c.valid_is_safe.ensures c.turn.invariant here c.call-top.ensures.top c.call-top.ensures.handed c.keep_caller.ensures refl refl (omega arith) c.counted-executed-in-Calls.ensures
+    let levels = subst (λ n. c.args.code.now.depth ≤ n) (sym c.turn.auto.resumes) c.requires.ready.callers in
+    let deep = calls.call_deep c.requires.ready.valid c.valid_is_safe.ensures c.turn.invariant.turn here in
+    keeps_on c.turn.invariant (calls.calls_on c.requires.ready.valid c.valid_is_safe.ensures c.turn.invariant.turn here c.call-top.ensures.top c.call-top.ensures.handed c.keep_caller.ensures refl refl (omega arith) c.counted-executed-in-Calls.ensures)
 
 pub caller_below-resume-requires-clause-some : goal.caller_below-resume-requires-clause-some
-caller_below-resume-requires-clause-some c =
-    let at = turn.stands c.requires.valid c.valid_is_safe.ensures c.turn.invariant c.index-ops-pc.result c.deref-ops.result.now c.deref-ops.ensures.value c.index-ops-pc.is in
+caller_below-resume-requires-clause-some g c =
+    let at = turn.stands c.requires.ready.valid c.valid_is_safe.ensures c.turn.invariant.turn c.index-ops-pc.result c.deref-ops.result.now c.deref-ops.ensures.value c.index-ops-pc.is in
     let here = at ∙ ap Some (roles.told role.Returns (instruction_of c.index-ops-pc.result) (sym c.in-Returns.is ∙ c.role_of.ensures)) in
-    calls.returns_some c.requires.valid c.valid_is_safe.ensures c.turn.invariant here
+    calls.returns_some c.requires.ready.valid c.valid_is_safe.ensures c.turn.invariant.turn here
 
 pub caller_below-resume-requires-clause-within : goal.caller_below-resume-requires-clause-within
-caller_below-resume-requires-clause-within c =
-    let levels = subst (λ n. c.args.code.now.depth ≤ n) (sym c.turn.auto.resumes) c.requires.callers in
-    let deep = calls.deep c.requires.valid c.valid_is_safe.ensures c.turn.invariant in
+caller_below-resume-requires-clause-within g c =
+    let levels = subst (λ n. c.args.code.now.depth ≤ n) (sym c.turn.auto.resumes) c.requires.ready.callers in
+    let deep = calls.deep c.requires.ready.valid c.valid_is_safe.ensures c.turn.invariant.turn in
     omega arith
 
 pub overflow_sub-level : goal.overflow_sub-level
-overflow_sub-level c =
-    let at = turn.stands c.requires.valid c.valid_is_safe.ensures c.turn.invariant c.index-ops-pc.result c.deref-ops.result.now c.deref-ops.ensures.value c.index-ops-pc.is in
+overflow_sub-level g c =
+    let at = turn.stands c.requires.ready.valid c.valid_is_safe.ensures c.turn.invariant.turn c.index-ops-pc.result c.deref-ops.result.now c.deref-ops.ensures.value c.index-ops-pc.is in
     let here = at ∙ ap Some (roles.told role.Returns (instruction_of c.index-ops-pc.result) (sym c.in-Returns.is ∙ c.role_of.ensures)) in
-    calls.returns_some c.requires.valid c.valid_is_safe.ensures c.turn.invariant here
+    calls.returns_some c.requires.ready.valid c.valid_is_safe.ensures c.turn.invariant.turn here
 
 pub overflow_sub-base : goal.overflow_sub-base
-overflow_sub-base c =
-    let at = turn.stands c.requires.valid c.valid_is_safe.ensures c.turn.invariant c.index-ops-pc.result c.deref-ops.result.now c.deref-ops.ensures.value c.index-ops-pc.is in
+overflow_sub-base g c =
+    let at = turn.stands c.requires.ready.valid c.valid_is_safe.ensures c.turn.invariant.turn c.index-ops-pc.result c.deref-ops.result.now c.deref-ops.ensures.value c.index-ops-pc.is in
     let here = at ∙ ap Some (roles.told role.Returns (instruction_of c.index-ops-pc.result) (sym c.in-Returns.is ∙ c.role_of.ensures)) in
-    calls.returns_low c.requires.valid c.valid_is_safe.ensures c.turn.invariant here
+    calls.returns_low c.requires.ready.valid c.valid_is_safe.ensures c.turn.invariant.turn here
+
+pub turn-smaller-in-Returns : goal.turn-smaller-in-Returns
+turn-smaller-in-Returns g c =
+    let at = turn.stands c.requires.ready.valid c.valid_is_safe.ensures c.turn.invariant.turn c.index-ops-pc.result c.deref-ops.result.now c.deref-ops.ensures.value c.index-ops-pc.is in
+    let here = at ∙ ap Some (roles.told role.Returns (instruction_of c.index-ops-pc.result) (sym c.in-Returns.is ∙ c.role_of.ensures)) in
+    nearer_return (code_of c.args.code.now.ops.items) c.turn.pc c.caller_below-resume.result.at c.turn.left c.turn.level (calls.returns_some c.requires.ready.valid c.valid_is_safe.ensures c.turn.invariant.turn here) (ap is_counted here)
+
+pub turn-preserved-in-Returns : goal.turn-preserved-in-Returns
+turn-preserved-in-Returns g c =
+    let at = turn.stands c.requires.ready.valid c.valid_is_safe.ensures c.turn.invariant.turn c.index-ops-pc.result c.deref-ops.result.now c.deref-ops.ensures.value c.index-ops-pc.is in
+    let here = at ∙ ap Some (roles.told role.Returns (instruction_of c.index-ops-pc.result) (sym c.in-Returns.is ∙ c.role_of.ensures)) in
+    keeps_on c.turn.invariant (calls.returns_on c.requires.ready.valid c.valid_is_safe.ensures c.turn.invariant.turn here c.caller_below-resume.ensures c.counted-executed-in-Returns.ensures)
+
+pub record_step-requires-clause-hold : goal.record_step-requires-clause-hold
+record_step-requires-clause-hold g c =
+    let at = turn.stands c.requires.ready.valid c.valid_is_safe.ensures c.turn.invariant.turn c.index-ops-pc.result c.deref-ops.result.now c.deref-ops.ensures.value c.index-ops-pc.is in
+    let room = subst (λ n. suc c.args.code.now.depth * c.args.code.now.stack ≤ n) (sym c.turn.auto.stack) c.requires.ready.room in
+    turn.may_hold c.requires.ready.valid c.valid_is_safe.ensures c.turn.invariant.turn at room
+
+pub record_step-requires-clause-act : goal.record_step-requires-clause-act
+record_step-requires-clause-act g c =
+    let at = turn.stands c.requires.ready.valid c.valid_is_safe.ensures c.turn.invariant.turn c.index-ops-pc.result c.deref-ops.result.now c.deref-ops.ensures.value c.index-ops-pc.is in
+    let told = roles.told role.Records (instruction_of c.index-ops-pc.result) (sym c.in-Records.is ∙ c.role_of.ensures) in
+    subst (λ ps. MayAct ps (instruction_of c.index-ops-pc.result) c.turn.plan c.turn.flow.stand) (sym c.deref.ensures.value)
+    (may_act c.requires.ready.valid c.valid_is_safe.ensures c.turn.invariant at told.1 (roles.plan_of (code_of c.args.code.now.ops.items) (length c.args.code.now.plans.items) c.args.code.now.units c.turn.pc (instruction_of c.index-ops-pc.result) (turn.in_range c.requires.ready.valid c.valid_is_safe.ensures c.turn.invariant.turn at)))
 
 pub turn-smaller : goal.turn-smaller
-turn-smaller c =
-    let at = turn.stands c.requires.valid c.valid_is_safe.ensures c.turn.invariant c.index-ops-pc.result c.deref-ops.result.now c.deref-ops.ensures.value c.index-ops-pc.is in
-    let here = at ∙ ap Some (roles.told role.Returns (instruction_of c.index-ops-pc.result) (sym c.in-Returns.is ∙ c.role_of.ensures)) in
-    nearer_return (code_of c.args.code.now.ops.items) c.turn.pc c.caller_below-resume.result.at c.turn.left c.turn.level (calls.returns_some c.requires.valid c.valid_is_safe.ensures c.turn.invariant here) (ap is_counted here)
+turn-smaller g c =
+    let at = turn.stands c.requires.ready.valid c.valid_is_safe.ensures c.turn.invariant.turn c.index-ops-pc.result c.deref-ops.result.now c.deref-ops.ensures.value c.index-ops-pc.is in
+    let told = roles.told role.Records (instruction_of c.index-ops-pc.result) (sym c.in-Records.is ∙ c.role_of.ensures) in
+    turn.nearer_next c.requires.ready.valid c.valid_is_safe.ensures c.turn.invariant.turn at told.0
 
 pub turn-preserved : goal.turn-preserved
-turn-preserved c =
-    let at = turn.stands c.requires.valid c.valid_is_safe.ensures c.turn.invariant c.index-ops-pc.result c.deref-ops.result.now c.deref-ops.ensures.value c.index-ops-pc.is in
-    let here = at ∙ ap Some (roles.told role.Returns (instruction_of c.index-ops-pc.result) (sym c.in-Returns.is ∙ c.role_of.ensures)) in
-    calls.returns_on c.requires.valid c.valid_is_safe.ensures c.turn.invariant here c.caller_below-resume.ensures c.counted-executed-in-Returns.ensures
+turn-preserved g c =
+    let at = turn.stands c.requires.ready.valid c.valid_is_safe.ensures c.turn.invariant.turn c.index-ops-pc.result c.deref-ops.result.now c.deref-ops.ensures.value c.index-ops-pc.is in
+    let told = roles.told role.Records (instruction_of c.index-ops-pc.result) (sym c.in-Records.is ∙ c.role_of.ensures) in
+    acts_on c.requires.ready.valid c.valid_is_safe.ensures c.turn.invariant at told.1 g.met.K.Sink.in_a_row c.record_step.new.input c.record_step.new.out c.record_step.new.flow c.record_step.new.stack c.record_step.new.cells c.deref.result.now c.deref.ensures.value {r = (c.in-Ok-record_step.rest, c.in-Ok-record_step.number)} c.in-Ok-record_step.ensures.acts c.in-Ok-record_step.ensures.room (omega arith)
 
-pub unreachable-requires : goal.unreachable-requires
-unreachable-requires c =
-    let at = turn.stands c.requires.valid c.valid_is_safe.ensures c.turn.invariant c.index-ops-pc.result c.deref-ops.result.now c.deref-ops.ensures.value c.index-ops-pc.is in
-    true≢false (sym (c.requires.plain c.turn.pc (instruction_of c.index-ops-pc.result) at) ∙ ap is_plain (sym c.role_of.ensures ∙ c.in-Other.is))
+pub returns-in-Err-record_step : goal.returns-in-Err-record_step
+returns-in-Err-record_step g c =
+    let at = turn.stands c.requires.ready.valid c.valid_is_safe.ensures c.turn.invariant.turn c.index-ops-pc.result c.deref-ops.result.now c.deref-ops.ensures.value c.index-ops-pc.is in
+    let told = roles.told role.Records (instruction_of c.index-ops-pc.result) (sym c.in-Records.is ∙ c.role_of.ensures) in
+    answered g.S.Source.left g.K.Sink.puts g.S.Source.faults g.K.Sink.faults c.args.input.now c.record_step.new.input c.args.out.now c.record_step.new.out c.args.code.now c.args.steps _ _ _ _ c.over-in-Err-record_step.ensures (subst (IsEnd g.S.Source.left g.K.Sink.puts g.S.Source.faults g.K.Sink.faults c.args.input.now c.record_step.new.input c.args.out.now c.record_step.new.out c.args.code.now c.args.steps c.turn.left c.counted-in-Err-record_step.result) (sym c.end_at.ensures) (acts_over c.requires.ready.valid c.valid_is_safe.ensures c.turn.invariant at told.1 g.met.K.Sink.in_a_row c.record_step.new.input c.record_step.new.out c.record_step.new.flow c.record_step.new.stack c.record_step.new.cells c.deref.result.now c.deref.ensures.value c.counted-in-Err-record_step.ensures c.requires.unread c.in-Err-record_step.stop c.in-Err-record_step.ensures.acts))

@@ -1,0 +1,12 @@
+-- What came and went since the step began.
+use Rattle.std.proofs.Common.{◌≡◌}
+use Rattle.format_io.specs.Places.{hand_of}
+use Rattle.record_tape.specs.Moves.{onward, ahead}
+use Rattle.record_flow.proofs.Walking.{Since}
+use Rattle.record_flow.proofs.flow.Flow.due.Given as goal
+
+abbrev pub invariant-turns : goal.invariant-turns
+invariant-turns g l = Since g.S.Source.left g.K.Sink.puts g.S.Source.faults g.K.Sink.faults l.fn.input l.input l.fn.out l.out (onward l.kind) l.plan l.fn.self l.self × (l.self.stand.way ≡ l.fn.self.stand.way)
+
+abbrev pub decreases-turns : goal.decreases-turns
+decreases-turns g l = ahead (hand_of l.plan l.self.stand)

@@ -1,0 +1,3 @@
+-- The definitions that the contracts of record_flow cite.
+pub mod Flows
+pub mod Steps

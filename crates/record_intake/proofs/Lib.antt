@@ -1,0 +1,4 @@
+-- The lemmas of record_intake.
+pub mod FirstRecords
+pub mod Buffers
+pub mod Asking

@@ -1,0 +1,2 @@
+-- The definitions that the contracts of record_intake cite.
+pub mod Intakes
