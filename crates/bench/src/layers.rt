@@ -2,8 +2,9 @@
 
 use anyhow::{Result, bail};
 use f66_check::check_unit;
+use f66_tree::Unit;
 use free_scan::scan;
-use front::{Compiled, compile_text};
+use front::{Made, Translated, translate_text};
 use ground::{Dialect, Fault};
 use macro_define::{Gathered, TextRefusal, gather};
 use ports::FileLibrary;
@@ -46,25 +47,41 @@ pub fn parsed(rt: &HostRuntime, dialect: Dialect, path: &str) -> Result<usize> {
     }
 }
 
-/// The statements of the unit that the text becomes.
+/// The statements of the units that the text becomes.
 pub fn compiled(rt: &HostRuntime, dialect: Dialect, path: &str) -> Result<usize> {
     let mut library = FileLibrary::new(rt);
-    match compile_text(rt.alloc(), dialect, path, &mut library) {
-        Ok(Compiled { unit, files: _ }) => Ok(unit.unit().statements.len()),
+    match translate_text(rt.alloc(), dialect, path, &mut library) {
+        Ok(translated) => Ok(statements(&translated.made.units)),
         Err(refusal) => refused(refusal),
     }
 }
 
-/// The statements of that unit once it has been checked.
+/// The statements of those units once they have been checked.
 pub fn checked(rt: &HostRuntime, dialect: Dialect, path: &str) -> Result<usize> {
     let mut library = FileLibrary::new(rt);
-    match compile_text(rt.alloc(), dialect, path, &mut library) {
-        Ok(Compiled { unit, files: _ }) => {
-            let unit = check_unit(rt.alloc(), unit.into_unit())?;
-            Ok(unit.unit().statements.len())
-        }
+    match translate_text(rt.alloc(), dialect, path, &mut library) {
+        Ok(Translated { made, files: _ }) => statements_checked(rt, made),
         Err(refusal) => refused(refusal),
     }
+}
+
+fn statements_checked(rt: &HostRuntime, made: Made) -> Result<usize> {
+    let Made { units, finish: _ } = made;
+    let mut count: usize = 0;
+    for unit in units {
+        let unit = check_unit(rt.alloc(), unit)?;
+        count = count.saturating_add(unit.unit().statements.len());
+    }
+    Ok(count)
+}
+
+/// The statements of all units.
+fn statements(units: &[Unit]) -> usize {
+    let mut count: usize = 0;
+    for unit in units {
+        count = count.saturating_add(unit.statements.len());
+    }
+    count
 }
 
 fn refused(refusal: TextRefusal) -> Result<usize> {

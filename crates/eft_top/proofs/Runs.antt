@@ -2,18 +2,16 @@
 use Rattle.std.proofs.Common.{◌≡◌, ℕ, ◌+◌, ◌*◌, ◌≤◌, Bool, true, false, List, [], ◌∷◌, ◌++◌, append_assoc, ◌⊎◌, inl, inr, refl, sym, ◌∙◌, ap, subst, Some, None}
 use Rattle.std.specs.declared.option.Option.{Option}
 use Rattle.ports.specs.Records.{output_bytes}
-use Rattle.f66_tree.specs.Syntax.{Routine}
+use Rattle.f66_program.specs.Linking.{Program}
 use Rattle.f66_tree.specs.World.{Record, Shown, IsPrefix, Finish, End, Ended, GoesOn, Lost}
-use Rattle.f66_tree.specs.Units.{notes_of}
-use Rattle.f66_tree.specs.OneUnit.{one_unit}
 use Rattle.f66_tree.specs.Agreement.{Same}
 use Rattle.f66_tree.specs.Laws.{RunsExtend}
 use Rattle.macro_define.specs.Answers.{Known, Holds}
 use Rattle.ground.specs.declared.token.Dialect.{Dialect}
 use Rattle.front.specs.Checked.{Meaning}
 use Rattle.front.specs.Verdict.{Accepts, Becomes}
+use Rattle.front.specs.Laws.{OneVerdict}
 use Rattle.front.specs.Programs.{AreLinked}
-use Rattle.front.proofs.OneVerdict.{one_verdict}
 use Rattle.eft_top.specs.declared.status.Status.{Status}
 use Rattle.eft_top.specs.declared.status.Status.TheVariants.{Done, Usage, SourceFault, LibraryFault, InputFault, OutputFault, StepLimit, Memory, Stopped, InputTooLong, Trapped}
 use Rattle.eft_top.specs.Input.{Got, is_too_long, records_of}
@@ -31,13 +29,11 @@ some_injective e = cc
 prefix_on : (a b c : List Record) → IsPrefix a b → IsPrefix b c → IsPrefix a c
 prefix_on a b c p q = record { rest = p.rest ++ q.rest; is = sym (append_assoc a p.rest q.rest) ∙ (ap (λ (xs : List Record). xs ++ q.rest) p.is ∙ q.is) }
 
-longer : RunsExtend → (units : List Routine) (run : Meaning) → AreLinked units run → (input : List Record) (a b : ℕ) → a ≤ b → IsPrefix (run input a).records (run input b).records
-longer extend [] run linked input a b le = absurd linked
-longer extend (unit ∷ []) run linked input a b le =
-    subst (λ (r : Meaning). IsPrefix (r input a).records (r input b).records) (sym linked.1) (extend (one_unit (notes_of unit.lines)) (λ u. unit.lines) input a b le).grows
-longer extend (unit ∷ other ∷ units) run linked input a b le = absurd linked
+longer : RunsExtend → (made : Program) (run : Meaning) → AreLinked made run → (input : List Record) (a b : ℕ) → a ≤ b → IsPrefix (run input a).records (run input b).records
+longer extend made run linked input a b le =
+    subst (λ (r : Meaning). IsPrefix (r input a).records (r input b).records) (sym linked.is) (extend linked.linkage linked.codes input a b le).grows
 
-module _ (words : List (List ℕ)) (limit : ℕ) (language : Dialect) (file : List ℕ) (held : List ℕ → Option (List ℕ)) (files : List (List ℕ)) (meaning : Meaning) (given : Got → Type 0) (result : Status) (out diag : List ℕ → Type 0) where
+module _ (verdicts : OneVerdict) (words : List (List ℕ)) (limit : ℕ) (language : Dialect) (file : List ℕ) (held : List ℕ → Option (List ℕ)) (files : List (List ℕ)) (meaning : Meaning) (given : Got → Type 0) (result : Status) (out diag : List ℕ → Type 0) where
   -- ---- from an answer to a run ----
 
   -- a run that the call presents
@@ -62,7 +58,7 @@ module _ (words : List (List ℕ)) (limit : ℕ) (language : Dialect) (file : Li
   ran_by : (o : Outcome) → (h : IsRunOf words limit language file held files meaning given result out diag) → IsOutcomeBy (Run limit language file) (Some held) given o → (got : Got) × given got × RunsIn (is_too_long got) files (IsRun meaning limit (records_of got)) limit got o
   ran_by o h is =
       let told = subst (λ (k : Known). Becomes language file k is.2.0) is.1 is.2.1 in
-      let same = one_verdict language file (Holds held) is.2.0 (Accepts files meaning) told h.accepted in
+      let same = verdicts language file (Holds held) is.2.0 (Accepts files meaning) told h.accepted in
       subst (λ v. ComesOf v limit given o) same is.2.2
 
   ran : IsRunOf words limit language file held files meaning given result out diag → IsOfText result → (got : Got) × given got × (((is_too_long got ≡ true) × (result ≡ InputTooLong)) ⊎ Ran got)
@@ -117,7 +113,7 @@ module _ (words : List (List ℕ)) (limit : ℕ) (language : Dialect) (file : Li
     goes_so : RunsExtend → (b : ℕ) → (meaning input b).end ≡ GoesOn → far b ≤ limit → IsPrefix (meaning input b).records r.run.records
     goes_so extend b e le =
         prefix_on (meaning input b).records (r.is.program.run input (far b)).records r.run.records ((r.is.program.agrees input).going_too b e)
-        (subst (λ (s : Shown). IsPrefix (r.is.program.run input (far b)).records s.records) (sym r.is.is) (longer extend r.is.units r.is.program.run r.is.program.linked input (far b) limit le))
+        (subst (λ (s : Shown). IsPrefix (r.is.program.run input (far b)).records s.records) (sym r.is.is) (longer extend r.is.made r.is.program.run r.is.program.linked input (far b) limit le))
 
     misses_nothing : RunsExtend → MissesNothing (meaning input) files limit got.failed result out diag
     misses_nothing extend = record {
@@ -153,8 +149,8 @@ module _ (words : List (List ℕ)) (limit : ℕ) (language : Dialect) (file : Li
       short_one got short (inr one) = misses_nothing got one extend
 
 module _ (given : Got → Type 0) (out diag : List ℕ → Type 0) where
-  pub run_shows_meaning : RunShowsMeaning given out diag
-  run_shows_meaning words limit language file held files meaning result = shows_meaning words limit language file held files meaning given result out diag
+  pub run_shows_meaning : OneVerdict → RunShowsMeaning given out diag
+  run_shows_meaning verdicts words limit language file held files meaning result = shows_meaning verdicts words limit language file held files meaning given result out diag
 
-  pub run_misses_nothing : RunsExtend → RunMissesNothing given out diag
-  run_misses_nothing extend words limit language file held files meaning result = runs_whole words limit language file held files meaning given result out diag extend
+  pub run_misses_nothing : OneVerdict → RunsExtend → RunMissesNothing given out diag
+  run_misses_nothing verdicts extend words limit language file held files meaning result = runs_whole verdicts words limit language file held files meaning given result out diag extend

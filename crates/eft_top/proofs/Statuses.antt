@@ -7,7 +7,7 @@ use Rattle.ground.specs.declared.fault.Fault.{Fault}
 use Rattle.f66_tree.specs.World.{Shown, End, Ended, GoesOn, Lost, Done, Stopped, Trapped, Wrong}
 use Rattle.macro_define.specs.Answers.{Known, Holds, answer}
 use Rattle.front.specs.Verdict.{Verdict, Refuses, Accepts}
-use Rattle.front.proofs.OneVerdict.{one_verdict}
+use Rattle.front.specs.Laws.{OneVerdict}
 use Rattle.deck_file.specs.Loaded.{Loaded}
 use Rattle.deck_file.proofs.OneLoaded.{both_refused}
 use Rattle.eft_top.specs.declared.status.Status.{Status}
@@ -15,10 +15,11 @@ use Rattle.eft_top.specs.declared.status.Status.TheVariants.{Done as IsDone, Usa
 use Rattle.eft_top.specs.declared.report.Report.{Report}
 use Rattle.eft_top.specs.Words.{Command, Run, Cards, Deck, AskNothing}
 use Rattle.eft_top.specs.Input.{Got, is_too_long}
-use Rattle.eft_top.specs.Outcome.{Outcome, HasFault, HasDeck, HasLongInput, Runs, RunsIn, IsPrinted, ComesOf, DeckComesOf, is_end_of_input, trap_status, IsOutcomeOf, IsOutcomeBy, status_of, end_status}
+use Rattle.machine.specs.Runs.{is_end_of_input}
+use Rattle.eft_top.specs.Outcome.{Outcome, HasFault, HasDeck, HasLongInput, Runs, RunsIn, IsPrinted, ComesOf, DeckComesOf, trap_status, IsOutcomeOf, IsOutcomeBy, status_of, end_status}
 use Rattle.eft_top.specs.Lines.{output_fault_line}
 use Rattle.eft_top.specs.Causes.{Comes, MayBe, Compels, IsOfText, IsShown, IfTold, AnswersCall, WasToShow}
-use Rattle.eft_top.specs.Report.{IsReport, line_bytes, out_bytes}
+use Rattle.eft_top.specs.Report.{IsReport, line_bytes}
 use Rattle.eft_top.specs.Story.{CameOf, NotFetched, NoMemory, Shows, Came, BadWords, Asked}
 
 some_injective : {a b : Status} → Some a ≡ Some b → a ≡ b
@@ -78,25 +79,25 @@ faulty_deck : (file : List ℕ) (loaded : Loaded) (limit : ℕ) (given : Got →
 faulty_deck file (Err fault) limit given o h e = (fault, refl)
 faulty_deck file (Ok lines) limit given o h e = absurd (no_run_over_is_faulty (file ∷ []) _ limit h.0 o (is_too_long h.0) h.2 e)
 
-faulty_too : (command : Command) (known : Known) (given : Got → Type 0) (one other : Outcome) → IsOutcomeOf command known given one → IsOutcomeOf command known given other → status_of other ≡ Some SourceFault → status_of one ≡ Some SourceFault
-faulty_too (Run limit language file) known given one other h k e =
-    let same : k.0 ≡ h.0 = one_verdict language file known k.0 h.0 k.1 h.1 in
+faulty_too : OneVerdict → (command : Command) (known : Known) (given : Got → Type 0) (one other : Outcome) → IsOutcomeOf command known given one → IsOutcomeOf command known given other → status_of other ≡ Some SourceFault → status_of one ≡ Some SourceFault
+faulty_too verdicts (Run limit language file) known given one other h k e =
+    let same : k.0 ≡ h.0 = verdicts language file known k.0 h.0 k.1 h.1 in
     faulty_of h.0 limit given one other h.2 (subst (λ v. ComesOf v limit given other) same k.2) e
-faulty_too (Cards language file) known given one other h k e =
-    let same : k.0 ≡ h.0 = one_verdict language file known k.0 h.0 k.1 h.1 in
+faulty_too verdicts (Cards language file) known given one other h k e =
+    let same : k.0 ≡ h.0 = verdicts language file known k.0 h.0 k.1 h.1 in
     faulty_print h.0 one other h.2 (subst (λ v. IsPrinted v other) same k.2) e
-faulty_too (Deck limit file) known given one other h k e =
+faulty_too verdicts (Deck limit file) known given one other h k e =
     let refused = faulty_deck file k.0 limit given other k.2 e in
     let too = both_refused (answer known file) k.0 h.0 refused.0 k.1 refused.1 h.1 in
     ap status_of (subst (λ l. DeckComesOf file l limit given one) too.1 h.2)
 
-compelled : (command : Command) (known : Known) (given : Got → Type 0) (o : Outcome) → IsOutcomeOf command known given o → (status : Status) → Compels (IsOutcomeOf command known given) status → status_of o ≡ Some status
-compelled command known given o told SourceFault may = faulty_too command known given o may.0 told may.1 may.2
-compelled command known given o told status must = must o told
+compelled : OneVerdict → (command : Command) (known : Known) (given : Got → Type 0) (o : Outcome) → IsOutcomeOf command known given o → (status : Status) → Compels (IsOutcomeOf command known given) status → status_of o ≡ Some status
+compelled verdicts command known given o told SourceFault may = faulty_too verdicts command known given o may.0 told may.1 may.2
+compelled verdicts command known given o told status must = must o told
 
 -- ---- what a call answers ----
 
-module _ (asks : Command → Type 0) (alone : (a b : Command) → asks a → asks b → a ≡ b) (files : Option (List ℕ → Option (List ℕ))) (before now : ℕ) (given : Got → Type 0) (report : Report) (result : Status) (put : (result ≡ report.status) ⊎ (result ≡ OutputFault)) where
+module _ (verdicts : OneVerdict) (asks : Command → Type 0) (alone : (a b : Command) → asks a → asks b → a ≡ b) (files : Option (List ℕ → Option (List ℕ))) (before now : ℕ) (given : Got → Type 0) (report : Report) (result : Status) (put : (result ≡ report.status) ⊎ (result ≡ OutputFault)) where
   -- a status that is none of a text, before its puts and after them
   no_text : (some : Status) → report.status ≡ some → (IsOfText some → ⊥) → IsOfText result → ⊥
   no_text some is other text = elim put [
@@ -135,7 +136,7 @@ module _ (asks : Command → Type 0) (alone : (a b : Command) → asks a → ask
         ],
       );
       wherever = λ q. elim put [
-        | inl same ↦ inl (same ∙ some_injective (shows.status ∙ compelled command (Holds held) given o is status q))
+        | inl same ↦ inl (same ∙ some_injective (shows.status ∙ compelled verdicts command (Holds held) given o is status q))
         | inr failed ↦ inr (inr (inl failed))
       ];
     }
@@ -162,7 +163,7 @@ module _ (asks : Command → Type 0) (alone : (a b : Command) → asks a → ask
       by (Some held) came1 = status_comes command held status text came1
 
   module _ (out diag : List ℕ → Type 0) where
-    shown_of : (command : Command) → asks command → CameOf command files before now given report → IsOfText result → out (out_bytes report.out) → diag (line_bytes report.line) → IsShown asks files given result out diag
+    shown_of : (command : Command) → asks command → CameOf command files before now given report → IsOfText result → out (report.out.items) → diag (line_bytes report.line) → IsShown asks files given result out diag
     shown_of command asked (NotFetched rose says) text p d = absurd (no_text LibraryFault says.status (λ h. h) text)
     shown_of command asked (NoMemory says) text p d = absurd (no_text Memory says.status (λ h. h) text)
     shown_of command asked (Shows o is same shows) text p d = record {
@@ -173,11 +174,11 @@ module _ (asks : Command → Type 0) (alone : (a b : Command) → asks a → ask
       on_diag = subst diag shows.line d;
     }
 
-    shown : Came asks files before now given report → IsOfText result → out (out_bytes report.out) → diag (line_bytes report.line) → IsShown asks files given result out diag
+    shown : Came asks files before now given report → IsOfText result → out (report.out.items) → diag (line_bytes report.line) → IsShown asks files given result out diag
     shown (BadWords none says) text p d = absurd (no_text Usage says.status (λ h. h) text)
     shown (Asked command asked came) text p d = shown_of command asked came text p d
 
-    pub answered : Came asks files before now given report → (IsOfText result → out (out_bytes report.out) × diag (line_bytes report.line)) → AnswersCall asks files given result out diag
+    pub answered : Came asks files before now given report → (IsOfText result → out (report.out.items) × diag (line_bytes report.line)) → AnswersCall asks files given result out diag
     answered came held = record {
       usage = usage_comes came;
       status = λ command asked status text. statuses_come command asked came status text;
@@ -286,12 +287,12 @@ module _ (asks : Command → Type 0) (files : Option (List ℕ → Option (List 
   all_fetched (BadWords none says) text = absurd (subst IsOfText says.status text)
   all_fetched (Asked command asked came) text = fetched_of command came text
 
-  module _ (out diag : List ℕ → Type 0) (some : out_bytes report.out ≡ [] → line_bytes report.line ≡ [] → ⊥) (p : out (out_bytes report.out)) (d : diag (line_bytes report.line) ⊎ diag output_fault_line) where
+  module _ (out diag : List ℕ → Type 0) (some : report.out.items ≡ [] → line_bytes report.line ≡ [] → ⊥) (p : out (report.out.items)) (d : diag (line_bytes report.line) ⊎ diag output_fault_line) where
     planned_of : (command : Command) → asks command → CameOf command files before now given report → WasToShow asks files given out diag
-    planned_of command asked (NotFetched rose says) = record { bytes = out_bytes report.out; line = line_bytes report.line; planned = inl (says.on_out, inr (inl says.line)); some = some; on_out = p; on_diag = d }
-    planned_of command asked (NoMemory says) = record { bytes = out_bytes report.out; line = line_bytes report.line; planned = inl (says.on_out, inr (inr (inl says.line))); some = some; on_out = p; on_diag = d }
-    planned_of command asked (Shows o is same shows) = record { bytes = out_bytes report.out; line = line_bytes report.line; planned = inr (o, (command, asked, is), shows.on_out, shows.line); some = some; on_out = p; on_diag = d }
+    planned_of command asked (NotFetched rose says) = record { bytes = report.out.items; line = line_bytes report.line; planned = inl (says.on_out, inr (inl says.line)); some = some; on_out = p; on_diag = d }
+    planned_of command asked (NoMemory says) = record { bytes = report.out.items; line = line_bytes report.line; planned = inl (says.on_out, inr (inr (inl says.line))); some = some; on_out = p; on_diag = d }
+    planned_of command asked (Shows o is same shows) = record { bytes = report.out.items; line = line_bytes report.line; planned = inr (o, (command, asked, is), shows.on_out, shows.line); some = some; on_out = p; on_diag = d }
 
     pub planned : Came asks files before now given report → WasToShow asks files given out diag
-    planned (BadWords none says) = record { bytes = out_bytes report.out; line = line_bytes report.line; planned = inl (says.on_out, inl says.line); some = some; on_out = p; on_diag = d }
+    planned (BadWords none says) = record { bytes = report.out.items; line = line_bytes report.line; planned = inl (says.on_out, inl says.line); some = some; on_out = p; on_diag = d }
     planned (Asked command asked came) = planned_of command asked came

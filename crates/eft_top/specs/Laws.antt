@@ -17,7 +17,7 @@ use Rattle.eft_top.specs.Outcome.{end_status, end_line}
 use Rattle.eft_top.specs.Causes.{IsOneOf, IsOfText, AnswersCall}
 
 -- The words ask for a run of at most so many steps of the text in a file; the library tells that text, with its includes, and it is
--- accepted with this meaning and these names of files; and this was the answer to the call.
+-- accepted to run with this meaning and these names of files; and this was the answer to the call.
 pub record IsRunOf (words : List (List ℕ)) (limit : ℕ) (language : Dialect) (file : List ℕ) (held : List ℕ → Option (List ℕ)) (files : List (List ℕ)) (meaning : Meaning) (given : Got → Type 0) (result : Status) (out diag : List ℕ → Type 0) : Type 0 where
   pub asks : AskFor words (Run limit language file)
   pub accepted : Becomes language file (Holds held) (Accepts files meaning)

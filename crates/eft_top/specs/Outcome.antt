@@ -4,16 +4,15 @@ use Rattle.std.specs.declared.option.Option.{Option}
 use Rattle.ground.specs.declared.fault.Fault.{Fault}
 use Rattle.ground.specs.declared.place.Place.{Place}
 use Rattle.ground.specs.declared.trap.Trap.{Trap}
-use Rattle.ground.specs.declared.trap.Trap.TheVariants.{EndOfInput}
 use Rattle.ports.specs.Records.{output_bytes}
 use Rattle.f66_tree.specs.World.{Record, Shown, End, Ended, GoesOn, Lost, Done, Stopped, Trapped, Wrong}
-use Rattle.f66_tree.specs.Syntax.{Line, Routine}
-use Rattle.f66_tree.specs.OneUnit.{executed}
+use Rattle.f66_program.specs.Linking.{Program}
 use Rattle.macro_define.specs.Answers.{Known, IsOf, answer}
 use Rattle.front.specs.Checked.{Meaning}
 use Rattle.deck.specs.Decks.{deck_of}
 use Rattle.front.specs.Verdict.{Verdict, Refuses, Accepts, Becomes, file_name}
 use Rattle.front.specs.Programs.{IsProgramOf}
+use Rattle.machine.specs.Runs.{IsRunOf, is_end_of_input}
 use Rattle.deck_file.specs.Loaded.{Loaded, IsLoaded}
 use Rattle.eft_top.specs.declared.status.Status.{Status}
 use Rattle.eft_top.specs.declared.status.Status.TheVariants.{SourceFault, Done as IsDone, Stopped as IsStopped, Trapped as IsTrapped, StepLimit, InputFault, InputTooLong}
@@ -34,16 +33,16 @@ pub data Outcome : Type 0 where
 -- end; where it goes on, that program goes on past so many statements, and its records begin those of the meaning; and
 -- whatever the meaning does with a work w where 32 * (w + 1) is within the limit, the run has done.
 pub record IsRun (meaning : Meaning) (limit : ℕ) (input : List Record) (shown : Shown) : Type 0 where
-  pub units : List Routine
-  pub program : IsProgramOf meaning units
+  pub made : Program
+  pub program : IsProgramOf meaning made
   pub is : shown ≡ program.run input limit
 
--- A deck of a text is the cards of a program of its meaning: of sound FORTRAN that agrees with the meaning, and each of whose
--- statements fits its cards.
+-- A deck of a text is the cards of a program of its meaning: of units of sound FORTRAN that are linked and agree with the meaning, and
+-- each of whose headers and statements fits its cards.
 pub record IsDeck (meaning : Meaning) (deck : List ℕ) : Type 0 where
-  pub units : List Routine
-  pub program : IsProgramOf meaning units
-  pub is : deck ≡ deck_of units
+  pub made : Program
+  pub program : IsProgramOf meaning made
+  pub is : deck ≡ deck_of made.units
 
 -- a refused text comes to its fault, an accepted one to a deck
 abbrev pub IsPrinted : Verdict → Outcome → Type 0
@@ -64,14 +63,10 @@ abbrev pub ComesOf : Verdict → ℕ → (Got → Type 0) → Outcome → Type 0
 ComesOf (Refuses fault file) limit given outcome = outcome ≡ HasFault fault file
 ComesOf (Accepts files meaning) limit given outcome = RunsOver files (λ got. IsRun meaning limit (records_of got)) limit given outcome
 
--- a run of a deck's statements over what was got
-abbrev pub IsDeckRun : List Line → ℕ → Got → Shown → Type 0
-IsDeckRun lines limit got shown = shown ≡ executed lines (records_of got) limit
-
--- a refused deck comes to its fault, another one to its run; all its places are in its file
+-- a refused deck comes to its fault, another one to the run of its units; all its places are in its file
 abbrev pub DeckComesOf : List ℕ → Loaded → ℕ → (Got → Type 0) → Outcome → Type 0
 DeckComesOf file (Err fault) limit given outcome = outcome ≡ HasFault fault file
-DeckComesOf file (Ok lines) limit given outcome = RunsOver (file ∷ []) (IsDeckRun lines limit) limit given outcome
+DeckComesOf file (Ok made) limit given outcome = RunsOver (file ∷ []) (λ got. IsRunOf made (records_of got) limit) limit given outcome
 
 -- what may come of a command, by what is known of the library and what reads may have given
 abbrev pub IsOutcomeOf : Command → Known → (Got → Type 0) → Outcome → Type 0
@@ -86,10 +81,6 @@ IsOutcomeBy command files given outcome = (known : Known) × IsOf files known ×
 -- the same of the command that words ask for
 abbrev pub IsOutcome : (Command → Type 0) → Option (List ℕ → Option (List ℕ)) → (Got → Type 0) → Outcome → Type 0
 IsOutcome asks files given outcome = (command : Command) × asks command × IsOutcomeBy command files given outcome
-
-abbrev pub is_end_of_input : Trap → Bool
-is_end_of_input EndOfInput = true
-is_end_of_input _ = false
 
 -- where a read has failed, the end of the records got is no end of the input
 abbrev pub trap_status : Bool → Trap → Status

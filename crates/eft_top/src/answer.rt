@@ -1,8 +1,11 @@
-// What a call has to show: the words are read, the text is compiled or the deck is read, and the text's deck is written, or the input
-// is read and the unit is walked over it.
-ghost use Rattle.std.specs.Prelude.{◌≡◌, ℕ, List, [], ◌∷◌, false, IfOk};
+// What a call has to show: the words are read, the text is translated or the deck is read, and the text's deck is written, or the
+// input is read and the units run over it.
+ghost use Rattle.std.specs.Prelude.{◌≡◌, ℕ, List, [], ◌∷◌, false, map, All, IfOk};
 ghost use Rattle.ground.specs.declared.token.Dialect.{Dialect};
 ghost use Rattle.f66_tree.specs.Views.{routine_of};
+ghost use Rattle.f66_check.specs.Answers.{IsSoundUnit};
+ghost use Rattle.linker.specs.Rules.{program_of};
+ghost use Rattle.machine.specs.Runs.{IsSoundProgram};
 ghost use Rattle.stmt_text.specs.Fitting.{IsPrintable};
 ghost use Rattle.deck.specs.Decks.{deck_of};
 ghost use Rattle.eft_top.specs.Words.{AskFor, texts, Run, Cards, Deck};
@@ -17,13 +20,14 @@ use crate::Status;
 use crate::input::{Got, read_input};
 use crate::report::Report;
 use crate::words::{Asked, read_words};
-use deck::push_unit;
+use deck::write_deck;
 use deck_file::load_deck;
-use front::{Compiled, TextRefusal, compile_text};
-use ground::{Dialect, List, Memory, Refusal, Text};
+use f66_tree::Unit;
+use front::{TextRefusal, Translated, translate_text};
+use ground::{Dialect, List, Memory, Place, Refusal, Text};
+use machine::run_units;
 use ports::{Library, Source};
 use std::alloc::{AllocError, Global};
-use unit_walk::walk;
 
 /// All that a call does but for its puts.
 pub fn answer_to<L: Library, S: Source>(
@@ -72,7 +76,7 @@ fn report_of<L: Library, S: Source>(
     }
 }
 
-/// Compiles and runs the text in a file.
+/// Translates and runs the text in a file.
 fn run_file<L: Library, S: Source>(
     alloc: Global,
     limit: u64,
@@ -86,8 +90,10 @@ fn run_file<L: Library, S: Source>(
     ensures unread { IfOk result (λ report. NeedsNoInput report.status → input.new ≡ input.old) }
     ensures came { IfOk result (CameOf (Run limit language file.now) (L.files library.old) (L.faults library.old) (L.faults library.new) (HasGiven S.left S.faults input.old input.new)) }
 {
-    match compile_text(alloc, language, file, library) {
-        Ok(compiled) => read_and_run(alloc, limit, &compiled, input),
+    match translate_text(alloc, language, file, library) {
+        Ok(Translated { made, files }) => {
+            read_and_run(alloc, limit, &made.units, made.finish, &files, input)
+        }
         Err(refusal) => refused(alloc, refusal),
     }
 }
@@ -107,7 +113,7 @@ fn run_deck<L: Library, S: Source>(
 {
     let files = only_file(alloc, file)?;
     match load_deck(alloc, file, library) {
-        Ok(unit) => read_and_run(alloc, limit, &Compiled { unit, files }, input),
+        Ok(deck) => read_and_run(alloc, limit, &deck.units, deck.finish, &files, input),
         Err(refusal) => refused(alloc, refusal),
     }
 }
@@ -122,7 +128,7 @@ fn only_file(alloc: Global, file: &str) -> Result<List<Text>, AllocError>
     Ok(files)
 }
 
-/// Compiles the text in a file, and writes its deck.
+/// Translates the text in a file, and writes its deck.
 fn print_file<L: Library>(
     alloc: Global,
     language: Dialect,
@@ -132,18 +138,19 @@ fn print_file<L: Library>(
     ensures becomes { L.becomes library.old library.new }
     ensures came { IfOk result (CameOf (Cards language file.now) (L.files library.old) (L.faults library.old) (L.faults library.new) is_unread) }
 {
-    match compile_text(alloc, language, file, library) {
-        Ok(compiled) => print_unit(alloc, &compiled),
+    match translate_text(alloc, language, file, library) {
+        Ok(translated) => print_units(alloc, &translated.made.units),
         Err(refusal) => refused(alloc, refusal),
     }
 }
 
-fn print_unit(alloc: Global, compiled: &Compiled) -> Result<Report, Memory>
-    requires printable { IsPrintable (routine_of compiled.now.unit) }
-    ensures { IfOk result (λ report. IsReport report (HasDeck (deck_of (routine_of compiled.now.unit ∷ [])))) }
+fn print_units(alloc: Global, units: &List<Unit>) -> Result<Report, Memory>
+    requires sound { All IsSoundUnit (map routine_of units.now.items) }
+    requires printable { All IsPrintable (map routine_of units.now.items) }
+    ensures { IfOk result (λ report. IsReport report (HasDeck (deck_of (map routine_of units.now.items)))) }
 {
     let mut deck = Vec::new(alloc);
-    match push_unit(compiled.unit.unit(), &mut deck) {
+    match write_deck(units, &mut deck) {
         Ok(()) => Ok(Report::of_deck(deck)),
         Err(Refusal::Memory) => Err(Memory),
         Err(Refusal::Fault(_)) => unreachable!(),
@@ -160,31 +167,41 @@ fn refused(alloc: Global, refusal: TextRefusal) -> Result<Report, Memory>
     }
 }
 
-/// Reads the input, and runs over its records.
+/// Reads the input, and runs linked units over its records.
 fn read_and_run<S: Source>(
     alloc: Global,
     limit: u64,
-    compiled: &Compiled,
+    units: &List<Unit>,
+    finish: Place,
+    files: &List<Text>,
     input: &mut S,
 ) -> Result<Report, Memory>
+    requires { IsSoundProgram (program_of units.now.items finish) }
     ensures read { HasRead (S.left input.old) (S.left input.new) }
     ensures needs { IfOk result (λ report. NeedsNoInput report.status → ⊥) }
     ensures report { IfOk result (λ report. (got : AllGot) × HasGiven S.left S.faults input.old input.new got
-        × ReportsOn report compiled.now limit got) }
+        × ReportsOn report files.now.items (program_of units.now.items finish) limit got) }
 {
     let got = read_input(alloc, input)?;
     if got.is_too_long() {
         return Ok(Report::fixed(alloc, Status::InputTooLong, "input too long\n"));
     }
-    run(alloc, limit, compiled, got)
+    run(alloc, limit, units, finish, files, got)
 }
 
-fn run(alloc: Global, limit: u64, compiled: &Compiled, got: Got) -> Result<Report, Memory>
-    requires { is_too_long (got_of got) ≡ false }
+fn run(
+    alloc: Global,
+    limit: u64,
+    units: &List<Unit>,
+    finish: Place,
+    files: &List<Text>,
+    got: Got,
+) -> Result<Report, Memory>
+    requires sound { IsSoundProgram (program_of units.now.items finish) }
+    requires short { is_too_long (got_of got) ≡ false }
     ensures needs { IfOk result (λ report. NeedsNoInput report.status → ⊥) }
-    ensures report { IfOk result (λ report. ReportsOn report compiled.now limit (got_of got)) }
+    ensures report { IfOk result (λ report. ReportsOn report files.now.items (program_of units.now.items finish) limit (got_of got)) }
 {
-    let failed = got.failed;
-    let walked = walk(alloc, &compiled.unit, got.into_records(), limit)?;
-    Ok(Report::of_run(alloc, &compiled.files, limit, failed, walked)?)
+    let ran = run_units(alloc, units, finish, got.bytes, got.failed, limit)?;
+    Ok(Report::of_run(alloc, files, limit, ran)?)
 }

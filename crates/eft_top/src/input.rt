@@ -1,8 +1,8 @@
 // All of an input, before a run begins.
 ghost use Rattle.std.specs.Prelude.{◌≡◌, IfOk};
-ghost use Rattle.eft_top.specs.Input.{HasGiven, HasRead, got_of, is_too_long as is_long_input, records_of};
+ghost use Rattle.eft_top.specs.Input.{HasGiven, HasRead, got_of, is_too_long as is_long_input};
 
-use ports::{Failed, Source, Whole};
+use ports::{Failed, Source};
 use std::alloc::{AllocError, Global};
 
 /// The most bytes that an input may have.
@@ -24,17 +24,6 @@ impl Got {
         ensures { result ≡ is_long_input (got_of self.now) }
     {
         self.bytes.len() > MOST_BYTES
-    }
-
-    /// The records of these bytes.
-    pub fn into_records(self) -> Whole
-        ensures { result ≡ records_of (got_of self) }
-    {
-        if self.failed {
-            Whole::cut(self.bytes)
-        } else {
-            Whole::new(self.bytes)
-        }
     }
 }
 

@@ -3,13 +3,16 @@ ghost use Rattle.eft_top.specs.Input.{HasGiven};
 ghost use Rattle.eft_top.specs.Laws.{RunShowsMeaning, RunMissesNothing};
 
 use f66_tree::runs_extend;
+use front::one_verdict;
 use ports::{Sink, Source};
 
 /// What a run shows is what the text means.
 pub fn a_run_shows_the_meaning<S: Source, K: Sink, D: Sink>()
     ensures { (input rest : S) (out shown : K) (diag told : D) →
         RunShowsMeaning (HasGiven S.left S.faults input rest) (λ bytes. K.puts out bytes shown) (λ bytes. D.puts diag bytes told) }
-{}
+{
+    one_verdict();
+}
 
 /// A run misses nothing that the text means.
 pub fn a_run_misses_nothing<S: Source, K: Sink, D: Sink>()
@@ -18,4 +21,5 @@ pub fn a_run_misses_nothing<S: Source, K: Sink, D: Sink>()
 {
     // What a longer run shows begins with what a shorter one does.
     runs_extend();
+    one_verdict();
 }

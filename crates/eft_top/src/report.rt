@@ -1,17 +1,16 @@
 // What a call has to show, before anything is put.
-ghost use Rattle.std.specs.Prelude.{◌≡◌, ◌++◌, ◌∷◌, [], true, ℕ, List, IfOk, take};
+ghost use Rattle.std.specs.Prelude.{◌≡◌, [], Bool, IfOk};
 ghost use Rattle.f66_tree.specs.World.{Shown};
-ghost use Rattle.unit_walk.specs.Shows.{shown_of};
+ghost use Rattle.machine.specs.Runs.{Tells};
 ghost use Rattle.eft_top.specs.Outcome.{HasFault, HasDeck, Runs};
-ghost use Rattle.eft_top.specs.Report.{IsReport, line_bytes, out_bytes};
+ghost use Rattle.eft_top.specs.Report.{IsReport, line_bytes};
 
 use crate::Status;
 use crate::lines::{fault_text, limit_text, stop_text, trap_text};
 use front::name_of;
-use ground::{Fault, Text, Trap};
-use record_tape::Lines;
+use ground::{Fault, Text};
+use machine::{Ran, RunEnd};
 use std::alloc::{AllocError, Global};
-use unit_walk::{RunEnd, Walked};
 
 /// A line that was made, or one that the program has.
 #[derive(Drop)]
@@ -31,29 +30,11 @@ impl Line {
     }
 }
 
-/// What out gets: the records of a run, or a deck.
-#[derive(Drop)]
-pub enum Output {
-    Records(Lines),
-    Deck(Vec<u8>),
-}
-
-impl Output {
-    pub fn as_bytes(&self) -> &[u8]
-        ensures { result.now ≡ out_bytes self.now }
-    {
-        match self {
-            Output::Records(lines) => lines.as_bytes(),
-            Output::Deck(bytes) => bytes,
-        }
-    }
-}
-
-/// A status, what out gets, and the line for diag.
+/// A status, what out gets, which is the records of a run or a deck, and the line for diag.
 #[derive(Drop)]
 pub struct Report {
     pub status: Status,
-    pub out: Output,
+    pub out: Vec<u8>,
     pub line: Line,
 }
 
@@ -61,12 +42,12 @@ impl Report {
     /// A status whose line says all.
     pub fn fixed(alloc: Global, status: Status, line: &'static str) -> Report
         ensures status { result.status ≡ status }
-        ensures out { out_bytes result.out ≡ [] }
+        ensures out { result.out.items ≡ [] }
         ensures line { line_bytes result.line ≡ line.entry.now }
     {
         Report {
             status,
-            out: Output::Records(Lines::new(alloc)),
+            out: Vec::new(alloc),
             line: Line::Fixed(line),
         }
     }
@@ -77,7 +58,7 @@ impl Report {
     {
         Ok(Report {
             status: Status::SourceFault,
-            out: Output::Records(Lines::new(alloc)),
+            out: Vec::new(alloc),
             line: Line::Made(fault_text(alloc, fault, file.as_bytes())?),
         })
     }
@@ -88,31 +69,22 @@ impl Report {
     {
         Report {
             status: Status::Done,
-            out: Output::Deck(deck),
+            out: deck,
             line: Line::Fixed(""),
         }
     }
 
-    /// A run with this limit of steps, over an input of which a read has failed or none has.
-    pub fn of_run(
-        alloc: Global,
-        files: &[Text],
-        limit: u64,
-        failed: bool,
-        walked: Walked,
-    ) -> Result<Report, AllocError>
-        ensures { IfOk result (λ report. IsReport report (Runs files.now limit failed (shown_of walked))) }
+    /// A run with this limit of steps.
+    pub fn of_run(alloc: Global, files: &[Text], limit: u64, ran: Ran) -> Result<Report, AllocError>
+        ensures { IfOk result (λ report. (failed : Bool) (shown : Shown) → Tells failed ran shown → IsReport report (Runs files.now limit failed shown)) }
     {
-        let Walked { records, end, .. } = walked;
+        let Ran { out, end, .. } = ran;
         let (status, line) = match end {
             RunEnd::Done => (Status::Done, Line::Fixed("")),
             RunEnd::Stopped(number) => (
                 Status::Stopped(number),
                 Line::Made(stop_text(alloc, number)?),
             ),
-            RunEnd::Trapped(Trap::EndOfInput, _) if failed => {
-                (Status::InputFault, Line::Fixed("input fault\n"))
-            }
             RunEnd::Trapped(trap, place) => {
                 let file = name_of(files, place.file);
                 (
@@ -120,12 +92,9 @@ impl Report {
                     Line::Made(trap_text(alloc, trap, file, place.line)?),
                 )
             }
+            RunEnd::InputFault => (Status::InputFault, Line::Fixed("input fault\n")),
             RunEnd::GoesOn => (Status::StepLimit, Line::Made(limit_text(alloc, limit)?)),
         };
-        Ok(Report {
-            status,
-            out: Output::Records(records),
-            line,
-        })
+        Ok(Report { status, out, line })
     }
 }

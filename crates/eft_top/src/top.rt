@@ -13,11 +13,12 @@ ghost use Rattle.eft_top.specs.Input.{HasGiven, HasRead};
 use crate::Status;
 use crate::answer::answer_to;
 use crate::deliver::deliver;
+use front::one_verdict;
 use ports::{Failed, Library, Sink, Source};
 use std::alloc::Global;
 
-/// All that the program does. The words are those after the program's name; out gets the records of a run, or
-/// a deck, in one put, and diag at most one line. The input is read whole before a run begins. Want of memory may come at any time before the first put.
+/// All that the program does. The words are those after the program's name; out gets the records of a run, or a deck, in one put, and
+/// diag at most one line. The input is read whole before a run begins. Want of memory may come at any time before the first put.
 pub fn eft<L: Library, S: Source, K: Sink, D: Sink>(
     alloc: Global,
     words: &Vec<String>,
@@ -53,8 +54,10 @@ pub fn eft<L: Library, S: Source, K: Sink, D: Sink>(
     ensures unread { NeedsNoInput result → input.new ≡ input.old }
     ensures unasked { (language : Dialect) (file : List ℕ) → AskFor (texts words.now.items) (Cards language file) → input.new ≡ input.old }
 {
+    // What a text comes to does not depend on how it is read.
+    one_verdict();
     let report = answer_to(alloc, words, library, input);
-    match deliver(report.out.as_bytes(), report.line.as_bytes(), out, diag) {
+    match deliver(&report.out, report.line.as_bytes(), out, diag) {
         Ok(()) => report.status,
         Err(Failed) => Status::OutputFault,
     }

@@ -9,7 +9,6 @@ mod names;
 mod ratfor;
 mod trees;
 mod units;
-mod walks;
 
 pub use checks::{checked, fault_in, to_run};
 pub use edits::{end, integer_in, letter_out, plan_of, turn};
@@ -19,4 +18,3 @@ pub use names::{built, names_in, saying_breaks};
 pub use ratfor::labels_of;
 pub use trees::{constant_of, copied, copied_expression};
 pub use units::{head_breaks, statement_breaks};
-pub use walks::run;

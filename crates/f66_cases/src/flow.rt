@@ -2,13 +2,67 @@
 ghost use Rattle.std.specs.Prelude.{◌≡◌, ◌<◌, ℕ, false};
 
 use crate::reading::statements;
-use crate::runs::FLOW;
 use f66_flow::{Flow, Scope, broken_rule, flow_of, header_rule};
 use f66_tree::Header;
 use rule_table::Rule;
 use std::alloc::{AllocError, Global};
 use std::process::Abort;
 use std::test::Fail;
+
+/// Units, whether the rules of order of a whole one are asked or those of one in parts, and the first fault by them. Of COMMON,
+/// EQUIVALENCE and DATA the words alone stand among them.
+const FLOW: &str = "
+ | whole | Syntax at 0
+ | part | sound
+9 FORMAT; INTEGER | whole | Syntax at 0
+STOP | whole | sound
+INTEGER; 9 FORMAT; COMMON; EQUIVALENCE; DATA; CONTINUE; DATA; 8 FORMAT; STOP | whole | sound
+CONTINUE; INTEGER; STOP | whole | Syntax at 2
+DATA; DIMENSION; STOP | part | Syntax at 2
+STOP; COMMON | part | Syntax at 2
+CONTINUE; EQUIVALENCE; RETURN | whole | Syntax at 2
+STOP; CONTINUE; 9 FORMAT | whole | Syntax at 2
+STOP; CONTINUE | part | sound
+10 CONTINUE; GO 10; 9 FORMAT; DATA | whole | sound
+STOP; IF true ? STOP | whole | Syntax at 2
+10 CONTINUE; SIGN 1, 10 10 10 | whole | sound
+10 CONTINUE; SELECT I 10 10 | whole | sound
+RETURN | whole | sound
+0 STOP | whole | BadLabel at 1
+99999 STOP | whole | sound
+100000 STOP | part | BadLabel at 1
+10 CONTINUE; 10 STOP | whole | BadLabel at 2
+GO 10; 10 STOP | whole | sound
+GO 20; 10 STOP | part | BadLabel at 1
+GO 9; 9 FORMAT; STOP | whole | BadLabel at 1
+SELECT I 10 20; 10 STOP | whole | BadLabel at 1
+SIGN 1, 10 10 20; 10 STOP | whole | BadLabel at 1
+IF true ? GO 20; 10 STOP | whole | BadLabel at 1
+WRITE 6 9; READ 5 9; 9 FORMAT; STOP | whole | sound
+READ 5 10; 10 STOP | whole | BadLabel at 1
+IF true ? WRITE 6 9; STOP | part | BadLabel at 1
+DO 10 I 1 9 1; STOP | whole | BadLabel at 1
+DO 10 I 1 9 1; STOP | part | sound
+DO 9 I 1 9 1; 9 FORMAT; STOP | whole | BadLabel at 1
+DO 10 I 1 9 1; 10 CONTINUE; STOP | whole | sound
+10 CONTINUE; DO 10 I 1 9 1; STOP | whole | DoNesting at 2
+10 CONTINUE; DO 10 I 1 9 1; STOP | part | sound
+10 DO 10 I 1 9 1; STOP | whole | DoNesting at 1
+DO 10 I 1 9 1; 10 GO 20; 20 STOP | whole | DoNesting at 1
+DO 10 I 1 9 1; 10 IF true ? STOP; STOP | whole | DoNesting at 1
+DO 10 I 1 9 1; 10 DO 20 I 1 9 1; 20 CONTINUE; STOP | whole | DoNesting at 1
+DO 20 I 1 9 1; DO 10 I 1 9 1; 10 CONTINUE; 20 CONTINUE; STOP | whole | sound
+DO 10 I 1 9 1; DO 20 I 1 9 1; 10 CONTINUE; 20 CONTINUE; STOP | whole | DoNesting at 2
+DO 10 I 1 9 1; DO 10 I 1 9 1; IF true ? GO 10; 10 CONTINUE; STOP | whole | sound
+DO 10 I 1 9 1; IF true ? GO 10; DO 10 I 1 9 1; 10 CONTINUE; STOP | whole | DoNesting at 2
+GO 10; DO 20 I 1 9 1; 10 CONTINUE; 20 CONTINUE; STOP | whole | DoNesting at 1
+GO 10; DO 20 I 1 9 1; 10 CONTINUE; 20 CONTINUE; STOP | part | sound
+DO 20 I 1 9 1; IF true ? GO 30; 20 CONTINUE; 30 STOP | whole | sound
+DO 20 I 1 9 1; 10 CONTINUE; 20 CONTINUE; SELECT I 20 10 | whole | DoNesting at 4
+DO 20 I 1 9 1; 10 CONTINUE; 20 CONTINUE; SIGN 1, 10 10 10 | whole | DoNesting at 4
+CONTINUE; 0 INTEGER; STOP | whole | Syntax at 2
+DO 10 I 1 9 1; 10 STOP; GO 99 | whole | DoNesting at 1
+";
 
 /// The first part of a unit that breaks one of these rules: 0 for its header, or a statement's number from 1.
 fn first_broken(scope: Scope, header: &Header, flow: &Flow) -> Option<(usize, Rule)> {

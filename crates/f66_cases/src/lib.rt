@@ -1,5 +1,5 @@
-//! Units of FORTRAN, decks, formats, names and stack code in rows of text, with what the checks, a run and its records make of
-//! them. The crate has tests alone.
+//! Units of FORTRAN, decks, formats, names and stack code in rows of text, with what the checks and records make of them. The crate
+//! has tests alone.
 #![tactic(auto)]
 
 #[cfg(test)]
@@ -19,12 +19,8 @@ mod reading;
 #[cfg(test)]
 mod records;
 #[cfg(test)]
-mod runs;
-#[cfg(test)]
 mod subprograms;
 #[cfg(test)]
 mod tape;
 #[cfg(test)]
 mod units;
-#[cfg(test)]
-mod walks;

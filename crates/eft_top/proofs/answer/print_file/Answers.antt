@@ -1,27 +1,28 @@
 -- Why `print_file` keeps its clauses.
-use Rattle.std.proofs.Common.{refl, [], ◌∷◌}
-use Rattle.f66_tree.specs.Views.{routine_of}
+use Rattle.std.proofs.Common.{refl}
+use Rattle.linker.specs.Rules.{program_of}
 use Rattle.deck.specs.Decks.{deck_of}
 use Rattle.front.specs.Verdict.{Accepts, Refuses}
 use Rattle.eft_top.specs.Words.{Cards}
 use Rattle.eft_top.specs.Outcome.{HasDeck}
 use Rattle.eft_top.specs.Story.{Shows}
 use Rattle.eft_top.proofs.Reports.{if_ok, refused_came}
-use Rattle.eft_top.proofs.Decks.{alone_printable}
 use Rattle.eft_top.proofs.answer.print_file.Goals as goal
 
-pub print_unit-requires : goal.print_unit-requires
-print_unit-requires g c = record { printable = alone_printable (routine_of c.in-Ok.compiled.unit) c.in-Ok.ensures.text.gives.2.printable }
+pub print_units-requires : goal.print_units-requires
+print_units-requires g c =
+    let program = c.in-Ok.ensures.text.gives.2 in
+    record { sound = program.sound; printable = program.printable }
 
 pub returns-in-Ok-clause-came : goal.returns-in-Ok-clause-came
 returns-in-Ok-clause-came g c =
     let text = c.in-Ok.ensures.text in
-    let units = routine_of c.in-Ok.compiled.unit ∷ [] in
+    let made = program_of c.in-Ok.translated.made.units.items c.in-Ok.translated.made.finish in
     if_ok (λ report shows.
-    Shows (HasDeck (deck_of units))
-    (text.known, text.of, (Accepts c.in-Ok.compiled.files.items text.gives.0, text.gives.1, (deck_of units, record { units = units; program = text.gives.2; is = refl }, refl))) c.in-Ok.ensures.cause shows)
-    c.print_unit.result
-    c.print_unit.ensures
+    Shows (HasDeck (deck_of made.units))
+    (text.known, text.of, (Accepts c.in-Ok.translated.files.items text.gives.0, text.gives.1, (deck_of made.units, record { made = made; program = text.gives.2; is = refl }, refl))) c.in-Ok.ensures.cause shows)
+    c.print_units.result
+    c.print_units.ensures
 
 pub returns-in-Err-clause-came : goal.returns-in-Err-clause-came
 returns-in-Err-clause-came g c =

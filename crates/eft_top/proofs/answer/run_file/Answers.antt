@@ -1,17 +1,24 @@
 -- Why `run_file` keeps its clauses.
 use Rattle.std.proofs.Common.{refl}
+use Rattle.linker.specs.Rules.{program_of}
 use Rattle.front.specs.Verdict.{Accepts, Refuses}
 use Rattle.eft_top.specs.Words.{Run}
 use Rattle.eft_top.specs.Story.{Shows}
 use Rattle.eft_top.proofs.Reports.{if_ok, ran_text, refused_came}
 use Rattle.eft_top.proofs.answer.run_file.Goals as goal
 
+pub read_and_run-requires : goal.read_and_run-requires
+read_and_run-requires g c =
+    let program = c.in-Ok.ensures.text.gives.2 in
+    record { sound = program.sound; well = program.linked.well; whole = program.linked.whole }
+
 pub returns-in-Ok-clause-came : goal.returns-in-Ok-clause-came
 returns-in-Ok-clause-came g c =
     let text = c.in-Ok.ensures.text in
+    let made = program_of c.in-Ok.field-0.made.units.items c.in-Ok.field-0.made.finish in
     if_ok (λ report ran.
-    let told = ran_text report c.in-Ok.compiled text.gives.0 c.args.limit _ text.gives.2 ran in
-    Shows told.0 (text.known, text.of, (Accepts c.in-Ok.compiled.files.items text.gives.0, text.gives.1, told.1)) c.in-Ok.ensures.cause told.2)
+    let told = ran_text report c.in-Ok.field-0.files.items made text.gives.0 c.args.limit _ text.gives.2 ran in
+    Shows told.0 (text.known, text.of, (Accepts c.in-Ok.field-0.files.items text.gives.0, text.gives.1, told.1)) c.in-Ok.ensures.cause told.2)
     c.read_and_run.result
     c.read_and_run.ensures.report
 

@@ -1,6 +1,0 @@
--- Why `run` keeps its clauses.
-use Rattle.std.proofs.Common.{rules}
-use Rattle.f66_calls.proofs.walks.run.Goals as goal
-
-pub returns : goal.returns
-returns c = search rules

@@ -1,0 +1,4 @@
+-- The lemmas of machine.
+mod UnitRuns
+mod Overs
+pub mod Streaming

@@ -1,8 +1,0 @@
--- What holds at each turn of the loops of `lines_by_label`.
-use Rattle.std.proofs.Common.{drop}
-use Rattle.f66_tree.specs.Views.{lines_of}
-use Rattle.unit_walk.specs.Standing.{LabelsAre}
-use Rattle.unit_walk.proofs.plan.lines_by_label.Given as goal
-
-abbrev pub invariant-loop-index : goal.invariant-loop-index
-invariant-loop-index l = LabelsAre l.code l.lines (lines_of (drop l.index l.code))
