@@ -9,7 +9,7 @@ use Rattle.efl_scope.specs.Parts.{Part}
 use Rattle.efl_scope.specs.ScopeRules.{scope_rules}
 use Rattle.efl_scope.specs.FirstFault.{with_earlier, breaks_with, fault_of, first_in}
 
-option_or_assoc : {V : Type 0} (a b c : Option V) → option_or a (option_or b c) ≡ option_or (option_or a b) c
+pub option_or_assoc : {V : Type 0} (a b c : Option V) → option_or a (option_or b c) ≡ option_or (option_or a b) c
 option_or_assoc None b c = refl
 option_or_assoc (Some v) b c = refl
 
@@ -26,7 +26,7 @@ with_earlier-append earlier [] ws = ap (λ e. with_earlier e ws) (sym (nothing e
 with_earlier-append earlier (v ∷ vs) ws =
     ap (λ ts. (earlier, v) ∷ ts) (with_earlier-append (earlier ++ v ∷ []) vs ws ∙ ap (λ e. with_earlier (earlier ++ v ∷ []) vs ++ with_earlier e ws) (append_assoc earlier (v ∷ []) vs))
 
-mapped : {V W : Type 0} (f : V → W) (a b : Option V) → option_map f (option_or a b) ≡ option_or (option_map f a) (option_map f b)
+pub mapped : {V W : Type 0} (f : V → W) (a b : Option V) → option_map f (option_or a b) ≡ option_or (option_map f a) (option_map f b)
 mapped f None b = refl
 mapped f (Some v) b = refl
 

@@ -7,3 +7,10 @@ pub mod ScopeRules
 pub mod FirstFault
 pub mod Marks
 pub mod LoopViews
+pub mod Sights
+pub mod NameViews
+pub mod BlockViews
+pub mod UseViews
+pub mod WalkViews
+pub mod SettingViews
+pub mod AreaViews

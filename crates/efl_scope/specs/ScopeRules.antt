@@ -8,7 +8,7 @@ use Rattle.ground.specs.declared.fault.FaultKind.{FaultKind}
 use Rattle.ground.specs.declared.fault.FaultKind.TheVariants as kinds
 use Rattle.efl_tree.specs.declared.statement.LoopKind.{LoopKind}
 use Rattle.efl_tree.specs.declared.statement.LoopKind.TheVariants as loops
-use Rattle.efl_tree.specs.Syntax.{Text, EflType, Real, Complex, Named, EflGroups, NoGroup, AndGroup, EflDeclKind, Implicit, Initial, Variables, Area, Structure, Break, Next, Goto, EflProcedure}
+use Rattle.efl_tree.specs.Syntax.{Text, EflType, Real, Complex, Named, EflGroups, NoGroup, AndGroup, EflDeclKind, Implicit, Initial, Variables, Area, Structure, EflKind, Break, Next, Goto, EflProcedure}
 use Rattle.efl_scope.specs.declared.rule.ScopeRule.{ScopeRule}
 use Rattle.efl_scope.specs.declared.rule.ScopeRule.TheVariants.{OutOfProfileType, DuplicateName, BadLabel, BadBreak, CommonMismatch}
 use Rattle.efl_scope.specs.DataTypes.{DataType, agree}
@@ -33,30 +33,37 @@ scope_rules = OutOfProfileType ∷ DuplicateName ∷ BadLabel ∷ BadBreak ∷ C
 
 -- ---- types ----
 
-abbrev pub is_structure : Blocks → Text → Bool
+-- a set of names
+abbrev pub Names : Type 0
+Names = Text → Bool
+
+abbrev pub no_name : Names
+no_name y = false
+
+abbrev pub is_structure : Blocks → Names
 is_structure bs x = is_some_and (λ ms. true) (shape_named bs x)
 
--- real, complex, or a name that is no structure's here
-abbrev pub is_out : Blocks → EflType → Bool
-is_out bs (Real long) = true
-is_out bs (Complex long) = true
-is_out bs (Named x) = not (is_structure bs x)
-is_out bs _ = false
+-- Where these names are structures': real, complex, or a name that is none.
+abbrev pub is_out : Names → EflType → Bool
+is_out known (Real long) = true
+is_out known (Complex long) = true
+is_out known (Named x) = not (known x)
+is_out known _ = false
 
 -- the types that a part names, groups aside; a header stands in no block
-abbrev pub names_out : Blocks → Form → Bool
-names_out bs (Header o fs) = is_some_and (is_out []) o
-names_out bs (Declares before (Implicit rs t)) = is_out bs t
-names_out bs (Declares before (Variables q t vs)) = is_out bs t
-names_out bs (Groups before t vs) = is_out bs t
-names_out bs _ = false
+abbrev pub names_out : Names → Form → Bool
+names_out known (Header o fs) = is_some_and (is_out no_name) o
+names_out known (Declares before (Implicit rs t)) = is_out known t
+names_out known (Declares before (Variables q t vs)) = is_out known t
+names_out known (Groups before t vs) = is_out known t
+names_out known _ = false
 
-abbrev pub lays_none : Blocks → Use → Bool
-lays_none bs (Laid x) = not (is_structure bs x)
-lays_none bs _ = false
+abbrev pub lays_none : Names → Use → Bool
+lays_none known (Laid x) = not (known x)
+lays_none known _ = false
 
 abbrev pub has_other_type : Part → Bool
-has_other_type v = names_out v.around.blocks v.form || list_any (lays_none v.around.blocks) (uses_in v.form)
+has_other_type v = let known = is_structure v.around.blocks in names_out known v.form || list_any (lays_none known) (uses_in v.form)
 
 -- ---- names ----
 
@@ -89,13 +96,13 @@ names_again a (Groups before t vs) = again before (names_of vs)
 names_again a _ = false
 
 -- a structure's name is used as a variable's, or before parentheses
-abbrev pub misuses : Blocks → Use → Bool
-misuses bs (uses.Named x) = is_structure bs x
-misuses bs (Applied x) = is_structure bs x
-misuses bs (Laid x) = false
+abbrev pub misuses : Names → Use → Bool
+misuses known (uses.Named x) = known x
+misuses known (Applied x) = known x
+misuses known (Laid x) = false
 
 abbrev pub is_duplicate : Part → Bool
-is_duplicate v = names_again v.around v.form || list_any (misuses v.around.blocks) (uses_in v.form)
+is_duplicate v = names_again v.around v.form || list_any (misuses (is_structure v.around.blocks)) (uses_in v.form)
 
 -- ---- labels, loops and switches ----
 
@@ -107,8 +114,12 @@ labels_of _ = []
 abbrev pub labels_before : ℕ → List Part → List Text
 labels_before n vs = flat_map (λ v. labels_of v.form) (filter (λ v. nat_eq n v.around.unit) vs)
 
+abbrev pub misses_target : Names → EflKind → Bool
+misses_target reach (Goto l) = not (reach l)
+misses_target reach _ = false
+
 abbrev pub misses_label : List Text → Form → Bool
-misses_label ls (States own (Goto l)) = not (holds ls l)
+misses_label ls (States own k) = misses_target (holds ls) k
 misses_label ls _ = false
 
 abbrev pub has_bad_label : List Part → Part → Bool
@@ -134,9 +145,13 @@ is_turned o k = is_counted o k
 abbrev pub are_around : ℕ → List LoopKind → Bool
 are_around n ks = nat_le 1 n && nat_le n (length ks)
 
+abbrev pub leaves_none : List LoopKind → EflKind → Bool
+leaves_none ks (Break n o) = not (are_around n (filter (is_counted o) ks))
+leaves_none ks (Next n o) = not (are_around n (filter (is_turned o) ks))
+leaves_none ks _ = false
+
 abbrev pub misses_loop : List LoopKind → Form → Bool
-misses_loop ks (States ls (Break n o)) = not (are_around n (filter (is_counted o) ks))
-misses_loop ks (States ls (Next n o)) = not (are_around n (filter (is_turned o) ks))
+misses_loop ks (States ls k) = leaves_none ks k
 misses_loop ks _ = false
 
 -- ---- areas ----
