@@ -17,3 +17,4 @@ pub mod TreeLemmas
 pub mod TableLemmas
 pub mod ProgramLemmas
 pub mod AreaLemmas
+pub mod NumberLemmas

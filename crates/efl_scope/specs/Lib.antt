@@ -14,3 +14,4 @@ pub mod UseViews
 pub mod WalkViews
 pub mod SettingViews
 pub mod AreaViews
+pub mod NumberViews

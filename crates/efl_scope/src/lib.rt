@@ -6,6 +6,7 @@ mod blocks;
 mod declarations;
 mod loops;
 mod names;
+mod numbers;
 mod procedures;
 mod program;
 mod rule;
@@ -22,6 +23,7 @@ use names::{
     Declared, NameChain, NameSet, add_labels, add_variables, declare_formals, declare_if_any,
     declare_labels, declare_variables, has_name,
 };
+pub use numbers::Pairs;
 pub use procedures::procedure_fault;
 pub use program::program_fault;
 pub use rule::ScopeRule;
