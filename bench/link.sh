@@ -1,10 +1,11 @@
 #!/bin/sh
 # How fast whole programs are linked: `eft cards ratfor` on a program of 400 units, each of which calls the one behind it and shares a
 # block of COMMON with all, and on one of 40; and on a unit whose arrays of 30,000 places are equivalenced in 300 groups, and of 3,000
-# in 30. Wanted are at most twelve times the time for ten times as much, both without an empty run.
+# in 30. Wanted are at most twelve times the time for ten times as much, both without as many empty runs. Small texts are done many
+# times over, since a run of one takes hardly longer than an empty one.
 . "$(dirname "$0")/common.sh"
 wants "$eft"
-rounds=20
+rounds=15
 
 # A program of a main and so many subroutines less one.
 chain() { # UNITS
@@ -32,21 +33,25 @@ overlaid() { # PLACES
 }
 
 printf 'end\n' >"$work/empty.r"
-empty=$(command_time /dev/null "$eft" cards ratfor "$work/empty.r")
 
-# The time of a program of such a shape without an empty run, in nanoseconds.
-link_time() { # SHAPE SIZE
-    "$1" "$2" >"$work/text.r"
-    "$eft" cards ratfor "$work/text.r" >/dev/null || { echo "bench/link.sh: $2 of $1 have no deck" >&2; exit 1; }
-    echo $(($(command_time /dev/null "$eft" cards ratfor "$work/text.r") - empty))
+# The time of so many decks of a text one after the other, in nanoseconds.
+decks_time() { # TIMES TEXT
+    command_time /dev/null sh -c 'for _ in $(seq "$1"); do "$2" cards ratfor "$3"; done' sh "$1" "$eft" "$2"
 }
 
-measured() { # WHAT SHAPE LARGE SMALL
-    large=$(link_time "$2" "$3") || exit 1
-    small=$(link_time "$2" "$4") || exit 1
-    compare "$3 $1 and $4" "$large" "$small" 12
+# The same of a program of such a shape, without as many empty runs.
+link_time() { # TIMES SHAPE SIZE
+    "$2" "$3" >"$work/text.r"
+    "$eft" cards ratfor "$work/text.r" >/dev/null || { echo "bench/link.sh: $3 of $2 have no deck" >&2; exit 1; }
+    echo $(($(decks_time "$1" "$work/text.r") - $(decks_time "$1" "$work/empty.r")))
 }
 
-measured "units" chain 400 40
-measured "equivalenced places" overlaid 30000 3000
+measured() { # WHAT SHAPE LARGE SMALL TIMES
+    large=$(link_time "$5" "$2" "$3") || exit 1
+    small=$(link_time "$5" "$2" "$4") || exit 1
+    compare "$3 $1 and $4, $5 decks" "$large" "$small" 12
+}
+
+measured "units" chain 400 40 4
+measured "equivalenced places" overlaid 30000 3000 40
 exit $status
