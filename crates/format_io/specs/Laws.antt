@@ -1,6 +1,6 @@
 -- A law of formatted editing: the turns that execution takes, one item after the other, do what one list of edits and record ends
 -- says (X3.9-1966, section 7.2.3.4).
-use Rattle.std.specs.Prelude.{◌≡◌, ℕ, List, [], length}
+use Rattle.std.specs.Prelude.{◌≡◌, ℕ, List, length}
 use Rattle.f66_tree.specs.declared.editing.Way.{Way}
 use Rattle.f66_tree.specs.declared.editing.Mark.TheVariants.{Between}
 use Rattle.f66_tree.specs.Fields.{Fields, steps, again}

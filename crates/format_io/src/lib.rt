@@ -11,6 +11,7 @@ mod layout;
 mod output;
 mod walk;
 
+pub use code::{Op, Piece};
 pub use edit::Edit;
 pub use format::Plan;
 pub use laws::editing_is_its_list;

@@ -1,5 +1,5 @@
 -- The code of a group is that of its parts between its beginning and its end.
-use Rattle.std.proofs.Common.{◌≡◌, ◌≤◌, ◌+◌, ◌++◌, ap, map, arith, length, drop}
+use Rattle.std.proofs.Common.{◌≤◌, ◌+◌, ◌++◌, ap, map, arith, length, drop}
 use Rattle.std.proofs.Math.ListN.{drop_of_length-le}
 use Rattle.format_io.specs.Places.{plan_code}
 use Rattle.format_io.proofs.Parts.{list_code}

@@ -1,0 +1,2 @@
+-- The lemmas of code_listing.
+pub mod FlatTexts

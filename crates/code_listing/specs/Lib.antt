@@ -1,0 +1,3 @@
+-- The definitions that the contracts of code_listing cite.
+pub mod FlatText
+pub mod Listing
