@@ -1,10 +1,13 @@
 #!/bin/sh
 # How fast programs run. Three runs go on to a limit of 5,000,000 statements: how many begin in a second, an empty run taken off (at
-# least 1,000,000 are wanted). And four programs that end are run beside the same in Python, where `python3` is there: sums, nested DO
-# loops over an array, a shuffle by a congruential function, and calls. Each is to write the same records in less time.
+# least 1,000,000 are wanted). The programs of bench/programs end, and run beside the same in Python, Lua and Forth, of which those
+# are taken that are there: sums, nested DO loops over an array, an array shuffled by a congruential function, calls, and characters
+# copied. Each is to write the same records, and in less time than Python. A run of 200,000,000 statements is to take no more memory
+# than one of 2,000,000.
 . "$(dirname "$0")/common.sh"
 wants "$eft"
 steps=5000000
+programs=$here/bench/programs
 
 printf 'end\n' >"$work/empty.r"
 cat >"$work/endless.r" <<'TEXT'
@@ -36,113 +39,13 @@ repeat {
 end
 TEXT
 
-cat >"$work/sums.r" <<'TEXT'
-k = 0
-do i = 1, 2000000 {
-	k = k + 1
-	if (k > 1000) k = 0
-	}
-write(6,9) k
-9 format(i10)
-end
-TEXT
-cat >"$work/sums.py" <<'TEXT'
-def main():
-    k = 0
-    for i in range(1, 2000001):
-        k = k + 1
-        if k > 1000:
-            k = 0
-    print("%10d" % k)
-
-main()
-TEXT
-cat >"$work/arrays.r" <<'TEXT'
-integer a(100,100)
-do k = 1, 100
-	do j = 1, 100
-		do i = 1, 100
-			a(i,j) = i * j + k
-write(6,9) a(99,98)
-9 format(i10)
-end
-TEXT
-cat >"$work/arrays.py" <<'TEXT'
-def main():
-    a = [[0] * 101 for _ in range(101)]
-    for k in range(1, 101):
-        for j in range(1, 101):
-            row = a[j]
-            for i in range(1, 101):
-                row[i] = i * j + k
-    print("%10d" % a[98][99])
-
-main()
-TEXT
-cat >"$work/shuffle.r" <<'TEXT'
-integer a(1000)
-do i = 1, 1000
-	a(i) = i
-k = 1
-do j = 1, 500
-	do i = 1, 1000 {
-		k = mod(k * 171 + 11213, 53125)
-		n = mod(k, 1000) + 1
-		m = a(i)
-		a(i) = a(n)
-		a(n) = m
-		}
-write(6,9) a(1), a(1000)
-9 format(2i10)
-end
-TEXT
-cat >"$work/shuffle.py" <<'TEXT'
-def main():
-    a = list(range(1001))
-    k = 1
-    for j in range(500):
-        for i in range(1, 1001):
-            k = (k * 171 + 11213) % 53125
-            n = k % 1000 + 1
-            m = a[i]
-            a[i] = a[n]
-            a[n] = m
-    print("%10d%10d" % (a[1], a[1000]))
-
-main()
-TEXT
-cat >"$work/calls.r" <<'TEXT'
-integer next1
-k = 0
-do i = 1, 1000000
-	k = next1(k)
-write(6,9) k
-9 format(i10)
-end
-integer function next1(k)
-return (k + 1)
-end
-TEXT
-cat >"$work/calls.py" <<'TEXT'
-def next1(k):
-    return k + 1
-
-def main():
-    k = 0
-    for i in range(1000000):
-        k = next1(k)
-    print("%10d" % k)
-
-main()
-TEXT
-
+empty=$(command_time /dev/null "$eft" run ratfor "$work/empty.r")
+if [ "$(cat "$work/err")" != "" ]; then
+    echo "bench/run.sh: an empty program does not run" >&2
+    exit 1
+fi
 for text in endless choices loops; do
     took=$(command_time /dev/null "$eft" run --steps "$steps" ratfor "$work/$text.r")
-    empty=$(command_time /dev/null "$eft" run ratfor "$work/empty.r")
-    if [ "$(cat "$work/err")" != "" ]; then
-        echo "bench/run.sh: an empty program does not run" >&2
-        exit 1
-    fi
     rate=$((steps * 1000000000 / (took - empty)))
     echo "$text: $rate statements a second"
     if [ "$rate" -lt 1000000 ]; then
@@ -151,12 +54,36 @@ for text in endless choices loops; do
     fi
 done
 
-command -v python3 >/dev/null || { echo "bench/run.sh: there is no python3 to compare with"; exit $status; }
-for text in sums arrays shuffle calls; do
-    took=$(command_time /dev/null "$eft" run --steps 1000000000 ratfor "$work/$text.r")
+# Runs the same program in another language, and tells how many times its time a run took; at most so many are wanted, or any.
+beside() { # WHAT TOOK WANTED COMMAND...
+    what=$1 took=$2 wanted=$3
+    shift 3
+    command -v "$1" >/dev/null || { echo "$what: there is no $1 to compare with"; return; }
+    other=$(command_time /dev/null "$@")
+    cmp -s "$work/out" "$work/shown" || { echo "bench/run.sh: $what: other records" >&2; exit 1; }
+    compare "$what, and $1" "$took" "$other" "$wanted"
+}
+for name in sums arrays shuffle calls copies; do
+    took=$(command_time /dev/null "$eft" run --steps 1000000000 ratfor "$programs/$name.r")
     cp "$work/out" "$work/shown"
-    beside=$(command_time /dev/null python3 "$work/$text.py")
-    cmp -s "$work/out" "$work/shown" || { echo "bench/run.sh: $text does not write what Python does" >&2; exit 1; }
-    compare "$text, and Python" "$took" "$beside" 1
+    beside "$name" "$took" 1 python3 "$programs/$name.py"
+    beside "$name" "$took" any lua5.4 "$programs/$name.lua"
+    beside "$name" "$took" any gforth "$programs/$name.fs"
 done
+
+# The most memory that a run takes, in units of 1,024 bytes.
+memory() { # STEPS
+    python3 -c 'import resource, subprocess, sys
+subprocess.run(sys.argv[1:], stderr=subprocess.DEVNULL)
+print(resource.getrusage(resource.RUSAGE_CHILDREN).ru_maxrss)' "$eft" run --steps "$1" ratfor "$work/endless.r"
+}
+command -v python3 >/dev/null || { echo "bench/run.sh: there is no python3 to measure memory with"; exit $status; }
+short=$(memory 2000000)
+long=$(memory 200000000)
+echo "memory of 2,000,000 statements: $short KiB; of 200,000,000: $long KiB"
+# (the system's own counting differs by some pages from run to run)
+if [ "$long" -gt $((short + 256)) ]; then
+    echo "bench/run.sh: the memory of a run grows" >&2
+    status=1
+fi
 exit $status
