@@ -23,6 +23,7 @@ pub mod Transferring
 pub mod Keeping
 pub mod Exchanging
 pub mod ItemArms
+pub mod Lettered
 pub mod RowSteps
 pub mod Extents
 pub mod RowArms

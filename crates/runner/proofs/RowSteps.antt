@@ -26,6 +26,7 @@ use Rattle.runner.specs.declared.words.Word.{Word}
 use Rattle.runner.specs.declared.words.Cell.{Cell}
 use Rattle.runner.specs.Reaching.{Alike, Same, Many, IsShifted}
 use Rattle.runner.specs.Words.{Shows, IsSpotWord, Agrees}
+use Rattle.runner.specs.Blocks.{MovesUnits}
 use Rattle.runner.specs.Exchanges.{IsSpot, Trips, GoesRight, Meets, AreWritten, IsExchange}
 use Rattle.runner.proofs.Exchanging.{still}
 use Rattle.runner.proofs.Keeping.{row_stays}
@@ -157,6 +158,22 @@ module _ {S K : Type 0} (left : S → Option (List ℕ)) (puts : K → List ℕ 
           let v = later w r.store now fs unread (written ++ s.put) in
           record { state = v.state; is = r.is ∙ ap (λ t. bind (settle place t v) (λ q w1. bind (edited place way k q w1) (λ _ w2. row place way k p (m - (index + 1)) (index + 1) w2))) (not_shifted p index (none p shows)); shows = refl },
     )
+
+    -- so many units come or go at once
+    pub row_moves : (moved at : ℕ) → at ≡ index + moved → index + moved < 2 ^ 31 → new.intake ≡ now.intake → MovesUnits way k word index moved fs now.stand new.stand cells1 cells2 → RowSince left puts faults failures i0 i1 o0 o1 way k word fs old new cells cells2 at
+    row_moves moved at is few intake m =
+        record {
+          taken = s.taken;
+          put = s.put;
+          flows = subst (λ c. Flows left puts i0 i1 o0 o1 old.intake c s.taken s.put) (sym intake) s.flows;
+          steady = s.steady;
+          few = subst (λ v. v < 2 ^ 31) (sym is) few;
+          goes = λ p place w unread written shows agrees taped total n e right.
+              let r = s.goes p place w unread written shows agrees taped total (moved + n) (omega arith) right in
+              let v = later w r.store now fs unread (written ++ s.put) in
+              let a = m p place v unread (written ++ s.put) n shows r.agrees refl in
+              record { store = a.store; agrees = a.agrees; is = r.is ∙ a.is ∙ ap (λ v. row place way k p n v (later w a.store new fs unread (written ++ s.put))) (sym is) };
+        }
 
     module _ (at : Word) (made : (p : Spot) → Shows (At p) word → IsShifted (shift p index) (Some at)) where
       -- the unit is there

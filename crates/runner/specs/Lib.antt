@@ -8,4 +8,5 @@ pub mod Running
 pub mod Endings
 pub mod Recording
 pub mod Exchanges
+pub mod Blocks
 pub mod Runners

@@ -6,6 +6,7 @@ mod elements;
 mod frames;
 mod intrinsics;
 mod items;
+mod letters;
 mod loops;
 mod places;
 mod records;

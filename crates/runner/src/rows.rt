@@ -1,4 +1,4 @@
-// All units of an array are items of a READ or WRITE, one after the other.
+// All units of an array are items of a READ or WRITE, one after the other, characters several at once.
 ghost use Rattle.std.specs.Prelude.{◌≡◌, ◌≤◌, ◌^◌, ℕ, length, OnOk, false};
 ghost use Rattle.f66_tree.specs.Turns.{is_over};
 ghost use Rattle.stack_code.specs.StackMachine.{row as row_of};
@@ -7,6 +7,7 @@ ghost use Rattle.runner.specs.Exchanges.{IsSpot, IsExchange};
 
 use crate::elements::shifted;
 use crate::items::item;
+use crate::letters::units_at_once;
 use crate::words::{Cell, Word};
 use f66_tree::Way;
 use format_io::Plan;
@@ -35,11 +36,17 @@ pub(crate) fn row<S: Source, K: Sink>(
     ensures units { length cells.new ≡ length cells.old }
     ensures step { (m : ℕ) → Alike count m → IsExchange S.left K.puts S.faults K.faults input.old input.new out.old out.new (λ p place. row_of place way kind p m 0) word plan.now flow.old flow.new cells.old cells.new result }
 {
-    for index in 0..count {
+    let mut index = 0;
+    'units: while index < count {
+        let moved = units_at_once(way, kind, word, index, count, plan, cells, flow);
+        if moved > 0 {
+            index += moved;
+            continue;
+        }
         match shifted(word, index) {
             None => return Err(Stop::Trapped(Trap::Subscript)),
             Some(spot) => match item(way, kind, spot, plan, cells, flow, input, out) {
-                Ok(()) => {}
+                Ok(()) => index += 1,
                 Err(stop) => return Err(stop),
             },
         }

@@ -1,0 +1,192 @@
+// Units of a row that come or go as characters, several at once.
+ghost use Rattle.std.specs.Prelude.{◌≡◌, ◌+◌, ◌<◌, ◌≤◌, ◌++◌, ◌^◌, ℕ, List, All, pos, length, map, take as first, drop, false};
+ghost use Rattle.ground.specs.declared.value.Kind.TheVariants.{Integer};
+ghost use Rattle.f66_tree.specs.declared.editing.Way.TheVariants.{Reading, Writing};
+ghost use Rattle.f66_tree.specs.Turns.{is_over};
+ghost use Rattle.f66_tree.specs.World.{Record};
+ghost use Rattle.format_io.specs.Letters.{IsLetter, cell_of};
+ghost use Rattle.record_flow.specs.Flows.{tape};
+ghost use Rattle.record_tape.specs.Letters.{SendsLetters, GetsLetters};
+ghost use Rattle.stack_code.specs.StackMachine.{Spot, At};
+ghost use Rattle.runner.specs.Words.{Shows};
+ghost use Rattle.runner.specs.Blocks.{coded, integer_in, MovesUnits};
+ghost use Rattle.runner.specs.Exchanges.{IsSpot};
+
+use crate::places::unit_of;
+use crate::words::{Cell, Word};
+use f66_tree::Way;
+use format_io::Plan;
+use ground::{Kind, Value};
+use record_flow::Flow;
+
+/// How many characters come or go at once.
+const MOST: usize = 32;
+
+/// The integer that a unit holds.
+#[inline(always)]
+fn integer_of(cell: Cell) -> Option<Value>
+    ensures { result ≡ integer_in cell }
+{
+    match cell {
+        Cell::Whole(value) => Some(Value::Int(i64::from(value))),
+        Cell::Nothing => None,
+        Cell::Truth(_) => None,
+    }
+}
+
+/// What a unit holds that has the code of a character.
+#[inline(always)]
+fn cell_with(content: Option<Value>) -> Cell
+    ensures { (c : ℕ) → IsLetter c → content ≡ cell_of c → result ≡ coded c }
+{
+    match content {
+        Some(Value::Int(code)) if 0 <= code && code <= 126 => Cell::Whole(code as i32),
+        _ => Cell::Nothing,
+    }
+}
+
+/// The integers that units hold come to the first places of a block.
+#[inline(always)]
+fn show(units: &[Cell], block: &mut [Option<Value>])
+    requires { length units.now ≤ length block.old }
+    ensures room { length block.new ≡ length block.old }
+    ensures shown { first (length units.now) block.new ≡ map integer_in units.now }
+{
+    for index in 0..units.len() {
+        block[index] = integer_of(units[index]);
+    }
+}
+
+/// The first units hold from now on the codes of so many characters of a block.
+#[inline(always)]
+fn keep_all(block: &[Option<Value>], count: usize, units: &mut [Cell])
+    requires block { count ≤ length block.now }
+    requires units { count ≤ length units.old }
+    ensures { (cs : List ℕ) → All IsLetter cs → first count block.now ≡ map cell_of cs → units.new ≡ map coded cs ++ drop count units.old }
+{
+    for index in 0..count {
+        units[index] = cell_with(block[index]);
+    }
+}
+
+/// The characters of the first of these units go out, as many as come with nothing between them and have room. How many.
+fn put_units(units: &[Cell], plan: &Plan, flow: &mut Flow) -> usize
+    requires few { length units.now ≤ 32 }
+    requires way { flow.old.stand.way ≡ Writing }
+    ensures way { flow.new.stand.way ≡ Writing }
+    ensures going { is_over flow.old.stand.mark ≡ false → is_over flow.new.stand.mark ≡ false }
+    ensures intake { flow.new.intake ≡ flow.old.intake }
+    ensures within { result ≤ length units.now }
+    ensures letters { (cs : List ℕ) × All IsLetter cs × (first result units.now ≡ map coded cs) × ((unread written : List Record) → SendsLetters cs (tape plan.now flow.old.stand unread written) (tape plan.now flow.new.stand unread written)) }
+{
+    let mut block = [None; MOST];
+    show(units, &mut block);
+    flow.put_letters(plan, &block[..units.len()])
+}
+
+/// The next characters of the record come into the first of these units, as many as come with nothing between them. How
+/// many.
+fn take_units(units: &mut [Cell], plan: &Plan, flow: &mut Flow) -> usize
+    requires few { length units.old ≤ 32 }
+    requires way { flow.old.stand.way ≡ Reading }
+    ensures way { flow.new.stand.way ≡ Reading }
+    ensures going { is_over flow.old.stand.mark ≡ false → is_over flow.new.stand.mark ≡ false }
+    ensures intake { flow.new.intake ≡ flow.old.intake }
+    ensures within { result ≤ length units.old }
+    ensures letters { (cs : List ℕ) × All IsLetter cs × (length cs ≡ result) × (units.new ≡ map coded cs ++ drop result units.old) × ((unread written : List Record) → GetsLetters cs (tape plan.now flow.old.stand unread written) (tape plan.now flow.new.stand unread written)) }
+{
+    let mut block = [None; MOST];
+    let count = flow.take_letters(plan, &mut block[..units.len()]);
+    keep_all(&block, count, units);
+    count
+}
+
+/// How many units of its variable lie from an index behind a spot on, of a row of so many; none of a lent value.
+fn stretch(word: Word, index: u64, count: u64) -> u64
+    requires spot { (p : Spot) × Shows (At p) word }
+    requires few { count ≤ 2 ^ 31 }
+    requires within { index ≤ count }
+    ensures within { index + result ≤ count }
+    ensures units { (unit : ℕ) → pos unit ≡ word.value → 0 < result → unit + index + result ≤ word.behind }
+{
+    let unit = unit_of(word) as u64 + index;
+    u64::from(word.behind)
+        .saturating_sub(unit)
+        .min(count - index)
+}
+
+/// How many characters may come or go at once from an index behind a spot on.
+fn block_size(word: Word, index: u64, count: u64, plan: &Plan, flow: &Flow) -> usize
+    requires spot { (p : Spot) × Shows (At p) word }
+    requires few { count ≤ 2 ^ 31 }
+    requires within { index ≤ count }
+    ensures most { result ≤ 32 }
+    ensures within { index + result ≤ count }
+    ensures units { (unit : ℕ) → pos unit ≡ word.value → 0 < result → unit + index + result ≤ word.behind }
+{
+    let size = flow.letters_ahead(plan).min(MOST);
+    stretch(word, index, count).min(size as u64) as usize
+}
+
+/// Integers from an index behind a spot on come or go as characters, as many as do so at once. How many.
+fn letters(
+    way: Way,
+    word: Word,
+    index: u64,
+    count: u64,
+    plan: &Plan,
+    cells: &mut [Cell],
+    flow: &mut Flow,
+) -> u64
+    requires few { count ≤ 2 ^ 31 }
+    requires within { index ≤ count }
+    requires spot { IsSpot cells.old word }
+    requires way { flow.old.stand.way ≡ way }
+    ensures way { flow.new.stand.way ≡ way }
+    ensures going { is_over flow.old.stand.mark ≡ false → is_over flow.new.stand.mark ≡ false }
+    ensures intake { flow.new.intake ≡ flow.old.intake }
+    ensures units { length cells.new ≡ length cells.old }
+    ensures within { index + result ≤ count }
+    ensures few { index < 2 ^ 31 → index + result < 2 ^ 31 }
+    ensures moves { MovesUnits way Integer word index result plan.now flow.old.stand flow.new.stand cells.old cells.new }
+{
+    let size = block_size(word, index, count, plan, flow);
+    if size == 0 {
+        return 0;
+    }
+    let from = unit_of(word) + index as usize;
+    let moved = match way {
+        Way::Reading => take_units(&mut cells[from..from + size], plan, flow),
+        Way::Writing => put_units(&cells[from..from + size], plan, flow),
+    };
+    moved as u64
+}
+
+/// Units from an index behind a spot on come or go at once: integers as characters. How many.
+pub(crate) fn units_at_once(
+    way: Way,
+    kind: Kind,
+    word: Word,
+    index: u64,
+    count: u64,
+    plan: &Plan,
+    cells: &mut [Cell],
+    flow: &mut Flow,
+) -> u64
+    requires few { count ≤ 2 ^ 31 }
+    requires within { index ≤ count }
+    requires spot { IsSpot cells.old word }
+    requires way { flow.old.stand.way ≡ way }
+    ensures way { flow.new.stand.way ≡ way }
+    ensures going { is_over flow.old.stand.mark ≡ false → is_over flow.new.stand.mark ≡ false }
+    ensures intake { flow.new.intake ≡ flow.old.intake }
+    ensures units { length cells.new ≡ length cells.old }
+    ensures within { index + result ≤ count }
+    ensures few { index < 2 ^ 31 → index + result < 2 ^ 31 }
+    ensures moves { MovesUnits way kind word index result plan.now flow.old.stand flow.new.stand cells.old cells.new }
+{
+    match kind {
+        Kind::Integer => letters(way, word, index, count, plan, cells, flow),
+        Kind::Logical => 0,
+    }
+}
