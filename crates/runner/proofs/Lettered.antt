@@ -37,18 +37,25 @@ use Rattle.runner.proofs.Cells.{agrees_put, same_unit}
 
 -- ---- codes in a block and in units ----
 
--- one more unit holds the code of a character of the block
-pub kept_more : (block : List (Option Value)) (count i : ℕ) (cs : List ℕ) (units old : List Cell) (x : Cell) → All IsLetter cs → take count block ≡ map cell_of cs → count ≤ length block → count ≤ length old → i < count
-    → units ≡ map coded (take i cs) ++ drop i old → ((c : ℕ) → IsLetter c → get_or block i None ≡ cell_of c → x ≡ coded c) → set units i x ≡ map coded (take (i + 1) cs) ++ drop (i + 1) old
-kept_more block count i cs units old x all e le fits lt is made =
+-- a place of the block has the code of a character
+pub code_at : (block : List (Option Value)) (count i : ℕ) (cs : List ℕ) → take count block ≡ map cell_of cs → count ≤ length block → i < count → (i < length cs) × (get_or block i None ≡ cell_of (get_or cs i 0))
+code_at block count i cs e le lt =
     let long : length cs ≡ count = sym (length-map cs cell_of) ∙ ap length (sym e) ∙ length-take-le count block le in
-    let inside : i < length cs = omega arith in
+    let inside : i < length cs = omega (arith, long) in
+    (inside, sym (get_or-take count block i None lt) ∙ ap (λ v. get_or v i None) e ∙ get_or-map cell_of cs i 0 None inside)
+
+pub has_code : (block : List (Option Value)) (count i : ℕ) (cs : List ℕ) → All IsLetter cs → take count block ≡ map cell_of cs → count ≤ length block → i < count → (c : ℕ) × IsLetter c × (get_or block i None ≡ cell_of c)
+has_code block count i cs all e le lt = let h = code_at block count i cs e le lt in (get_or cs i 0, All-get_or IsLetter cs i 0 h.0 all, h.1)
+
+-- one more unit holds the code of a character of the block
+pub kept_more : (block : List (Option Value)) (count i : ℕ) (cs : List ℕ) (units old : List Cell) (x : Cell) → take count block ≡ map cell_of cs → count ≤ length block → count ≤ length old → i < count
+    → units ≡ map coded (take i cs) ++ drop i old → ((c : ℕ) → get_or block i None ≡ cell_of c → x ≡ coded c) → set units i x ≡ map coded (take (i + 1) cs) ++ drop (i + 1) old
+kept_more block count i cs units old x e le fits lt is made =
+    let h = code_at block count i cs e le lt in
     let c = get_or cs i 0 in
-    let there : get_or block i None ≡ cell_of c = sym (get_or-take count block i None lt) ∙ ap (λ v. get_or v i None) e ∙ get_or-map cell_of cs i 0 None inside in
-    let told : x ≡ coded c = made c (All-get_or IsLetter cs i 0 inside all) there in
-    ap (λ v. set v i x) is ∙ ap (λ v. set (map coded (take i cs) ++ drop i old) i v) told
-    ∙ seam_set (map coded (take i cs)) old i (coded c) cells.Nothing (length-map (take i cs) coded ∙ length-take-le i cs (omega arith)) (omega arith)
-    ∙ ap (λ v. v ++ drop (i + 1) old) (sym (map-append coded (take i cs) (c ∷ [])) ∙ ap (map coded) (sym (take_more cs i 0 inside)))
+    ap (λ v. set v i x) is ∙ ap (λ v. set (map coded (take i cs) ++ drop i old) i v) (made c h.1)
+    ∙ seam_set (map coded (take i cs)) old i (coded c) cells.Nothing (length-map (take i cs) coded ∙ length-take-le i cs (let inside = h.0 in omega (arith, inside))) (omega arith)
+    ∙ ap (λ v. v ++ drop (i + 1) old) (sym (map-append coded (take i cs) (c ∷ [])) ∙ ap (map coded) (sym (take_more cs i 0 h.0)))
 
 -- the integer that a unit holds is the code of a character
 coded_by : (x : Cell) (c : ℕ) → integer_in x ≡ cell_of c → x ≡ coded c

@@ -19,9 +19,6 @@ use format_io::Plan;
 use ground::{Kind, Value};
 use record_flow::Flow;
 
-/// How many characters come or go at once.
-const MOST: usize = 32;
-
 /// The integer that a unit holds.
 #[inline(always)]
 fn integer_of(cell: Cell) -> Option<Value>
@@ -37,11 +34,12 @@ fn integer_of(cell: Cell) -> Option<Value>
 /// What a unit holds that has the code of a character.
 #[inline(always)]
 fn cell_with(content: Option<Value>) -> Cell
-    ensures { (c : ℕ) → IsLetter c → content ≡ cell_of c → result ≡ coded c }
+    requires { (c : ℕ) × IsLetter c × (content ≡ cell_of c) }
+    ensures { (c : ℕ) → content ≡ cell_of c → result ≡ coded c }
 {
     match content {
-        Some(Value::Int(code)) if 0 <= code && code <= 126 => Cell::Whole(code as i32),
-        _ => Cell::Nothing,
+        Some(Value::Int(code)) => Cell::Whole(code as i32),
+        _ => unreachable!(),
     }
 }
 
@@ -62,42 +60,49 @@ fn show(units: &[Cell], block: &mut [Option<Value>])
 fn keep_all(block: &[Option<Value>], count: usize, units: &mut [Cell])
     requires block { count ≤ length block.now }
     requires units { count ≤ length units.old }
-    ensures { (cs : List ℕ) → All IsLetter cs → first count block.now ≡ map cell_of cs → units.new ≡ map coded cs ++ drop count units.old }
+    requires codes { (cs : List ℕ) × All IsLetter cs × (first count block.now ≡ map cell_of cs) }
+    ensures { (cs : List ℕ) → first count block.now ≡ map cell_of cs → units.new ≡ map coded cs ++ drop count units.old }
 {
     for index in 0..count {
         units[index] = cell_with(block[index]);
     }
 }
 
-/// The characters of the first of these units go out, as many as come with nothing between them and have room. How many.
-fn put_units(units: &[Cell], plan: &Plan, flow: &mut Flow) -> usize
-    requires few { length units.now ≤ 32 }
+/// The characters of the first of these units go out, as many as come with nothing between them and have room. How many. The
+/// block is what they go through.
+fn put_units(units: &[Cell], plan: &Plan, flow: &mut Flow, block: &mut [Option<Value>]) -> usize
+    requires few { length units.now ≤ length block.old }
     requires way { flow.old.stand.way ≡ Writing }
     ensures way { flow.new.stand.way ≡ Writing }
     ensures going { is_over flow.old.stand.mark ≡ false → is_over flow.new.stand.mark ≡ false }
     ensures intake { flow.new.intake ≡ flow.old.intake }
+    ensures room { length block.new ≡ length block.old }
     ensures within { result ≤ length units.now }
     ensures letters { (cs : List ℕ) × All IsLetter cs × (first result units.now ≡ map coded cs) × ((unread written : List Record) → SendsLetters cs (tape plan.now flow.old.stand unread written) (tape plan.now flow.new.stand unread written)) }
 {
-    let mut block = [None; MOST];
-    show(units, &mut block);
+    show(units, block);
     flow.put_letters(plan, &block[..units.len()])
 }
 
 /// The next characters of the record come into the first of these units, as many as come with nothing between them. How
 /// many.
-fn take_units(units: &mut [Cell], plan: &Plan, flow: &mut Flow) -> usize
-    requires few { length units.old ≤ 32 }
+fn take_units(
+    units: &mut [Cell],
+    plan: &Plan,
+    flow: &mut Flow,
+    block: &mut [Option<Value>],
+) -> usize
+    requires few { length units.old ≤ length block.old }
     requires way { flow.old.stand.way ≡ Reading }
     ensures way { flow.new.stand.way ≡ Reading }
     ensures going { is_over flow.old.stand.mark ≡ false → is_over flow.new.stand.mark ≡ false }
     ensures intake { flow.new.intake ≡ flow.old.intake }
+    ensures room { length block.new ≡ length block.old }
     ensures within { result ≤ length units.old }
     ensures letters { (cs : List ℕ) × All IsLetter cs × (length cs ≡ result) × (units.new ≡ map coded cs ++ drop result units.old) × ((unread written : List Record) → GetsLetters cs (tape plan.now flow.old.stand unread written) (tape plan.now flow.new.stand unread written)) }
 {
-    let mut block = [None; MOST];
     let count = flow.take_letters(plan, &mut block[..units.len()]);
-    keep_all(&block, count, units);
+    keep_all(block, count, units);
     count
 }
 
@@ -116,15 +121,22 @@ fn stretch(word: Word, index: u64, count: u64) -> u64
 }
 
 /// How many characters may come or go at once from an index behind a spot on.
-fn block_size(word: Word, index: u64, count: u64, plan: &Plan, flow: &Flow) -> usize
+fn block_size(
+    word: Word,
+    index: u64,
+    count: u64,
+    plan: &Plan,
+    flow: &Flow,
+    block: &[Option<Value>],
+) -> usize
     requires spot { (p : Spot) × Shows (At p) word }
     requires few { count ≤ 2 ^ 31 }
     requires within { index ≤ count }
-    ensures most { result ≤ 32 }
+    ensures most { result ≤ length block.now }
     ensures within { index + result ≤ count }
     ensures units { (unit : ℕ) → pos unit ≡ word.value → 0 < result → unit + index + result ≤ word.behind }
 {
-    let size = flow.letters_ahead(plan).min(MOST);
+    let size = flow.letters_ahead(plan).min(block.len());
     stretch(word, index, count).min(size as u64) as usize
 }
 
@@ -137,6 +149,7 @@ fn letters(
     plan: &Plan,
     cells: &mut [Cell],
     flow: &mut Flow,
+    block: &mut [Option<Value>],
 ) -> u64
     requires few { count ≤ 2 ^ 31 }
     requires within { index ≤ count }
@@ -145,19 +158,20 @@ fn letters(
     ensures way { flow.new.stand.way ≡ way }
     ensures going { is_over flow.old.stand.mark ≡ false → is_over flow.new.stand.mark ≡ false }
     ensures intake { flow.new.intake ≡ flow.old.intake }
+    ensures room { length block.new ≡ length block.old }
     ensures units { length cells.new ≡ length cells.old }
     ensures within { index + result ≤ count }
     ensures few { index < 2 ^ 31 → index + result < 2 ^ 31 }
     ensures moves { MovesUnits way Integer word index result plan.now flow.old.stand flow.new.stand cells.old cells.new }
 {
-    let size = block_size(word, index, count, plan, flow);
+    let size = block_size(word, index, count, plan, flow, block);
     if size == 0 {
         return 0;
     }
     let from = unit_of(word) + index as usize;
     let moved = match way {
-        Way::Reading => take_units(&mut cells[from..from + size], plan, flow),
-        Way::Writing => put_units(&cells[from..from + size], plan, flow),
+        Way::Reading => take_units(&mut cells[from..from + size], plan, flow, block),
+        Way::Writing => put_units(&cells[from..from + size], plan, flow, block),
     };
     moved as u64
 }
@@ -172,6 +186,7 @@ pub(crate) fn units_at_once(
     plan: &Plan,
     cells: &mut [Cell],
     flow: &mut Flow,
+    block: &mut [Option<Value>],
 ) -> u64
     requires few { count ≤ 2 ^ 31 }
     requires within { index ≤ count }
@@ -180,13 +195,14 @@ pub(crate) fn units_at_once(
     ensures way { flow.new.stand.way ≡ way }
     ensures going { is_over flow.old.stand.mark ≡ false → is_over flow.new.stand.mark ≡ false }
     ensures intake { flow.new.intake ≡ flow.old.intake }
+    ensures room { length block.new ≡ length block.old }
     ensures units { length cells.new ≡ length cells.old }
     ensures within { index + result ≤ count }
     ensures few { index < 2 ^ 31 → index + result < 2 ^ 31 }
     ensures moves { MovesUnits way kind word index result plan.now flow.old.stand flow.new.stand cells.old cells.new }
 {
     match kind {
-        Kind::Integer => letters(way, word, index, count, plan, cells, flow),
+        Kind::Integer => letters(way, word, index, count, plan, cells, flow, block),
         Kind::Logical => 0,
     }
 }
