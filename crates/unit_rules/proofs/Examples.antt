@@ -6,7 +6,7 @@ use Rattle.rule_table.specs.declared.rule.Rule.TheVariants.{Syntax, NameTooLong,
 use Rattle.rule_table.specs.FaultRules.{first_rule}
 use Rattle.f66_tree.specs.declared.declaration.TypeWord.TheVariants.{Integer, Logical, Other}
 use Rattle.f66_tree.specs.declared.expression.Operator.TheVariants.{Add}
-use Rattle.f66_tree.specs.Syntax.{Text, Formula, Int, Truth, Letter, Ref, Item, Minus, Pair, Formulas, NoFormula, AndFormula, Constant, Declared, Header, MainUnit, SubUnit, FuncUnit, DataUnit, Act, Assign, When, Continue, Typed, Dimension, Invoke, Common, Equivalence, Preset}
+use Rattle.f66_tree.specs.Syntax.{Text, Formula, Int, Truth, Letter, Ref, Item, Minus, Pair, Formulas, NoFormula, AndFormula, Constant, One, NoEntry, AndEntry, Declared, Header, MainUnit, SubUnit, FuncUnit, DataUnit, Act, Assign, When, Continue, Read, Write, Typed, Dimension, Invoke, Common, Equivalence, Preset}
 use Rattle.f66_names.specs.Declaring.{context_by}
 use Rattle.unit_rules.specs.Heads.{breaks_header}
 use Rattle.unit_rules.specs.UnitRules.{breaks_rule}
@@ -68,6 +68,34 @@ function_and_variable = refl
 
 variable_and_function : of_main (Assign (Ref n) (num 1) ∷ referred ∷ []) ≡ Some DuplicateName
 variable_and_function = refl
+
+-- K(MOD(1)), and with a name and a function in the parentheses, where K is no array
+abbrev unplaced : Formulas → Formula
+unplaced es = Item k es
+
+abbrev lone_mod : Formulas
+lone_mod = one (Item (codes "MOD") (one (num 1)))
+
+stored : of_main (Assign (unplaced lone_mod) (num 2) ∷ []) ≡ Some NotAssignable
+stored = refl
+
+read_into : of_main (Read (Constant (pos 5)) 1 (AndEntry (One (unplaced lone_mod)) NoEntry) ∷ []) ≡ Some NotAssignable
+read_into = refl
+
+written : of_main (Write (Constant (pos 6)) 1 (AndEntry (One (unplaced lone_mod)) NoEntry) ∷ []) ≡ Some TypeClash
+written = refl
+
+counted_in_value : of_main (Assign (unplaced (one (num 1))) (Item (codes "MOD") (one (num 1))) ∷ []) ≡ Some WrongCount
+counted_in_value = refl
+
+no_class : of_main (Assign (unplaced (one (Ref n))) (num 2) ∷ referred ∷ []) ≡ None
+no_class = refl
+
+long_inside : of_main (Assign (unplaced (one (Ref (codes "INDEXES")))) (num 2) ∷ []) ≡ Some NameTooLong
+long_inside = refl
+
+real_inside : of_main (Assign (unplaced (one (Ref x))) (num 2) ∷ []) ≡ Some OutOfProfileType
+real_inside = refl
 
 -- CALL S(1HA), and CALL S
 letter : of_main (Invoke s (one (Letter 65)) ∷ []) ≡ None

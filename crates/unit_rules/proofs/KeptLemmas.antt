@@ -10,7 +10,7 @@ use Rattle.f66_tree.specs.Syntax.{Text, Formulas, NoFormula, Formula, Declared, 
 use Rattle.f66_tree.specs.Units.{Context}
 use Rattle.f66_names.specs.Declaring.{names, is_sized, declared_in, sized_in, typed_in, sizes, listed_in}
 use Rattle.f66_names.specs.NameRules as plain_names
-use Rattle.f66_names.specs.NameRules.{has_name, is_long, has_other_type, miscounts, has_wrong_count, redeclares, resizes}
+use Rattle.f66_names.specs.NameRules.{has_name, is_long, has_other_type, has_wrong_sizes, miscounts, redeclares, resizes}
 use Rattle.f66_names.specs.Shapes.{is_branch, stands, has_shape}
 use Rattle.f66_names.specs.Sorts.{is_real_by_letter}
 use Rattle.f66_names.specs.StoreRules.{has_bad_size, has_bad_constant, stores_wrong, is_large, has_large_array}
@@ -20,11 +20,13 @@ use Rattle.f66_names.specs.Rules.{breaks_name}
 use Rattle.unit_rules.specs.Called.{called_in}
 use Rattle.unit_rules.specs.Forms.{has_form}
 use Rattle.unit_rules.specs.Heads.{is_settled, declares_own}
-use Rattle.unit_rules.specs.Listed.{common_in, equated_in, preset_in, uses_of_listed, more_names, more_uses}
+use Rattle.unit_rules.specs.Judged.{judged_uses}
+use Rattle.unit_rules.specs.Listed.{common_in, equated_in, preset_in, uses_of_listed, more_names, any_use}
 use Rattle.unit_rules.specs.Roles.{misuses, miscalls, mixes_roles}
 use Rattle.unit_rules.specs.Storage.{any_block, any_part, is_no_element, has_odd_subscript, miscounts_element, has_one_subscript, miscounts_values, recommons, gives_sizes, was_given_sizes, is_held, holds_place, lists_again, has_variable_subscript, has_bad_value, takes_value}
 use Rattle.unit_rules.specs.Types.{clashes}
 use Rattle.unit_rules.specs.UnitRules.{breaks_rule}
+use Rattle.unit_rules.proofs.JudgedLemmas.{judged_fewer}
 use Rattle.unit_rules.proofs.MainLemmas.{AllBuilt, uncalled, unlisted, no_more, clash_same, no_function, all_misused}
 
 -- ---- forms ----
@@ -86,7 +88,7 @@ module _ (c : Context) where
   same_place q [] h = refl
   same_place q (a ∷ rest) h =
       ap (λ b. if b then Some 0 else option_map (λ n. n + 1) (first_place (gives_sizes q) rest)) (same_sizes q a (form_of a h.0))
-      ∙ ap (λ o. if sizes q a then Some 0 else option_map (λ n. n + 1) o) (same_place q rest h.1)
+      ∙ ap (λ o. if sizes q a then Some 0 else option_map (λ n. n + 1) o) (same_place q rest h.2)
 
   any_alike : {X : Type 0} (f g : X → Bool) (xs : List X) → ((x : X) → f x ≡ g x) → list_any f xs ≡ list_any g xs
   any_alike f g [] h = refl
@@ -116,8 +118,8 @@ module _ (c : Context) where
 
     unmixed : (a : Act) → is_built c a ≡ true → list_any (plain_names.misuses c acts) (uses_in a) ≡ false → mixes_roles c acts a ≡ false
     unmixed a is h =
-        or_from (list_any (misuses c acts) (uses_in a) || list_any (misuses c acts) (more_uses c a)) _
-        (or_from (list_any (misuses c acts) (uses_in a)) _ (all_misused c main acts built (uses_in a) (no_function c a is) ∙ h) (ap (list_any (misuses c acts)) (no_more c a (form_of a is))))
+        or_from (any_use c (misuses c acts) a) _
+        (or_from (list_any (misuses c acts) (judged_uses c a)) _ (judged_fewer c (misuses c acts) a (all_misused c main acts built (uses_in a) (no_function c a is) ∙ h)) (ap (list_any (misuses c acts)) (no_more c a (form_of a is))))
         (ap (is_some_and (miscalls c acts)) (uncalled a (form_of a is)).0)
 
     -- a statement that breaks none of the rules of such a unit breaks none of those of all units
@@ -134,8 +136,10 @@ module _ (c : Context) where
         (or_from (list_any (λ e. is_no_element c e || has_odd_subscript c e) (equated_in a)) _ (ap (list_any (λ e. is_no_element c e || has_odd_subscript c e)) none.1) (ap (list_any (has_odd_subscript c)) none.2))
     main_kept i a is WrongCount h =
         let none = unlisted a (form_of a is) in
-        or_from (has_wrong_count c a) _ h
-        (or_from (list_any (miscounts c) (more_uses c a)) _ (ap (list_any (miscounts c)) (no_more c a (form_of a is)))
+        let p = or_parts (has_wrong_sizes a) _ h in
+        or_from (has_wrong_sizes a) _ p.0
+        (or_from (any_use c (miscounts c) a) _
+        (or_from (list_any (miscounts c) (judged_uses c a)) _ (judged_fewer c (miscounts c) a p.1) (ap (list_any (miscounts c)) (no_more c a (form_of a is))))
         (or_from (list_any plain_names.has_many_sizes (common_in a)) _ (ap (list_any plain_names.has_many_sizes) none.0)
         (or_from (list_any (λ e. miscounts_element c e && not (has_one_subscript e)) (equated_in a)) _ (ap (list_any (λ e. miscounts_element c e && not (has_one_subscript e))) none.1)
         (or_from (list_any (miscounts_element c) (preset_in a)) _ (ap (list_any (miscounts_element c)) none.2) (no_parts miscounts_values a (form_of a is))))))

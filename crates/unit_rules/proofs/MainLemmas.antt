@@ -1,4 +1,5 @@
--- In a main unit all of whose statements are built the rules of all units ask for no less than the rules of such units.
+-- In a main unit all of whose statements are built the rules of all units ask for no less than the rules of such units, where of
+-- each statement all names are judged.
 use Rattle.std.proofs.Common.{◌≡◌, ℕ, Bool, true, false, true≢false, List, [], ◌∷◌, ◌++◌, Option, Some, None, option_map, refl, ap, sym, ◌∙◌}
 use Rattle.std.specs.Prelude.{not, ◌&&◌, ◌||◌, ⊤, if◌then◌else◌}
 use Rattle.std.specs.List.{list_any, flat_map}
@@ -25,7 +26,7 @@ use Rattle.f66_names.specs.Kinds as plain
 use Rattle.f66_names.specs.Kinds.{are_subscripts, same_kind, may_be, operand, outcome, takes_kind}
 use Rattle.f66_names.specs.NameRules as names
 use Rattle.f66_names.specs.StoreRules.{has_bad_constant, stores_wrong, has_large_array}
-use Rattle.f66_names.specs.NameRules.{has_name, is_long, has_other_type, has_wrong_count, redeclares, class_by, class_used, class_given, class_of, has_other_class}
+use Rattle.f66_names.specs.NameRules.{has_name, is_long, has_other_type, has_wrong_sizes, miscounts, redeclares, class_by, class_used, class_given, class_of, has_other_class}
 use Rattle.f66_names.specs.Shapes.{has_shape}
 use Rattle.f66_names.specs.BuiltActs.{is_function_by, is_function, is_built_form, is_built}
 use Rattle.f66_names.specs.Rules.{breaks_name}
@@ -33,7 +34,8 @@ use Rattle.f66_names.proofs.TableLemmas.{find_map-append}
 use Rattle.unit_rules.specs.declared.roles.Role.{Role}
 use Rattle.unit_rules.specs.declared.roles.Role.TheVariants as roles
 use Rattle.unit_rules.specs.Called.{called_in, passed_in}
-use Rattle.unit_rules.specs.Listed.{common_in, equated_in, preset_in, uses_of_listed, uses_of_place, more_uses}
+use Rattle.unit_rules.specs.Judged.{judged_uses}
+use Rattle.unit_rules.specs.Listed.{common_in, equated_in, preset_in, uses_of_listed, uses_of_place, more_uses, any_use}
 use Rattle.unit_rules.specs.Forms.{has_form}
 use Rattle.unit_rules.specs.Types.{applied, fits, are_integers, are_actuals, assigns, clashes}
 use Rattle.unit_rules.specs.Roles.{role_by, role_given, role_called, role_in, role_held, role_of, has_other_role, misuses, mixes_roles}
@@ -180,22 +182,23 @@ module _ (c : Context) where
       not-true true e = absurd (true≢false (sym e))
       not-true false e = refl
 
-  act_same : (q : Text) (a : Act) → is_built c a ≡ true → role_in c q a ≡ option_map as_role (find_map (class_given c q) (uses_in a))
-  act_same q a is =
+  act_same : (q : Text) (a : Act) → is_built c a ≡ true → judged_uses c a ≡ uses_in a → role_in c q a ≡ option_map as_role (find_map (class_given c q) (uses_in a))
+  act_same q a is same =
       let built = (and_parts (is_built_form a) _ is).0 in
-      ap (λ o. option_or (role_called q o) (option_or (find_map (role_given c q) (uses_in a)) (find_map (role_given c q) (more_uses c a)))) (uncalled a built).0
+      ap (λ us. option_or (role_called q (called_in a)) (option_or (find_map (role_given c q) us) (find_map (role_given c q) (more_uses c a)))) same
+      ∙ ap (λ o. option_or (role_called q o) (option_or (find_map (role_given c q) (uses_in a)) (find_map (role_given c q) (more_uses c a)))) (uncalled a built).0
       ∙ ap (λ us. option_or (find_map (role_given c q) (uses_in a)) (find_map (role_given c q) us)) (no_more c a built)
       ∙ or_none (find_map (role_given c q) (uses_in a)) ∙ uses_same q (uses_in a) (no_function a is)
 
-  -- all statements are built
+  -- all statements are built, and all their names are judged
   abbrev pub AllBuilt : List Act → Type 0
   AllBuilt [] = ⊤
-  AllBuilt (a ∷ rest) = (is_built c a ≡ true) × AllBuilt rest
+  AllBuilt (a ∷ rest) = (is_built c a ≡ true) × (judged_uses c a ≡ uses_in a) × AllBuilt rest
 
   acts_same : (q : Text) (acts : List Act) → AllBuilt acts → find_map (role_in c q) acts ≡ option_map as_role (class_of c acts q)
   acts_same q [] h = refl
   acts_same q (a ∷ rest) h =
-      ap (λ r. option_or r (find_map (role_in c q) rest)) (act_same q a h.0) ∙ ap (option_or (option_map as_role (find_map (class_given c q) (uses_in a)))) (acts_same q rest h.1)
+      ap (λ r. option_or r (find_map (role_in c q) rest)) (act_same q a h.0 h.1) ∙ ap (option_or (option_map as_role (find_map (class_given c q) (uses_in a)))) (acts_same q rest h.2)
       ∙ sym (or_mapped as_role (find_map (class_given c q) (uses_in a)) (class_of c rest q))
       ∙ ap (option_map as_role) (sym (find_map-append (class_given c q) (uses_in a) (flat_map uses_in rest)))
 
@@ -214,20 +217,24 @@ module _ (c : Context) where
         ap (λ b. b || list_any (misuses c acts) us) (misused_same u p.0) ∙ ap (λ b. names.misuses c acts u || b) (all_misused us p.1)
 
     -- a statement that breaks none of the rules of all units breaks none of those of such a unit
-    pub main_clean : (i : ℕ) (a : Act) → is_built c a ≡ true → (k : Rule) → breaks_rule c acts i a k ≡ false → breaks_name c acts i a k ≡ false
-    main_clean i a is Syntax h = ap not (built_shape a (not-false (has_form a) h) (and_parts (is_built_form a) _ is).0)
-    main_clean i a is NameTooLong h = (or_parts (has_name is_long a) _ h).0
-    main_clean i a is OutOfProfileType h = (or_parts (has_other_type c a) _ h).0
-    main_clean i a is TypeClash h = sym (clash_same c a (and_parts (is_built_form a) _ is).0 (no_function a is)) ∙ (or_parts (clashes c a) _ h).0
-    main_clean i a is WrongCount h = (or_parts (has_wrong_count c a) _ h).0
-    main_clean i a is DuplicateName h =
+    pub main_clean : (i : ℕ) (a : Act) → is_built c a ≡ true → judged_uses c a ≡ uses_in a → (k : Rule) → breaks_rule c acts i a k ≡ false → breaks_name c acts i a k ≡ false
+    main_clean i a is same Syntax h = ap not (built_shape a (not-false (has_form a) h) (and_parts (is_built_form a) _ is).0)
+    main_clean i a is same NameTooLong h = (or_parts (has_name is_long a) _ h).0
+    main_clean i a is same OutOfProfileType h = (or_parts (has_other_type c a) _ h).0
+    main_clean i a is same TypeClash h = sym (clash_same c a (and_parts (is_built_form a) _ is).0 (no_function a is)) ∙ (or_parts (clashes c a) _ h).0
+    main_clean i a is same WrongCount h =
+        let p = or_parts (has_wrong_sizes a) _ h in
+        let q = or_parts (any_use c (miscounts c) a) _ p.1 in
+        or_from (has_wrong_sizes a) _ p.0 (sym (ap (list_any (miscounts c)) same) ∙ (or_parts (list_any (miscounts c) (judged_uses c a)) _ q.0).0)
+    main_clean i a is same DuplicateName h =
         let p = or_parts (redeclares acts i a) _ h in
         let l = or_parts (lists_again c acts i a) _ p.1 in
         let q = or_parts (declares_own c.header a) (mixes_roles c acts a) l.1 in
-        let r = or_parts (list_any (misuses c acts) (uses_in a) || list_any (misuses c acts) (more_uses c a)) _ q.1 in
-        or_from (redeclares acts i a) _ p.0 (sym (all_misused (uses_in a) (no_function a is)) ∙ (or_parts (list_any (misuses c acts) (uses_in a)) _ r.0).0)
-    main_clean i a is BadConstant h = (or_parts (has_bad_constant c a) _ h).0
-    main_clean i a is BadFormat h = h
-    main_clean i a is NotAssignable h = (or_parts (stores_wrong c a) _ h).0
-    main_clean i a is LargeArray h = (or_parts (has_large_array a) _ h).0
-    main_clean i a is _ h = refl
+        let r = or_parts (any_use c (misuses c acts) a) _ q.1 in
+        or_from (redeclares acts i a) _ p.0
+        (sym (all_misused (uses_in a) (no_function a is)) ∙ sym (ap (list_any (misuses c acts)) same) ∙ (or_parts (list_any (misuses c acts) (judged_uses c a)) _ r.0).0)
+    main_clean i a is same BadConstant h = (or_parts (has_bad_constant c a) _ h).0
+    main_clean i a is same BadFormat h = h
+    main_clean i a is same NotAssignable h = (or_parts (stores_wrong c a) _ h).0
+    main_clean i a is same LargeArray h = (or_parts (has_large_array a) _ h).0
+    main_clean i a is same _ h = refl

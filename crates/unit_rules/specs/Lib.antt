@@ -1,5 +1,6 @@
 -- The definitions that the contracts of unit_rules cite.
 pub mod Called
+pub mod Judged
 pub mod Listed
 pub mod ListViews
 pub mod Forms

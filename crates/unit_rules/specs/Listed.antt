@@ -8,8 +8,9 @@ use Rattle.f66_tree.specs.Syntax.{Formula, Item, Declared, Act, Common, Equivale
 use Rattle.f66_tree.specs.Units.{Context}
 use Rattle.f66_names.specs.declared.name_form.Manner.TheVariants.{Alone}
 use Rattle.f66_names.specs.Sorts.{is_array_name}
-use Rattle.f66_names.specs.Uses.{Usage, usage, uses_of, uses_of_all, uses_of_target, uses_of_par, uses_in}
+use Rattle.f66_names.specs.Uses.{Usage, usage, uses_of, uses_of_all, uses_of_target, uses_of_par}
 use Rattle.unit_rules.specs.Called.{passed_in}
+use Rattle.unit_rules.specs.Judged.{judged_uses}
 
 -- the names in common blocks, with their dimensions
 abbrev pub common_in : Act → List Declared
@@ -43,10 +44,10 @@ more_names a = uses_of_all (passed_in a) ++ (flat_map uses_of_listed (common_in 
 abbrev pub more_uses : Context → Act → List Usage
 more_uses c a = uses_of_all (passed_in a) ++ (flat_map uses_of_listed (common_in a) ++ (flat_map (uses_of_place c) (equated_in a) ++ flat_map (uses_of_place c) (preset_in a)))
 
--- a use in the statement passes a test
+-- a use with a class and a count passes a test
 abbrev pub any_use : Context → (Usage → Bool) → Act → Bool
-any_use c test a = list_any test (uses_in a) || list_any test (more_uses c a)
+any_use c test a = list_any test (judged_uses c a) || list_any test (more_uses c a)
 
--- the first value that f gives of a use
+-- the first value that f gives of such a use
 abbrev pub first_use : {V : Type 0} → Context → (Usage → Option V) → Act → Option V
-first_use c f a = option_or (find_map f (uses_in a)) (find_map f (more_uses c a))
+first_use c f a = option_or (find_map f (judged_uses c a)) (find_map f (more_uses c a))

@@ -7,10 +7,10 @@ use Rattle.rule_table.specs.Words.{is_some_and}
 use Rattle.f66_tree.specs.Syntax.{Act}
 use Rattle.f66_tree.specs.Units.{Context}
 use Rattle.f66_names.specs.Sorts.{is_real_by_letter}
-use Rattle.f66_names.specs.NameRules.{has_name, is_long, has_other_type, miscounts, has_wrong_count, redeclares}
+use Rattle.f66_names.specs.NameRules.{has_name, is_long, has_other_type, has_wrong_sizes, miscounts, redeclares}
 use Rattle.f66_names.specs.StoreRules.{has_bad_constant, has_bad_format, stores_wrong, is_large, has_large_array}
 use Rattle.unit_rules.specs.Called.{called_in}
-use Rattle.unit_rules.specs.Listed.{common_in, more_names, more_uses}
+use Rattle.unit_rules.specs.Listed.{common_in, more_names, any_use}
 use Rattle.unit_rules.specs.Forms.{has_form}
 use Rattle.unit_rules.specs.Types.{clashes}
 use Rattle.unit_rules.specs.Roles.{mixes_roles}
@@ -24,7 +24,7 @@ abbrev pub has_foreign_name : Context → Act → Bool
 has_foreign_name c a = has_other_type c a || list_any (λ u. is_real_by_letter c u.name) (more_names a)
 
 abbrev pub counts_wrong : Context → Act → Bool
-counts_wrong c a = has_wrong_count c a || (list_any (miscounts c) (more_uses c a) || lists_miscounted c a)
+counts_wrong c a = has_wrong_sizes a || (any_use c (miscounts c) a || lists_miscounted c a)
 
 abbrev pub is_duplicate : Context → List Act → ℕ → Act → Bool
 is_duplicate c acts i a = redeclares acts i a || (lists_again c acts i a || (declares_own c.header a || mixes_roles c acts a))

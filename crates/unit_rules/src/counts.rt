@@ -1,16 +1,47 @@
-// The counts of dimensions, subscripts and values in COMMON, EQUIVALENCE and DATA.
-ghost use Rattle.std.specs.Prelude.{◌≡◌, ◌&&◌, not, map, sum_by};
+// The counts of dimensions, and those of subscripts and values in EQUIVALENCE and DATA.
+ghost use Rattle.std.specs.Prelude.{◌≡◌, ◌&&◌, ◌||◌, not, map, sum_by};
 ghost use Rattle.std.specs.List.{list_any};
 ghost use Rattle.f66_tree.specs.Syntax.{Text, Item};
 ghost use Rattle.f66_tree.specs.Views.{formula_of, formulas_of, declared_of, initial_of, preset_of, act_of};
+ghost use Rattle.f66_names.specs.Declaring.{is_sized};
 ghost use Rattle.f66_names.specs.DeclarationViews.{context_in};
-ghost use Rattle.f66_names.specs.NameRules.{has_many_sizes as has_many};
+ghost use Rattle.f66_names.specs.NameRules.{has_many_sizes as has_many, has_wrong_sizes as has_wrong};
 ghost use Rattle.unit_rules.specs.ListViews.{AreLists};
 ghost use Rattle.unit_rules.specs.Storage.{miscounts_element, has_one_subscript, miscounts_values, any_part, lists_miscounted};
 
 use crate::listed::Lists;
 use f66_names::{Declarations, form_of, has_many_sizes, is_array, takes};
 use f66_tree::{Declared, Expr, Name, PresetPart, StmtKind};
+
+fn is_unfit(declared: &Declared) -> bool
+    ensures { result ≡ (not (is_sized (declared_of declared.now)) || has_many (declared_of declared.now)) }
+{
+    declared.sizes.is_empty() || has_many_sizes(declared)
+}
+
+fn are_some_typed_many(list: &[Declared]) -> bool
+    ensures { result ≡ list_any (λ d. has_many (declared_of d)) list.now }
+{
+    list.iter().any(|d| has_many_sizes(d))
+}
+
+fn are_some_unfit(list: &[Declared]) -> bool
+    ensures { result ≡ list_any (λ d. not (is_sized (declared_of d)) || has_many (declared_of d)) list.now }
+{
+    list.iter().any(|d| is_unfit(d))
+}
+
+/// Whether a type statement gives more than three dimensions, or DIMENSION more or none (section 7.2.1.1).
+#[tactic(auto, using(crate::proofs::ListLemmas::list_steps))]
+pub fn has_wrong_sizes(kind: &StmtKind) -> bool
+    ensures { result ≡ has_wrong (act_of kind.now) }
+{
+    match kind {
+        StmtKind::Typed(_, list) => are_some_typed_many(list),
+        StmtKind::Dimension(list) => are_some_unfit(list),
+        _ => false,
+    }
+}
 
 #[tactic(auto, using(crate::proofs::ListLemmas::many_seen))]
 fn is_miscounted(declarations: &Declarations, name: &Name, list: &[Expr]) -> bool

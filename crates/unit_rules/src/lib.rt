@@ -8,6 +8,7 @@ mod constants;
 mod counts;
 mod forms;
 mod heads;
+mod judged;
 mod listed;
 mod more_uses;
 mod presets;

@@ -12,8 +12,9 @@ ghost use Rattle.f66_names.specs.DeclarationViews.{context_in, acts_in};
 ghost use Rattle.unit_rules.specs.Roles.{role_by, role_used, role_given, role_called, role_in, role_listed, role_held, role_of, same_role, has_other_role};
 
 use crate::called::called_in_saying;
+use crate::judged::judged_uses_of_saying;
 use crate::more_uses::more_uses_of_saying;
-use f66_names::{Declarations, Manner, NameForm, Saying, Use, form_of, uses_of_saying};
+use f66_names::{Declarations, Manner, NameForm, Saying, Use, form_of};
 use f66_tree::{Header, Name};
 use rule_table::note;
 use std::alloc::{AllocError, Global};
@@ -96,7 +97,7 @@ fn note_roles<'a>(
         ((q : List ℕ) → get_by (λ k. bytes_eq q k.now) table.new
         ≡ option_or (get_by (λ k. bytes_eq q k.now) table.old) (role_in (context_in declarations.now) q (act_said saying.now))) }
 {
-    let uses = uses_of_saying(alloc, saying)?;
+    let uses = judged_uses_of_saying(alloc, declarations, saying)?;
     let more = more_uses_of_saying(alloc, declarations, saying)?;
     note_called(table, called_in_saying(saying))?;
     note_used(table, declarations, &uses)?;

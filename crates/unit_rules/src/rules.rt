@@ -10,6 +10,7 @@ ghost use Rattle.f66_names.specs.NameRules.{is_long as is_long_text};
 ghost use Rattle.f66_names.specs.StoreRules.{has_bad_constant as has_bad};
 ghost use Rattle.f66_names.specs.Uses.{uses_in};
 ghost use Rattle.f66_names.specs.UseViews.{use_of};
+ghost use Rattle.unit_rules.specs.Judged.{judged_uses};
 ghost use Rattle.unit_rules.specs.Listed.{more_names, more_uses};
 ghost use Rattle.unit_rules.specs.ListViews.{AreLists};
 ghost use Rattle.unit_rules.specs.Roles.{misuses, miscalls, mixes_roles};
@@ -20,9 +21,10 @@ use crate::UnitNames;
 use crate::again::lists_again;
 use crate::called::called_in;
 use crate::constants::{has_large_common, lists_bad_constant};
-use crate::counts::lists_miscounted;
+use crate::counts::{has_wrong_sizes, lists_miscounted};
 use crate::forms::has_form;
 use crate::heads::declares_own;
+use crate::judged::judged_uses;
 use crate::listed::{Lists, lists_of};
 use crate::more_uses::{more_names, more_uses};
 use crate::presets::presets_wrong;
@@ -31,8 +33,8 @@ use crate::shapes::{has_long_block, lists_odd};
 use crate::types::clashes;
 use f66_names::{
     Declarations, Use, has_bad_constant, has_bad_format, has_large_array, has_long_name,
-    has_long_use, has_other_type, has_other_use, has_wrong_count, has_wrong_use, is_array, is_long,
-    redeclares, stores_wrong, uses_of_statement,
+    has_long_use, has_other_type, has_other_use, has_wrong_use, is_array, is_long, redeclares,
+    stores_wrong, uses_of_statement,
 };
 use f66_tree::{Name, StmtKind};
 use rule_table::Rule;
@@ -50,10 +52,11 @@ pub fn broken_rule(
         (λ o. o ≡ first_rule (breaks_rule (context_in names.now.declarations) (acts_in names.now.declarations) i (act_of kind.now))) }
 {
     let uses = uses_of_statement(alloc, kind)?;
+    let judged = judged_uses(alloc, &names.declarations, kind)?;
     let lists = lists_of(alloc, kind)?;
     let named = more_names(alloc, kind, &lists)?;
     let more = more_uses(alloc, &names.declarations, kind, &lists)?;
-    let duplicate = is_duplicate(alloc, names, i, kind, &lists, &uses, &more)?;
+    let duplicate = is_duplicate(alloc, names, i, kind, &lists, &judged, &more)?;
     if !has_form(kind) {
         return Ok(Some(Rule::Syntax));
     }
@@ -66,7 +69,7 @@ pub fn broken_rule(
     if clashes(&names.declarations, kind) || lists_odd(&names.declarations, kind, &lists) {
         return Ok(Some(Rule::TypeClash));
     }
-    if counts_wrong(&names.declarations, kind, &lists, &uses, &more) {
+    if counts_wrong(&names.declarations, kind, &lists, &judged, &more) {
         return Ok(Some(Rule::WrongCount));
     }
     if duplicate {
@@ -122,16 +125,17 @@ fn counts_wrong(
     declarations: &Declarations,
     kind: &StmtKind,
     lists: &Lists,
-    uses: &[Use],
+    judged: &[Use],
     more: &[Use],
 ) -> bool
     requires lists { AreLists lists.now (act_of kind.now) }
-    requires uses { map use_of uses.now ≡ uses_in (act_of kind.now) }
+    requires judged { map use_of judged.now ≡ judged_uses (context_in declarations.now) (act_of kind.now) }
     requires more { map use_of more.now ≡ more_uses (context_in declarations.now) (act_of kind.now) }
     ensures { result ≡ counts_other (context_in declarations.now) (act_of kind.now) }
 {
-    has_wrong_count(declarations, kind, uses)
-        || (has_wrong_use(declarations, more) || lists_miscounted(declarations, kind, lists))
+    has_wrong_sizes(kind)
+        || ((has_wrong_use(declarations, judged) || has_wrong_use(declarations, more))
+            || lists_miscounted(declarations, kind, lists))
 }
 
 fn is_constant_bad(declarations: &Declarations, kind: &StmtKind, lists: &Lists) -> bool
@@ -148,28 +152,28 @@ fn is_duplicate(
     i: usize,
     kind: &StmtKind,
     lists: &Lists,
-    uses: &[Use],
+    judged: &[Use],
     more: &[Use],
 ) -> Result<bool, AllocError>
     requires lists { AreLists lists.now (act_of kind.now) }
-    requires uses { map use_of uses.now ≡ uses_in (act_of kind.now) }
+    requires judged { map use_of judged.now ≡ judged_uses (context_in names.now.declarations) (act_of kind.now) }
     requires more { map use_of more.now ≡ more_uses (context_in names.now.declarations) (act_of kind.now) }
     ensures { IfOk result (λ b. b ≡ is_duplicate (context_in names.now.declarations) (acts_in names.now.declarations) i (act_of kind.now)) }
 {
     let again = redeclares(alloc, &names.declarations, i, kind)?;
     let listed = lists_again(alloc, names, i, kind, lists)?;
     let own = declares_own(names.declarations.header, kind);
-    let mixed = mixes_roles(names, kind, uses, more);
+    let mixed = mixes_roles(names, kind, judged, more);
     Ok(again || (listed || (own || mixed)))
 }
 
-fn mixes_roles(names: &UnitNames, kind: &StmtKind, uses: &[Use], more: &[Use]) -> bool
-    requires uses { map use_of uses.now ≡ uses_in (act_of kind.now) }
+fn mixes_roles(names: &UnitNames, kind: &StmtKind, judged: &[Use], more: &[Use]) -> bool
+    requires judged { map use_of judged.now ≡ judged_uses (context_in names.now.declarations) (act_of kind.now) }
     requires more { map use_of more.now ≡ more_uses (context_in names.now.declarations) (act_of kind.now) }
     ensures { result ≡ mixes_roles (context_in names.now.declarations) (acts_in names.now.declarations) (act_of kind.now) }
 {
     let called = is_miscalled(names, called_in(kind));
-    (has_misuse(names, uses) || has_misuse(names, more)) || called
+    (has_misuse(names, judged) || has_misuse(names, more)) || called
 }
 
 fn is_miscalled(names: &UnitNames, called: Option<&Name>) -> bool

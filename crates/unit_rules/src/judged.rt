@@ -1,0 +1,149 @@
+// The uses of names that have classes and counts.
+ghost use Rattle.std.specs.Prelude.{◌≡◌, ◌++◌, IfOk, OnOk, map};
+ghost use Rattle.f66_tree.specs.Views.{formula_of, entry_of, entries_of, par_of, act_of};
+ghost use Rattle.f66_names.specs.ActViews.{act_said};
+ghost use Rattle.f66_names.specs.DeclarationViews.{context_in};
+ghost use Rattle.f66_names.specs.Uses.{uses_of_par, uses_in};
+ghost use Rattle.f66_names.specs.UseViews.{use_of};
+ghost use Rattle.unit_rules.specs.Judged.{judged_of_target, judged_of_entry, judged_of_entries, judged_uses};
+
+use f66_names::{
+    Declarations, Saying, Use, collect_pars, collect_target, is_array, uses_of_saying,
+};
+use f66_tree::{Entry, Expr, Par, StmtKind};
+use std::alloc::{AllocError, Global};
+use std::slice;
+
+/// The names of a statement that have classes and counts there (X3.9-1966, sections 5.1.3 and 10.1).
+pub fn judged_uses<'a>(
+    alloc: Global,
+    declarations: &Declarations<'a>,
+    kind: &'a StmtKind,
+) -> Result<Vec<Use<'a>>, AllocError>
+    ensures { IfOk result (λ v. map use_of v.items ≡ judged_uses (context_in declarations.now) (act_of kind.now)) }
+{
+    let mut uses = Vec::new(alloc);
+    collect_judged(alloc, declarations, kind, &mut uses)?;
+    Ok(uses)
+}
+
+/// The same of a statement or a part of one.
+pub fn judged_uses_of_saying<'a>(
+    alloc: Global,
+    declarations: &Declarations<'a>,
+    saying: &Saying<'a>,
+) -> Result<Vec<Use<'a>>, AllocError>
+    ensures { IfOk result (λ v. map use_of v.items ≡ judged_uses (context_in declarations.now) (act_said saying.now)) }
+{
+    match *saying {
+        Saying::Act(kind) => judged_uses(alloc, declarations, kind),
+        Saying::Condition(_)
+        | Saying::Value(_)
+        | Saying::Counting(_, _, _, _)
+        | Saying::Returned(_, _) => uses_of_saying(alloc, saying),
+    }
+}
+
+fn collect_judged<'a>(
+    alloc: Global,
+    declarations: &Declarations<'a>,
+    kind: &'a StmtKind,
+    uses: &mut Vec<Use<'a>>,
+) -> Result<(), AllocError>
+    ensures { OnOk result
+        (map use_of uses.new.items ≡ map use_of uses.old.items ++ judged_uses (context_in declarations.now) (act_of kind.now)) }
+{
+    match kind {
+        StmtKind::Assign(target, value) => {
+            collect_stored(declarations, target, uses)?;
+            collect_said(alloc, &Saying::Value(value), uses)
+        }
+        StmtKind::When(test, inner) => {
+            collect_said(alloc, &Saying::Value(test), uses)?;
+            collect_judged(alloc, declarations, inner, uses)
+        }
+        StmtKind::Read(unit, _, list) => {
+            collect_par(unit, uses)?;
+            collect_entries(alloc, declarations, list, uses)
+        }
+        StmtKind::Write(unit, _, list) => {
+            collect_par(unit, uses)?;
+            collect_entries(alloc, declarations, list, uses)
+        }
+        _ => collect_said(alloc, &Saying::Act(kind), uses),
+    }
+}
+
+/// Adds all names that a statement or a part of one uses.
+fn collect_said<'a>(
+    alloc: Global,
+    saying: &Saying<'a>,
+    uses: &mut Vec<Use<'a>>,
+) -> Result<(), AllocError>
+    ensures { OnOk result (map use_of uses.new.items ≡ map use_of uses.old.items ++ uses_in (act_said saying.now)) }
+{
+    let mut said = uses_of_saying(alloc, saying)?;
+    uses.append(&mut said)
+}
+
+fn collect_par<'a>(par: &'a Par, uses: &mut Vec<Use<'a>>) -> Result<(), AllocError>
+    ensures { OnOk result (map use_of uses.new.items ≡ map use_of uses.old.items ++ uses_of_par (par_of par.now)) }
+{
+    collect_pars(slice::from_ref(par), uses)
+}
+
+/// Adds the names of a target or an item, where it is no name with parentheses other than an array's.
+fn collect_stored<'a>(
+    declarations: &Declarations<'a>,
+    e: &'a Expr,
+    uses: &mut Vec<Use<'a>>,
+) -> Result<(), AllocError>
+    ensures { OnOk result
+        (map use_of uses.new.items ≡ map use_of uses.old.items ++ judged_of_target (context_in declarations.now) (formula_of e.now)) }
+{
+    match e {
+        Expr::Item(name, _) => {
+            if is_array(declarations, name) {
+                return collect_target(e, uses);
+            }
+            Ok(())
+        }
+        e => collect_target(e, uses),
+    }
+}
+
+#[cycle(collect_entries)]
+fn collect_entry<'a>(
+    alloc: Global,
+    declarations: &Declarations<'a>,
+    entry: &'a Entry,
+    uses: &mut Vec<Use<'a>>,
+) -> Result<(), AllocError>
+    ensures { OnOk result
+        (map use_of uses.new.items ≡ map use_of uses.old.items ++ judged_of_entry (context_in declarations.now) (entry_of entry.now)) }
+{
+    match entry {
+        Entry::Item(e) => collect_stored(declarations, e, uses),
+        Entry::Many(list, variable, first, last, step) => {
+            collect_entries(alloc, declarations, list, uses)?;
+            collect_said(alloc, &Saying::Counting(variable, first, last, step), uses)
+        }
+    }
+}
+
+#[cycle(collect_entries)]
+fn collect_entries<'a>(
+    alloc: Global,
+    declarations: &Declarations<'a>,
+    list: &'a [Entry],
+    uses: &mut Vec<Use<'a>>,
+) -> Result<(), AllocError>
+    ensures { OnOk result
+        (map use_of uses.new.items
+        ≡ map use_of uses.old.items ++ judged_of_entries (context_in declarations.now) (entries_of list.now)) }
+{
+    for entry in list {
+        collect_entry(alloc, declarations, entry, uses)?;
+    }
+    Ok(())
+}
