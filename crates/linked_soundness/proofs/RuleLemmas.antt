@@ -28,9 +28,11 @@ use Rattle.f66_soundness.proofs.ValueLemmas.{FitCounts}
 use Rattle.unit_rules.specs.Called.{passed_in}
 use Rattle.unit_rules.specs.Forms.{has_form}
 use Rattle.unit_rules.specs.Heads as heads
-use Rattle.unit_rules.specs.Listed.{common_in}
+use Rattle.unit_rules.specs.Judged.{judged_uses}
+use Rattle.unit_rules.specs.Listed.{common_in, any_use}
 use Rattle.unit_rules.specs.Types.{clashes}
 use Rattle.unit_rules.specs.UnitRules.{breaks_rule}
+use Rattle.unit_rules.proofs.JudgedLemmas.{judged_same}
 use Rattle.f66_check.specs.CheckRules as check
 use Rattle.f66_check.specs.UnitChecks.{breaks_statement}
 use Rattle.f66_check.specs.Answers.{IsSoundUnit}
@@ -171,14 +173,17 @@ module _ (u : Routine) (sound : IsSoundUnit u) where
 
   statement_keeps : (i : ℕ) (s : Line) → slice_get u.lines i ≡ Some s → KeepsRules own u.lines s.act
   statement_keeps i s is =
-      let counts = or_parts (names.has_wrong_count own s.act) _ (keeps i s is WrongCount).1 in
+      let kinds = (or_parts (clashes own s.act) _ (keeps i s is TypeClash).1).0 in
+      let stores = (or_parts (stores_wrong own s.act) _ (keeps i s is NotAssignable).1).0 in
+      let counts = or_parts (any_use own (names.miscounts own) s.act) _ (or_parts (names.has_wrong_sizes s.act) _ (keeps i s is WrongCount).1).1 in
+      let uses = or_parts (list_any (names.miscounts own) (judged_uses own s.act)) _ counts.0 in
       let constants = or_parts (has_bad_constant own s.act) _ (keeps i s is BadConstant).1 in
       record {
         form = not-false _ (keeps i s is Syntax).1;
-        kinds = (or_parts (clashes own s.act) _ (keeps i s is TypeClash).1).0;
-        counts = (or_parts _ _ counts.0).1;
-        passed = (none_of_both (names.miscounts own) (uses_of_all (passed_in s.act)) _ (or_parts _ _ counts.1).0).0;
-        stores = (or_parts _ _ (keeps i s is NotAssignable).1).0;
+        kinds = kinds;
+        counts = sym (ap (list_any (names.miscounts own)) (judged_same own s.act kinds stores)) ∙ uses.0;
+        passed = (none_of_both (names.miscounts own) (uses_of_all (passed_in s.act)) _ uses.1).0;
+        stores = stores;
         sizes = constants.0;
         shared = (or_parts (list_any (has_bad_size own) (common_in s.act)) _ constants.1).0;
         profile = (or_parts (names.gives_other s.act) _ (or_parts (names.has_other_type own s.act) _ (keeps i s is OutOfProfileType).1).0).0;
