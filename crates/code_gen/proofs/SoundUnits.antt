@@ -5,7 +5,7 @@ use Rattle.std.specs.Prelude.{not, is_some}
 use Rattle.std.specs.List.{Contains, AllByRecursion, flat_map, list_any}
 use Rattle.std.proofs.lemmas.Bool.{and_parts, or_parts, not-false, not-true, eqb-true}
 use Rattle.rule_table.specs.declared.rule.Rule.{Rule}
-use Rattle.rule_table.specs.declared.rule.Rule.TheVariants.{Syntax, WrongCount}
+use Rattle.rule_table.specs.declared.rule.Rule.TheVariants.{Syntax, TypeClash, WrongCount, NotAssignable}
 use Rattle.rule_table.specs.Words.{is_some_and}
 use Rattle.f66_tree.specs.Syntax.{Text, Formula, Item, Group, Plus, Minus, Not, Pair, Formulas, NoFormula, AndFormula, Act, Assign, Sign, When, Loop, Invoke, Read, Write, Entry, One, Many, Entries, NoEntry, AndEntry, Line, Routine}
 use Rattle.f66_tree.specs.Units.{Context, is_note, format_of}
@@ -15,6 +15,7 @@ use Rattle.f66_names.specs.NameRules.{miscounts_by, miscounts}
 use Rattle.f66_names.specs.declared.name_form.Manner.TheVariants.{Stored}
 use Rattle.f66_names.specs.Shapes.{stands, is_branch, has_shape}
 use Rattle.f66_names.specs.Sorts.{form_by, takes}
+use Rattle.f66_names.specs.StoreRules.{stores_wrong}
 use Rattle.f66_names.specs.Uses.{many, uses_of, uses_of_all, uses_of_target, uses_of_par, uses_of_entry, uses_of_entries, uses_of_counting, uses_in}
 use Rattle.f66_names.proofs.ContextLemmas.{sizes_of-unlabelled}
 use Rattle.f66_flow.specs.FlowRules.{breaks_flow}
@@ -23,7 +24,11 @@ use Rattle.f66_soundness.specs.SoundUnits.{acts_in_unit, finds_format}
 use Rattle.f66_soundness.proofs.KindLemmas.{none_of_both}
 use Rattle.unit_rules.specs.Called.{passed_in}
 use Rattle.unit_rules.specs.Forms.{has_form}
+use Rattle.unit_rules.specs.Judged.{judged_uses}
+use Rattle.unit_rules.specs.Listed.{any_use}
+use Rattle.unit_rules.specs.Types.{clashes}
 use Rattle.unit_rules.specs.UnitRules.{breaks_rule}
+use Rattle.unit_rules.proofs.JudgedLemmas.{judged_same}
 use Rattle.f66_check.specs.CheckRules as check
 use Rattle.f66_check.specs.UnitChecks.{breaks_statement}
 use Rattle.f66_check.specs.Answers.{IsSoundUnit}
@@ -168,11 +173,14 @@ sound_is_coded y u r sound placed =
     let d = y.linked.context u in
     let sorts : (x : Text) → sort_of c x ≡ sort_of d x = λ x. ap (λ ns. array_or ns x) (sym (sizes_of-unlabelled x r.lines)) ∙ ap (λ e. sort_of e x) (sym placed.context) in
     subst (CodedAll y u) (sym placed.lines) (coded_all y u c sorts r.lines (λ i s is.
-    let counts = or_parts (names.has_wrong_count c s.act) _ (keeps r sound i s is WrongCount) in
+    let kinds = (or_parts (clashes c s.act) _ (keeps r sound i s is TypeClash)).0 in
+    let stores = (or_parts (stores_wrong c s.act) _ (keeps r sound i s is NotAssignable)).0 in
+    let counts = or_parts (any_use c (miscounts c) s.act) _ (or_parts (names.has_wrong_sizes s.act) _ (keeps r sound i s is WrongCount)).1 in
+    let uses = or_parts (list_any (miscounts c) (judged_uses c s.act)) _ counts.0 in
     record {
       shape = not-false _ (keeps r sound i s is Syntax);
-      counts = (or_parts _ _ counts.0).1;
-      passed = (none_of_both (miscounts c) (uses_of_all (passed_in s.act)) _ (or_parts _ _ counts.1).0).0;
+      counts = sym (ap (list_any (miscounts c)) (judged_same c s.act kinds stores)) ∙ uses.0;
+      passed = (none_of_both (miscounts c) (uses_of_all (passed_in s.act)) _ uses.1).0;
       formats = placed.formats i s is;
       calls = each_call y u c sorts (mentions_in d s.act) (λ k m. (placed.below i s k is m, placed.results i s k is m));
     }))
