@@ -12,12 +12,13 @@ use Rattle.f66_tree.specs.Evaluation.{array_or}
 use Rattle.f66_names.specs.declared.name_form.NameForm.{NameForm}
 use Rattle.f66_names.specs.Declaring.{declared_in}
 use Rattle.f66_names.specs.Sorts.{form_by, name_form, is_foreign, is_dummy, is_array_form, is_array_name, is_integer, is_counter, takes}
-use Rattle.f66_names.specs.Uses.{Usage, many, uses_of_all, uses_in}
+use Rattle.f66_names.specs.Uses.{Usage, many, uses_of, uses_of_all, uses_of_target, uses_of_par, uses_of_counting}
 use Rattle.f66_names.specs.Kinds.{is_number, is_index, is_times, is_plus_or_minus, is_multiple, is_shifted, is_subscript, are_subscripts, same_kind, may_be, operand, outcome, takes_kind, is_counting, is_listed, counts, is_entry, are_entries}
 use Rattle.f66_names.specs.StoreRules.{is_bad_size, has_bad_size, has_bad_constant, is_assignable, stores_item, stores_entry, store_entries, stores_wrong}
-use Rattle.f66_names.specs.NameRules.{has_many_sizes, has_wrong_sizes, miscounts_by, miscounts, has_wrong_count}
+use Rattle.f66_names.specs.NameRules.{has_many_sizes, has_wrong_sizes, miscounts_by, miscounts}
 use Rattle.unit_rules.specs.Called.{passed_in}
-use Rattle.unit_rules.specs.Listed.{common_in, equated_in, preset_in, uses_of_listed, uses_of_place, more_uses}
+use Rattle.unit_rules.specs.Judged.{judged_of_target, judged_of_entry, judged_of_entries, judged_uses}
+use Rattle.unit_rules.specs.Listed.{common_in, equated_in, preset_in, uses_of_listed, uses_of_place, more_uses, any_use}
 use Rattle.unit_rules.specs.Types.{applied, kind_applied, kind_seen, is_whole, is_letter, fits, are_integers, are_actuals, are_passed, assigns, clashes}
 use Rattle.unit_rules.specs.Storage.{has_odd_subscript, is_no_element, lists_odd, miscounts_element, has_one_subscript, miscounts_values, any_part, lists_miscounted, has_variable_subscript, has_misfit, has_bad_value, lists_bad_constant}
 use Rattle.unit_rules.specs.UnitRules.{counts_wrong}
@@ -40,6 +41,26 @@ module _ (h : Header) (m n : List Note) (sizes : (x : Text) → sizes_of x n ≡
   miscounted : (u : Usage) → miscounts d u ≡ miscounts c u
   miscounted u = ap (λ f. miscounts_by f u.manner) (forms u.name)
 
+  judged_target : (e : Formula) → judged_of_target d e ≡ judged_of_target c e
+  judged_target (Item x es) = ap (λ b. if b then uses_of_target (Item x es) else []) (arrays x)
+  judged_target _ = refl
+
+  mutual
+    judged_entry : (e : Entry) → judged_of_entry d e ≡ judged_of_entry c e
+    judged_entry (One e) = judged_target e
+    judged_entry (Many es x p q r) = ap (λ us. us ++ uses_of_counting x p q r) (judged_entries es)
+
+    judged_entries : (es : Entries) → judged_of_entries d es ≡ judged_of_entries c es
+    judged_entries NoEntry = refl
+    judged_entries (AndEntry e es) = ap (λ us. us ++ judged_of_entries d es) (judged_entry e) ∙ ap (λ us. judged_of_entry c e ++ us) (judged_entries es)
+
+  pub judged : (a : Act) → judged_uses d a ≡ judged_uses c a
+  judged (Assign x e) = ap (λ us. us ++ uses_of e) (judged_target x)
+  judged (When e a) = ap (λ us. uses_of e ++ us) (judged a)
+  judged (Read u l es) = ap (λ us. uses_of_par u ++ us) (judged_entries es)
+  judged (Write u l es) = ap (λ us. uses_of_par u ++ us) (judged_entries es)
+  judged _ = refl
+
   placed : (e : Formula) → uses_of_place d e ≡ uses_of_place c e
   placed (Item x es) = ap (λ b. if b then uses_of_all es else []) (arrays x)
   placed _ = refl
@@ -57,9 +78,10 @@ module _ (h : Header) (m n : List Note) (sizes : (x : Text) → sizes_of x n ≡
 
   pub measured : (a : Act) → counts_wrong d a ≡ counts_wrong c a
   measured a =
-      ap (λ (f : Usage → Bool). (has_wrong_sizes a || list_any f (uses_in a)) || (list_any f (more_uses d a) || lists_miscounted d a)) (λ i u. miscounted u i)
-      ∙ ap (λ us. has_wrong_count c a || (list_any (miscounts c) us || lists_miscounted d a)) (more a)
-      ∙ ap (λ b. has_wrong_count c a || (list_any (miscounts c) (more_uses c a) || b)) (listed_counts a)
+      ap (λ (f : Usage → Bool). has_wrong_sizes a || ((list_any f (judged_uses d a) || list_any f (more_uses d a)) || lists_miscounted d a)) (λ i u. miscounted u i)
+      ∙ ap (λ us. has_wrong_sizes a || ((list_any (miscounts c) us || list_any (miscounts c) (more_uses d a)) || lists_miscounted d a)) (judged a)
+      ∙ ap (λ us. has_wrong_sizes a || ((list_any (miscounts c) (judged_uses c a) || list_any (miscounts c) us) || lists_miscounted d a)) (more a)
+      ∙ ap (λ b. has_wrong_sizes a || (any_use c (miscounts c) a || b)) (listed_counts a)
 
   -- ---- what is stored into ----
 

@@ -245,7 +245,7 @@ module _ (c : Context) (acts : List Act) where
     compared e l h OutOfProfileType =
         ap (λ b. (b || list_any (λ (u : Usage). is_real_by_letter c u.name) (uses_of e ++ [])) || false) scalar.typed ∙ ap (λ us. list_any (λ (u : Usage). is_real_by_letter c u.name) us || false) (append-nil (uses_of e)) ∙ h OutOfProfileType
     compared e l h TypeClash = ap (λ b. b || false) (or_false (not (fits c (Ref x) Integer && fits c e Integer)) ∙ ap (λ b. not (b && fits c e Integer)) fits_integer) ∙ h TypeClash
-    compared e l h WrongCount = ap (λ us. list_any (miscounts c) us || false) (append-nil (uses_of e)) ∙ h WrongCount
+    compared e l h WrongCount = ap (λ us. (list_any (miscounts c) us || false) || false) (append-nil (uses_of e)) ∙ h WrongCount
     compared e l h DuplicateName = refl
     compared e l h BadConstant = refl
     compared e l h BadFormat = refl

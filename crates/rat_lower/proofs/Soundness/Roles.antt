@@ -16,15 +16,16 @@ use Rattle.f66_names.specs.declared.name_form.NameForm.TheVariants as forms
 use Rattle.f66_names.specs.declared.name_form.Manner.TheVariants.{Alone}
 use Rattle.f66_names.specs.Declaring.{type_given}
 use Rattle.f66_names.specs.Sorts.{name_form, is_array_name}
-use Rattle.f66_names.specs.Uses.{Usage, usage, uses_of, uses_in}
+use Rattle.f66_names.specs.Uses.{Usage, usage, uses_of}
 use Rattle.unit_rules.specs.declared.roles.Role.{Role}
 use Rattle.unit_rules.specs.declared.roles.Role.TheVariants.{Variable, Function, Subroutine}
 use Rattle.unit_rules.specs.Called.{called_in}
+use Rattle.unit_rules.specs.Judged.{judged_uses}
 use Rattle.unit_rules.specs.Listed.{any_use, first_use, more_uses}
 use Rattle.unit_rules.specs.Roles.{role_by, role_used, role_given, role_called, role_in, role_held, role_of, same_role, has_other_role, misuses, miscalls, mixes_roles}
 use Rattle.rat_lower.proofs.Accepted.NoFault.{AllOf}
 use Rattle.rat_lower.proofs.Soundness.Kept.{Keeps, KeepsValues}
-use Rattle.rat_lower.proofs.Soundness.Alike.{forms as forms_alike, arrays, more}
+use Rattle.rat_lower.proofs.Soundness.Alike.{forms as forms_alike, arrays, judged, more}
 
 -- ---- names and classes ----
 
@@ -140,9 +141,9 @@ module _ (h : Header) (m n : List Note) (sizes : (x : Text) → sizes_of x n ≡
     pub source_unmixed : (a : Act) → mixes_roles c said a ≡ false → IsUnmixed a
     source_unmixed a e =
         let k = or_parts (any_use c (misuses c said) a) (is_some_and (miscalls c said) (called_in a)) e in
-        let p = or_parts (list_any (misuses c said) (uses_in a)) (list_any (misuses c said) (more_uses c a)) k.0 in
+        let p = or_parts (list_any (misuses c said) (judged_uses c a)) (list_any (misuses c said) (more_uses c a)) k.0 in
         or_from (any_use c Misused a) _
-        (or_from (list_any Misused (uses_in a)) _ (any_right (misuses c said) Misused used_right (uses_in a) p.0) (any_right (misuses c said) Misused used_right (more_uses c a) p.1))
+        (or_from (list_any Misused (judged_uses c a)) _ (any_right (misuses c said) Misused used_right (judged_uses c a) p.0) (any_right (misuses c said) Misused used_right (more_uses c a) p.1))
         (some_right (called_in a) k.1)
 
   -- ---- the unit ----
@@ -152,8 +153,9 @@ module _ (h : Header) (m n : List Note) (sizes : (x : Text) → sizes_of x n ≡
 
   in_alike : (x : Text) (a : Act) → role_in d x a ≡ role_in c x a
   in_alike x a =
-      ap (λ (f : Usage → Option Role). option_or (role_called x (called_in a)) (option_or (find_map (λ u. if bytes_eq x u.name then f u else None) (uses_in a)) (find_map (λ u. if bytes_eq x u.name then f u else None) (more_uses d a)))) (λ i u. used_alike u i)
-      ∙ ap (λ us. option_or (role_called x (called_in a)) (option_or (find_map (role_given c x) (uses_in a)) (find_map (role_given c x) us))) (more h m n sizes a)
+      ap (λ (f : Usage → Option Role). option_or (role_called x (called_in a)) (option_or (find_map (λ u. if bytes_eq x u.name then f u else None) (judged_uses d a)) (find_map (λ u. if bytes_eq x u.name then f u else None) (more_uses d a)))) (λ i u. used_alike u i)
+      ∙ ap (λ us. option_or (role_called x (called_in a)) (option_or (find_map (role_given c x) us) (find_map (role_given c x) (more_uses d a)))) (judged h m n sizes a)
+      ∙ ap (λ us. option_or (role_called x (called_in a)) (option_or (find_map (role_given c x) (judged_uses c a)) (find_map (role_given c x) us))) (more h m n sizes a)
 
   -- the first class that uses give a name is its class
   first_used : (x : Text) (r : Role) (us : List Usage) → list_any Misused us ≡ false → find_map (role_given c x) us ≡ Some r → role x ≡ Some r
@@ -180,8 +182,8 @@ module _ (h : Header) (m n : List Note) (sizes : (x : Text) → sizes_of x n ≡
   first_in : (x : Text) (r : Role) (a : Act) → IsUnmixed a → role_in c x a ≡ Some r → role x ≡ Some r
   first_in x r a right e =
       let k = or_parts (any_use c Misused a) (is_some_and Miscalled (called_in a)) right in
-      let p = or_parts (list_any Misused (uses_in a)) (list_any Misused (more_uses c a)) k.0 in
-      by (called_in a) k.1 (either_first x r (uses_in a) (more_uses c a) p.0 p.1) e
+      let p = or_parts (list_any Misused (judged_uses c a)) (list_any Misused (more_uses c a)) k.0 in
+      by (called_in a) k.1 (either_first x r (judged_uses c a) (more_uses c a) p.0 p.1) e
     where
       by : (o : Option Text) → is_some_and Miscalled o ≡ false → (first_use c (role_given c x) a ≡ Some r → role x ≡ Some r) → option_or (role_called x o) (first_use c (role_given c x) a) ≡ Some r → role x ≡ Some r
       by None f later g = later g
@@ -254,11 +256,11 @@ module _ (h : Header) (m n : List Note) (sizes : (x : Text) → sizes_of x n ≡
       pub unit_unmixed : (a : Act) → IsUnmixed a → ((x : Text) → Unused x → role_in c x a ≡ None) → mixes_roles d acts a ≡ false
       unit_unmixed a e none =
           let k = or_parts (any_use c Misused a) (is_some_and Miscalled (called_in a)) e in
-          let p = or_parts (list_any Misused (uses_in a)) (list_any Misused (more_uses c a)) k.0 in
+          let p = or_parts (list_any Misused (judged_uses c a)) (list_any Misused (more_uses c a)) k.0 in
           let parts = λ (x : Text) (f : Unused x). first_none (role_called x (called_in a)) (first_use c (role_given c x) a) (none x f) in
-          let lists = λ (x : Text) (f : Unused x). first_none (find_map (role_given c x) (uses_in a)) (find_map (role_given c x) (more_uses c a)) (parts x f).1 in
+          let lists = λ (x : Text) (f : Unused x). first_none (find_map (role_given c x) (judged_uses c a)) (find_map (role_given c x) (more_uses c a)) (parts x f).1 in
           or_from (any_use d (misuses d acts) a) _
-          (or_from (list_any (misuses d acts) (uses_in a)) _ (uses_right (uses_in a) p.0 (λ x f. (lists x f).0))
+          (or_from (list_any (misuses d acts) (judged_uses d a)) _ (ap (list_any (misuses d acts)) (judged h m n sizes a) ∙ uses_right (judged_uses c a) p.0 (λ x f. (lists x f).0))
           (ap (list_any (misuses d acts)) (more h m n sizes a) ∙ uses_right (more_uses c a) p.1 (λ x f. (lists x f).1)))
           (by (called_in a) k.1 (λ x f. (parts x f).0))
         where

@@ -8,18 +8,20 @@ use Rattle.std.proofs.lemmas.Bool.{or_parts, le-leb}
 use Rattle.rule_table.specs.Words.{find_map}
 use Rattle.f66_tree.specs.declared.declaration.TypeWord.{TypeWord}
 use Rattle.f66_tree.specs.declared.declaration.TypeWord.TheVariants.{Integer}
-use Rattle.f66_tree.specs.Syntax.{Text, Formula, Item, Par, Declared, Area, Header, MainUnit, SubUnit, FuncUnit, DataUnit, Act, Typed, Dimension, Common}
+use Rattle.f66_tree.specs.Syntax.{Text, Formula, Item, Par, Declared, Area, Header, MainUnit, SubUnit, FuncUnit, DataUnit, Entry, One, Many, Entries, NoEntry, AndEntry, Act, Assign, When, Read, Write, Typed, Dimension, Common}
 use Rattle.f66_tree.specs.Units.{is_note, Context, dummies_of, name_of, one_on, position, if_any, sizes_in, sizes_in_areas, sizes_by, sizes_of, lists, typed_by, by_letter, by_header, type_in}
 use Rattle.name_alloc.specs.MadeNames.{made_name}
 use Rattle.f66_names.specs.Shapes.{is_capital, is_digit, is_name}
 use Rattle.f66_names.specs.Sorts.{given_by, is_array_name}
 use Rattle.f66_names.specs.Declaring.{noted, declared_in}
-use Rattle.f66_names.specs.Uses.{Usage, uses_of_all, uses_of_target, uses_in}
+use Rattle.f66_names.specs.Uses.{Usage, uses_of, uses_of_all, uses_of_target, uses_of_par, uses_of_counting, uses_of_entry, uses_of_entries, uses_in}
 use Rattle.unit_rules.specs.declared.roles.Role.TheVariants.{Variable, Subroutine}
 use Rattle.unit_rules.specs.Called.{called_in, passed_in}
+use Rattle.unit_rules.specs.Judged.{judged_of_target, judged_of_entry, judged_of_entries, judged_uses}
 use Rattle.unit_rules.specs.Listed.{common_in, equated_in, preset_in, uses_of_listed, uses_of_place, more_uses, first_use}
 use Rattle.unit_rules.specs.Heads.{is_settled}
 use Rattle.unit_rules.specs.Roles.{role_used, role_given, role_called, role_in, role_listed, role_held}
+use Rattle.f66_tree.proofs.Tries.{if_both}
 use Rattle.rat_lower.specs.Emitted.{header_names}
 use Rattle.rat_lower.proofs.Accepted.NoFault.{AllOf}
 use Rattle.rat_lower.proofs.Accepted.ActNames.{AllUsed, AllDeclared, IfCalled, AllNamed, uses_join, used_split, other}
@@ -150,6 +152,40 @@ module _ (q : Text) where
     none_given [] h = refl
     none_given (u ∷ us) h = ap (λ b. option_or (if b then role_used c u else None) (find_map (role_given c q) us)) (unlike u.name h.0) ∙ none_given us h.1
 
+    -- the names that are judged are names of the statement
+    target_named : (e : Formula) → AllUsed K (uses_of_target e) → AllUsed K (judged_of_target c e)
+    target_named (Item x es) h = if_both (AllUsed K) (is_array_name c x) (uses_of_target (Item x es)) [] h tt
+    target_named _ h = h
+
+    mutual
+      entry_named : (e : Entry) → AllUsed K (uses_of_entry e) → AllUsed K (judged_of_entry c e)
+      entry_named (One e) h = target_named e h
+      entry_named (Many es x p q r) h =
+          let k = used_split K (uses_of_entries es) (uses_of_counting x p q r) h in
+          uses_join (λ u. K u.name) (judged_of_entries c es) (uses_of_counting x p q r) (entries_named es k.0) k.1
+
+      entries_named : (es : Entries) → AllUsed K (uses_of_entries es) → AllUsed K (judged_of_entries c es)
+      entries_named NoEntry h = tt
+      entries_named (AndEntry e es) h =
+          let k = used_split K (uses_of_entry e) (uses_of_entries es) h in
+          uses_join (λ u. K u.name) (judged_of_entry c e) (judged_of_entries c es) (entry_named e k.0) (entries_named es k.1)
+
+    listed_named : (p : Par) (es : Entries) → AllUsed K (uses_of_par p ++ uses_of_entries es) → AllUsed K (uses_of_par p ++ judged_of_entries c es)
+    listed_named p es h =
+        let k = used_split K (uses_of_par p) (uses_of_entries es) h in
+        uses_join (λ u. K u.name) (uses_of_par p) (judged_of_entries c es) k.0 (entries_named es k.1)
+
+    judged_named : (a : Act) → AllUsed K (uses_in a) → AllUsed K (judged_uses c a)
+    judged_named (Assign x e) h =
+        let k = used_split K (uses_of_target x) (uses_of e) h in
+        uses_join (λ u. K u.name) (judged_of_target c x) (uses_of e) (target_named x k.0) k.1
+    judged_named (When e a) h =
+        let k = used_split K (uses_of e) (uses_in a) h in
+        uses_join (λ u. K u.name) (uses_of e) (judged_uses c a) k.0 (judged_named a k.1)
+    judged_named (Read p l es) h = listed_named p es h
+    judged_named (Write p l es) h = listed_named p es h
+    judged_named _ h = h
+
     place_named : (e : Formula) → AllUsed K (uses_of_target e) → AllUsed K (uses_of_place c e)
     place_named (Item x es) h = by (is_array_name c x)
       where
@@ -177,7 +213,7 @@ module _ (q : Text) where
     act_unsaid : (a : Act) → AllNamed K a → role_in c q a ≡ None
     act_unsaid a h =
         ap (λ o. option_or o (first_use c (role_given c q) a)) (not_called (called_in a) h.called)
-        ∙ ap (λ o. option_or o (find_map (role_given c q) (more_uses c a))) (none_given (uses_in a) h.used) ∙ none_given (more_uses c a) (more_named a h)
+        ∙ ap (λ o. option_or o (find_map (role_given c q) (more_uses c a))) (none_given (judged_uses c a) (judged_named a h.used)) ∙ none_given (more_uses c a) (more_named a h)
 
     -- or a class
     pub unsaid : (acts : List Act) → AllOf (AllNamed K) acts → find_map (role_in c q) acts ≡ None
