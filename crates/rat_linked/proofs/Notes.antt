@@ -12,7 +12,7 @@ use Rattle.rat_tree.specs.Syntax.{Command, Empty, Block, If, IfElse, While, For,
 use Rattle.rat_check.specs.Parts.{Statement, Condition, Selector, CaseList, ForHead, DoHead, ReturnHead, RepeatHead, Bare, Labels, Part, part, with_mark, with_labels, parts_of, parts_in, clause_parts}
 use Rattle.rat_check.specs.Said.{said_by, value_acts, said_if_any, condition_if_any, returned_if_any}
 use Rattle.rat_said.specs.Said.{or_continue, said_line, part_lines, said_lines}
-use Rattle.rat_lower.specs.OneUnit.{note_if_any, notes_in, all_notes, clause_notes}
+use Rattle.rat_lower.specs.Notes.{note_if_any, notes_in, all_notes, clause_notes}
 use Rattle.rat_linked.specs.Made.{is_note_if_any, IsProper}
 use Rattle.rat_linked.proofs.Parts.{halves, unmarked}
 

@@ -11,7 +11,7 @@ use Rattle.f66_program.specs.Initial.{presets_of, IsInitial}
 use Rattle.f66_program.specs.Linking.{IsLinkage}
 use Rattle.rat_tree.specs.Syntax.{RatRoutine}
 use Rattle.rat_check.specs.Parts.{no_label, with_labels}
-use Rattle.rat_lower.specs.OneUnit.{notes_of_unit}
+use Rattle.rat_lower.specs.Notes.{notes_of_unit}
 use Rattle.rat_lower.specs.Linkages.{source_context, source_of}
 use Rattle.rat_said.specs.Said.{said_routine}
 use Rattle.spared_units.specs.Spared.{Pair, said_units, made_units}

@@ -19,7 +19,7 @@ use Rattle.rat_check.specs.Rules.{Before, behind, nothing_before, UnitRules}
 use Rattle.rat_check.specs.FirstFault.{with_own, unit_whole}
 use Rattle.rat_check.specs.Survey.{is_among}
 use Rattle.rat_check.proofs.CleanLemmas.{AllKeep, Passed}
-use Rattle.rat_lower.specs.OneUnit.{notes_of_unit}
+use Rattle.rat_lower.specs.Notes.{notes_of_unit}
 use Rattle.rat_lower.specs.Code.{have_switch, all_labels, all_code, ends_itself, end_unless}
 use Rattle.rat_lower.specs.Checked.{NamesOfNote, Lacks, all_given, IsChecked}
 use Rattle.rat_lower.specs.Emitted.{labels_past, names_of, header_names, unit_names, spare_name}

@@ -10,21 +10,19 @@ use Rattle.rule_table.specs.FaultRules.{fault_of}
 use Rattle.rule_table.specs.declared.rule.Rule.TheVariants.{NameTooLong, OutOfProfileType, BadLabel, BadBreak}
 use Rattle.f66_tree.specs.declared.expression.Operator.TheVariants.{Add, Lt, Eq}
 use Rattle.f66_tree.specs.Syntax.{Text, Pair, NoFormula, AndFormula, Header, MainUnit, SubUnit, FuncUnit, DataUnit, Constant, Act, Goto, Stop, Invoke, Dimension, Common, Line}
-use Rattle.f66_tree.specs.World.{Record, Shown, Ended, Done, GoesOn}
-use Rattle.f66_tree.specs.Agreement.{Agrees}
-use Rattle.f66_tree.specs.OneUnit.{executed}
+use Rattle.f66_tree.specs.World.{Shown, Ended, Done, GoesOn}
+use Rattle.f66_tree.specs.OneUnit.{one_unit, executed}
 use Rattle.stmt_text.specs.Texts.{statement_text}
 use Rattle.f66_tree.proofs.ExampleParts.{here, i, k, num, var, set, write, i3}
 use Rattle.rat_tree.specs.Syntax.{Command, Block, If, Repeat, RepeatUntil, Do, Switch, Break, Next, Return, Plain, Commands, NoCommand, AndCommand, NoClause, AndClause}
+use Rattle.rat_tree.specs.Meaning.{Ours, ratfor}
 use Rattle.rat_check.specs.Parts.{unit_parts}
 use Rattle.rat_check.specs.FirstFault.{fault_of_parts}
 use Rattle.name_alloc.specs.MadeNames.{next_name, unused, keeping_all}
-use Rattle.rat_lower.specs.Code.{unit_code}
 use Rattle.rat_lower.specs.Emitted.{unit_names}
-use Rattle.rat_lower.specs.OneUnit.{means}
+use Rattle.rat_lower.specs.Notes.{notes_of_unit}
 use Rattle.rat_lower.specs.Checked.{bit, all_given, Lacks, IsChecked}
 use Rattle.rat_lower.specs.Lowered.{source_labels, lowered}
-use Rattle.rat_lower.proofs.Simulation.Top.{unit_agrees}
 
 abbrev all : List Command → Commands
 all [] = NoCommand
@@ -50,7 +48,7 @@ abbrev unit : List Command → List Line
 unit cs = under MainUnit cs
 
 abbrev shows : List Command → ℕ → Shown
-shows cs b = means (all cs) [] b
+shows cs b = ratfor (one_unit (notes_of_unit (all cs))) (λ u. Ours (all cs)) b []
 
 abbrev runs : List Command → ℕ → Shown
 runs cs most = executed (unit cs) [] most
@@ -124,9 +122,6 @@ switch_checked = record {
   unused = λ j. ap (λ v. 0 + (0 + (0 + (bit v + 0)))) (ne_eqb 9 (23000 + j) (λ e. omega (arith, e)));
   spared = λ there. lacks_z;
 }
-
-switch_agrees : (input : List Record) → Agrees (means (all switch) input) (executed (unit_code (λ j. 23000 + j) z MainUnit (here 1) (here 99) (all switch)) input)
-switch_agrees input = unit_agrees (λ j. 23000 + j) z (here 1) (here 99) (all switch) switch_checked input
 
 -- ---- loops, labels and jumps ----
 

@@ -17,9 +17,9 @@
 -- deep calls go every unit does what its source does, and that is never lost (Exits, Fits): a program of such units agrees with its
 -- source (Programs), and a unit that is checked is such a unit (CheckedUnits).
 --
--- TwoUnits is a small program with a call. A main unit by itself is a program too: Alone gives both linkages, and Top the four
--- sentences of agreement. So is a linked program (Linked), whose contexts on both sides differ in the spare names alone (LinkedUnits),
--- and whose calls are those of its lines (NamesBack). ThreeUnits is one. The source's linkage follows from the target's (OneLinkage).
+-- TwoUnits is a small program with a call. A linked program is such a program (Linked), whose contexts on both sides differ in the
+-- declarations of spare names alone (SpareNotes, LinkedUnits), and whose calls are those of its lines (NamesBack). ThreeUnits is one.
+-- The source's linkage follows from the target's (OneLinkage).
 pub mod Spared
 pub mod Tracks
 pub mod Turns
@@ -43,8 +43,7 @@ pub mod Beside
 pub mod Fits
 pub mod CheckedUnits
 pub mod Programs
-pub mod Alone
-pub mod Top
+pub mod SpareNotes
 pub mod NamesBack
 pub mod LinkedUnits
 pub mod Linked

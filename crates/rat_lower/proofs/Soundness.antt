@@ -8,8 +8,7 @@
 -- (Early), formats are named (FormatsNamed), and BLOCK DATA has specifications and DATA alone (BlockData); so none is broken
 -- (FlowRules, FlowUnits). The rules of names read the whole unit: names have the same forms and types in the unit as in its source
 -- (Alike), each is used in its class (Roles), none is declared again (Redeclared), and the spare name, which is none of them
--- (SpareNames), is an integer variable (Lines). CleanUnits puts all together, and
--- BuiltUnits tells which are built.
+-- (SpareNames), is an integer variable (Lines). CleanUnits puts all together.
 --
 -- That each statement fits its cards is kept the same way: a condition, a value or the words of a DO leave room for what is put
 -- around them (Texts, PrintedUnits).
@@ -27,6 +26,5 @@ pub mod Alike
 pub mod Lines
 pub mod SpareNames
 pub mod CleanUnits
-pub mod BuiltUnits
 pub mod Texts
 pub mod PrintedUnits

@@ -4,12 +4,9 @@ use Rattle.std.specs.List.{AllByRecursion}
 use Rattle.std.proofs.lemmas.Bool.{ltb-false}
 use Rattle.ground.specs.declared.place.Place.{Place}
 use Rattle.f66_tree.specs.declared.unit.Unit.{Unit as AUnit}
-use Rattle.f66_tree.specs.Syntax.{MainUnit, Line, Routine}
+use Rattle.f66_tree.specs.Syntax.{Line, Routine}
 use Rattle.f66_tree.specs.Units.{notes_of}
 use Rattle.f66_tree.specs.Views.{header_of, lines_of, routine_of}
-use Rattle.f66_tree.specs.Agreement.{Agrees}
-use Rattle.f66_tree.specs.OneUnit.{executed}
-use Rattle.f66_check.specs.CheckRules.{first_unbuilt}
 use Rattle.f66_check.specs.Answers.{IsSoundUnit}
 use Rattle.stmt_text.specs.Fitting.{FitsCards, IsPrintable}
 use Rattle.rat_tree.specs.Syntax.{RatRoutine}
@@ -20,18 +17,15 @@ use Rattle.rat_check.proofs.CleanLemmas.{Passed, passed}
 use Rattle.rat_check.proofs.SurveyLemmas.{own_among}
 use Rattle.name_alloc.specs.MadeNames.{Used, next_name, unused, keeping_all}
 use Rattle.name_alloc.proofs.KeptNames.{next_apart}
-use Rattle.rat_lower.specs.OneUnit.{means}
 use Rattle.rat_lower.specs.Checked.{IsChecked}
 use Rattle.rat_lower.specs.Code.{have_switch, all_labels, ends_itself, unit_code}
 use Rattle.rat_lower.specs.Emitted.{labels_past, unit_names, spare_name}
 use Rattle.rat_lower.specs.Lowered.{lowered, HasRoom, IsUnitCode}
-use Rattle.rat_lower.specs.Served.{IsBuiltMain, Serves, MainsServe}
+use Rattle.rat_lower.specs.Served.{Serves}
 use Rattle.rat_lower.proofs.Checks.{is_checked, accepted_flow}
 use Rattle.rat_lower.proofs.Simulation.LinkedUnits.{spare_of}
 use Rattle.rat_lower.proofs.Simulation.OneLinkage.{Made}
-use Rattle.rat_lower.proofs.Simulation.Top.{found, unit_agrees}
 use Rattle.rat_lower.proofs.Soundness.CleanUnits.{unit_is_sound}
-use Rattle.rat_lower.proofs.Soundness.BuiltUnits.{unit_built}
 use Rattle.rat_lower.proofs.Soundness.PrintedUnits.{unit_fits}
 
 module _ (u : RatRoutine) (taken given : List ℕ) (last : Place) (names : Used) (code : List Line) (none_found : unit_fault u ≡ None) (own : taken ≡ own_labels (unit_parts u.body) []) (same : given ≡ taken)
@@ -56,9 +50,6 @@ module _ (u : RatRoutine) (taken given : List ℕ) (last : Place) (names : Used)
   code_printable : IsPrintable (record { header = u.header; lines = code; place = u.place })
   code_printable = record { header = ltb-false 1320 _ accepted.short; lines = subst (AllByRecursion FitsCards) (sym made) (unit_fits u accepted (labels_past given) last) }
 
-  code_built : IsBuiltMain u → first_unbuilt (record { header = u.header; lines = code; place = u.place }) ≡ None
-  code_built built = ap (λ lines. first_unbuilt (record { header = u.header; lines = lines; place = u.place })) made ∙ unit_built u accepted room.names (labels_past given) last built u.place
-
   pub code_serves : (unit : AUnit) → routine_of unit ≡ record { header = u.header; lines = code; place = u.place } → ends_itself u.header code ≡ true → Serves u last unit
   code_serves unit is finished = record {
     header = ap (λ (r : Routine). r.header) is;
@@ -70,7 +61,6 @@ module _ (u : RatRoutine) (taken given : List ℕ) (last : Place) (names : Used)
     checked = is_checked u accepted room.names given all;
     sound = subst IsSoundUnit (sym is) (code_sound finished);
     printable = subst IsPrintable (sym is) code_printable;
-    built = λ whole. ap first_unbuilt is ∙ code_built whole;
   }
 
 -- ---- linked programs ----
@@ -88,17 +78,3 @@ served_made u finish unit serves = record {
   is_spare = refl;
   notes = refl;
 }
-
--- ---- mains ----
-
-pub mains_serve : MainsServe
-mains_serve u finish unit main serves =
-    let checked : IsChecked serves.made serves.spare MainUnit u.body = subst (λ k. IsChecked serves.made serves.spare k u.body) main serves.checked in
-    let code : lines_of unit.statements.items ≡ unit_code serves.made serves.spare MainUnit u.place finish u.body = serves.code.is ∙ ap (λ k. unit_code serves.made serves.spare k u.place finish u.body) main in
-    record {
-      header = serves.header ∙ main;
-      agrees = λ input. subst (λ lines. Agrees (means u.body input) (executed lines input)) (sym code) (unit_agrees serves.made serves.spare u.place finish u.body checked input);
-      found = λ input b. found serves.made serves.spare u.place finish u.body checked input b;
-      sound = λ whole. record { built = serves.built whole; sound = serves.sound };
-      printable = serves.printable;
-    }

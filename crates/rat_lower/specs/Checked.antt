@@ -8,7 +8,7 @@ use Rattle.rat_tree.specs.Syntax.{Command, Empty, Block, If, IfElse, While, For,
 use Rattle.rat_tree.specs.Meaning.{stands}
 use Rattle.rat_tree.specs.Uses.{NamesOfCommands}
 use Rattle.rat_lower.specs.Code.{have_switch}
-use Rattle.rat_lower.specs.OneUnit.{notes_of_unit}
+use Rattle.rat_lower.specs.Notes.{notes_of_unit}
 
 -- ---- the form of statements ----
 

@@ -1,6 +1,6 @@
 -- The definitions that the contracts of rat_lower cite.
 pub mod Code
-pub mod OneUnit
+pub mod Notes
 pub mod Linkages
 pub mod Checked
 pub mod Around

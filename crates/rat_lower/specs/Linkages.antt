@@ -3,7 +3,7 @@ use Rattle.std.specs.Prelude.{ℕ, List}
 use Rattle.f66_tree.specs.World.{Record, Shown}
 use Rattle.f66_tree.specs.Units.{Context, Linkage}
 use Rattle.rat_tree.specs.Meaning.{Body, Ours, Theirs, ratfor}
-use Rattle.rat_lower.specs.OneUnit.{notes_of_unit}
+use Rattle.rat_lower.specs.Notes.{notes_of_unit}
 
 -- in a unit of the program's own names mean what its source declares; a unit beside is the same
 abbrev pub source_context : Context → Body → Context

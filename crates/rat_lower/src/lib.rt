@@ -4,7 +4,6 @@
 mod around;
 mod emission;
 mod header;
-mod laws;
 mod lines;
 mod maker;
 mod names;
@@ -16,7 +15,6 @@ mod unit;
 use around::{Around, Turn, label_again, label_behind};
 use emission::emit_all;
 use header::copy_header;
-pub use laws::mains_serve;
 use lines::{
     append, put, put_act, put_break, put_cases, put_copy, put_do, put_here, put_jump, put_mark,
     put_next, put_return, put_step, put_test, put_unless, put_value,

@@ -11,7 +11,7 @@ use Rattle.rat_check.specs.Said.{said_by}
 use Rattle.rat_check.specs.Rules.{is_simple, UnitRules}
 use Rattle.rat_check.specs.FirstFault.{format_label, with_formats}
 use Rattle.rat_check.proofs.CleanLemmas.{and_true}
-use Rattle.rat_lower.specs.OneUnit.{note_then, note_if_any, notes_in, all_notes, clause_notes, notes_of_unit}
+use Rattle.rat_lower.specs.Notes.{note_then, note_if_any, notes_in, all_notes, clause_notes, notes_of_unit}
 use Rattle.rat_lower.specs.Checked.{NamesOfNote, NamesOfNotes}
 use Rattle.rat_lower.proofs.Accepted.NoFault.{AllParts, split, unmarked, Fine, AllFine, AllOf, SaysSo}
 use Rattle.rat_lower.proofs.Accepted.Reached.{or_true, eq_turned}

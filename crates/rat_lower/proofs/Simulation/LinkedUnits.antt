@@ -16,10 +16,10 @@ use Rattle.rat_tree.specs.Syntax.{Commands}
 use Rattle.rat_tree.specs.Uses.{NamesOfCommandsBy}
 use Rattle.rat_tree.proofs.AnyCommands.{any_commands}
 use Rattle.rat_lower.specs.Code.{have_switch, all_code, ends_itself, declared_if, unit_code}
-use Rattle.rat_lower.specs.OneUnit.{notes_of_unit}
+use Rattle.rat_lower.specs.Notes.{notes_of_unit}
 use Rattle.rat_lower.specs.Checked.{NamesOfNotes, IsChecked}
 use Rattle.rat_lower.proofs.Simulation.Notes.{notes_ended}
-use Rattle.rat_lower.proofs.Simulation.Alone.{in_notes, spare_note}
+use Rattle.rat_lower.proofs.Simulation.SpareNotes.{in_notes, spare_note}
 
 -- the spare name of a unit, which has one where a switch stands in it
 abbrev pub spare_of : Bool → Text → Option Text

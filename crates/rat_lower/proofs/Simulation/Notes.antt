@@ -4,8 +4,8 @@ use Rattle.ground.specs.declared.place.Place.{Place}
 use Rattle.f66_tree.specs.Syntax.{Text, Formula, Formulas, NoFormula, AndFormula, Act, Line}
 use Rattle.f66_tree.specs.Units.{notes_of}
 use Rattle.rat_tree.specs.Syntax.{Command, Empty, Block, If, IfElse, While, For, Repeat, RepeatUntil, Do, Switch, Break, Next, Return, Plain, Labelled, Commands, NoCommand, AndCommand, Clauses, NoClause, AndClause}
-use Rattle.rat_lower.specs.Code.{each_test, tests, default_label, bodies, Rings, jump, unless, here, with_test, with_act, labels, all_labels, code_of, all_code, stop_unless, end_unless}
-use Rattle.rat_lower.specs.OneUnit.{note_if_any, notes_in, all_notes, clause_notes, notes_of_unit}
+use Rattle.rat_lower.specs.Code.{each_test, tests, default_label, bodies, Rings, jump, unless, here, with_test, with_act, labels, all_labels, code_of, all_code, end_unless}
+use Rattle.rat_lower.specs.Notes.{note_if_any, notes_in, all_notes, clause_notes, notes_of_unit}
 
 notes_test : (p : Place) (o : Option Formula) (m : ℕ) (next : List Line) → notes_of (with_test p o m next) ≡ notes_of next
 notes_test p None m next = refl
@@ -71,6 +71,3 @@ module _ (made : ℕ → ℕ) (spare own : Text) where
       by_end true false = refl
       by_end false true = refl
       by_end false false = refl
-
-  pub notes_whole : (ss : Commands) (v : Bool) (last : Place) → notes_of (all_code made spare own ss 0 [] (stop_unless v last)) ≡ notes_of_unit ss
-  notes_whole ss v last = notes_ended ss true v last

@@ -17,7 +17,7 @@ use Rattle.rat_tree.specs.Meaning.{Body, Ours, Theirs}
 use Rattle.rat_lower.specs.Code.{unit_code}
 use Rattle.rat_lower.specs.Checked.{Lacks, IsChecked}
 use Rattle.rat_lower.specs.Linkages.{means_linked}
-use Rattle.rat_lower.proofs.Simulation.Alone.{spare_note}
+use Rattle.rat_lower.proofs.Simulation.SpareNotes.{spare_note}
 use Rattle.rat_lower.proofs.Simulation.Linked.{Below}
 use Rattle.rat_lower.proofs.Simulation.OneLinkage.{IsMade, AreLinked, units_agree}
 

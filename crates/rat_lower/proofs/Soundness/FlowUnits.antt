@@ -9,7 +9,7 @@ use Rattle.f66_tree.specs.Units.{is_main, name_of, Note, notes_of, format_of}
 use Rattle.f66_flow.specs.Acts.{formats_named}
 use Rattle.rat_tree.specs.Syntax.{Commands}
 use Rattle.rat_lower.specs.Code.{have_switch, all_labels, all_code, ends_itself, end_unless, declared_if, unit_code}
-use Rattle.rat_lower.specs.OneUnit.{notes_of_unit}
+use Rattle.rat_lower.specs.Notes.{notes_of_unit}
 use Rattle.rat_lower.specs.Checked.{all_given, IsChecked}
 use Rattle.rat_lower.proofs.Simulation.Counts.{occurs, occurs-all, ends, ends-all, all_heads, all_dos}
 use Rattle.rat_lower.proofs.Simulation.Labels.{AreUnique, Within, within_self, within_cons}

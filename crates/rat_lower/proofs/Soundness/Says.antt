@@ -7,12 +7,16 @@ use Rattle.f66_tree.specs.Uses.{NamesOfAll, NamesOfAct}
 use Rattle.rat_tree.specs.Syntax.{Command, Empty, Block, If, IfElse, While, For, Repeat, RepeatUntil, Do, Switch, Break, Next, Return, Plain, Labelled, Commands, NoCommand, AndCommand, Clauses, NoClause, AndClause}
 use Rattle.rat_tree.specs.Uses.{NamesIfAny, ActIfAny, NamesOfCommand, NamesOfCommands, NamesOfClauses}
 use Rattle.f66_tree.specs.Syntax as act
-use Rattle.rat_lower.specs.Served.{is_return}
-use Rattle.rat_check.specs.Parts.{Statement as TheForm, Condition, ReturnHead, Labels, Part, part, with_labels, parts_of, parts_in, clause_parts}
+use Rattle.rat_check.specs.Parts.{Form, Statement as TheForm, Condition, ReturnHead, Labels, Part, part, with_labels, parts_of, parts_in, clause_parts}
 use Rattle.rat_check.specs.Said.{value_acts, said_if_any, condition_if_any, returned_if_any}
 use Rattle.rat_check.specs.Rules.{returns_wrong, UnitRules}
 use Rattle.rat_lower.proofs.Accepted.NoFault.{AllParts, split, unmarked, Fine, AllFine, AllOf, SaysSo, of_split}
 use Rattle.rat_lower.proofs.Soundness.Kept.{GoodConditionIfAny, GoodActIfAny, GoodReturn, GoodValues, SaysGood, AllSayGood, ClausesSayGood}
+
+-- a statement that returns
+abbrev is_return : Form → Bool
+is_return (ReturnHead e) = true
+is_return _ = false
 
 module _ (Good : Act → Type 0) (u : UnitRules) where
   abbrev header : Header

@@ -1,11 +1,8 @@
--- What a program of one main unit means.
+-- The statements of a unit of Ratfor that are not executed.
 use Rattle.std.specs.Prelude.{ℕ, if◌then◌else◌, List, [], ◌∷◌, Option, Some, None}
 use Rattle.f66_tree.specs.Syntax.{Act}
-use Rattle.f66_tree.specs.World.{Record, Shown}
 use Rattle.f66_tree.specs.Units.{is_note, Note}
-use Rattle.f66_tree.specs.OneUnit.{one_unit}
 use Rattle.rat_tree.specs.Syntax.{Command, Empty, Block, If, IfElse, While, For, Repeat, RepeatUntil, Do, Switch, Break, Next, Return, Plain, Labelled, Commands, NoCommand, AndCommand, Clauses, NoClause, AndClause}
-use Rattle.rat_tree.specs.Meaning.{Ours, ratfor}
 
 -- a statement, if it is one that is not executed
 abbrev pub note_then : Option ℕ → Act → List Note → List Note
@@ -44,7 +41,3 @@ abbrev mutual
 
 abbrev pub notes_of_unit : Commands → List Note
 notes_of_unit ss = all_notes ss []
-
--- what it does over these input records, where each loop makes at most so many turns in one entry
-abbrev pub means : Commands → List Record → ℕ → Shown
-means ss input b = ratfor (one_unit (notes_of_unit ss)) (λ u. Ours ss) b input
