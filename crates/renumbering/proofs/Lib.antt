@@ -12,6 +12,5 @@ pub mod NumberLemmas
 pub mod NumberedLemmas
 pub mod CommandLemmas
 pub mod BodyLemmas
-pub mod AloneLemmas
 pub mod SameRuns
 mod Examples

@@ -3,4 +3,3 @@ pub mod Bodies
 pub mod Placed
 pub mod Numbered
 pub mod Laws
-pub mod Alone

@@ -1,5 +1,4 @@
 // The laws of numbers of storage units. The functions do nothing: their contracts are the laws.
-ghost use Rattle.renumbering.specs.Alone.{OneMeaningAlone, OneUnitAlone, OneUnitLinks};
 ghost use Rattle.renumbering.specs.Numbered.{NumberingLinks};
 ghost use Rattle.renumbering.specs.Laws.{NumbersAlone, OwnAreNamed, RatforNumbersAlone, WholeIsMatched};
 
@@ -29,19 +28,4 @@ pub fn whole_is_matched()
 /// (X3.9-1966, section 7.2.2).
 pub fn numbering_links()
     ensures { NumberingLinks }
-{}
-
-/// A main by itself without COMMON, EQUIVALENCE and DATA is linked where each of its places is a storage unit of its own.
-pub fn one_unit_links()
-    ensures { OneUnitLinks }
-{}
-
-/// So by any linkage a sound main of this kind does what it does with such places.
-pub fn one_unit_alone()
-    ensures { OneUnitAlone }
-{}
-
-/// And a program of Ratfor that stands for it means by any linkage what it means with such places.
-pub fn one_meaning_alone()
-    ensures { OneMeaningAlone }
 {}

@@ -4,6 +4,5 @@
 mod laws;
 
 pub use laws::{
-    numbering_links, numbers_alone, one_meaning_alone, one_unit_alone, one_unit_links,
-    own_are_named, ratfor_numbers_alone, whole_is_matched,
+    numbering_links, numbers_alone, own_are_named, ratfor_numbers_alone, whole_is_matched,
 };
