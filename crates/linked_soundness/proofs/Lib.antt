@@ -11,6 +11,5 @@ pub mod FormatLemmas
 pub mod RuleLemmas
 pub mod CallLemmas
 pub mod ProgramLemmas
-pub mod AloneLemmas
 mod Examples
 mod ExamplesOfFailures

@@ -1,17 +1,16 @@
 -- A program of sound units whose calls are complete has what the runs of its units rest on, and so never goes wrong.
-use Rattle.std.proofs.Common.{◌≡◌, ◌≢◌, ℕ, suc, List, [], length, Some, ap, sym, subst}
+use Rattle.std.proofs.Common.{◌≡◌, ◌≢◌, ℕ, suc, true, true≢false, List, [], length, Some, refl, ap, sym, subst}
 use Rattle.std.specs.Prelude.{⊤}
 use Rattle.std.specs.List.{All, slice_get}
 use Rattle.std.proofs.lemmas.Option.{slice_get_within, get_or_from_slice_get}
-use Rattle.f66_tree.specs.Syntax.{Line, Routine}
+use Rattle.f66_tree.specs.Syntax.{Header, MainUnit, SubUnit, FuncUnit, DataUnit, Line, Routine}
 use Rattle.f66_tree.specs.World.{Wrong, Ended, Out, Gives, Halts, shown}
-use Rattle.f66_tree.specs.Units.{dummies_of, Linkage}
+use Rattle.f66_tree.specs.Units.{is_main, dummies_of, Linkage}
 use Rattle.f66_tree.specs.Execution.{nowhere, first_state, no_loops}
 use Rattle.f66_soundness.specs.Rightly.{IsRightEnd, NeverWrong}
 use Rattle.ground.specs.declared.fault.FaultKind.TheVariants.{MissingUnit, WrongCount}
 use Rattle.f66_check.specs.CheckRules as check
 use Rattle.f66_check.specs.Answers.{IsSoundUnit}
-use Rattle.f66_check.proofs.BuiltLemmas.{main_only}
 use Rattle.f66_program.specs.Mentions as program
 use Rattle.f66_program.specs.Linking.{Program}
 use Rattle.linked_soundness.specs.Laws.{IsComplete, AreCodes, IsCallLinkage, NeverEndsWrong, CompleteNeverWrong, LinkedNeverWrong}
@@ -20,6 +19,12 @@ use Rattle.linked_soundness.proofs.ActLemmas.{FitLines}
 use Rattle.linked_soundness.proofs.RunLemmas.{IsLinked, FitUnit, exec_rightly}
 use Rattle.linked_soundness.proofs.RuleLemmas.{FitRoutine, judged, unit_fit, sound_fit}
 use Rattle.linked_soundness.proofs.CallLemmas.{calls_linked}
+
+main_only : (h : Header) → is_main h ≡ true → h ≡ MainUnit
+main_only MainUnit e = refl
+main_only (SubUnit x ds) e = absurd (true≢false (sym e))
+main_only (FuncUnit t x ds) e = absurd (true≢false (sym e))
+main_only DataUnit e = absurd (true≢false (sym e))
 
 end_right : (o : Out ⊤) → NeverWrong o → (shown o).end ≢ Ended Wrong
 end_right (Gives a w) h e = cc

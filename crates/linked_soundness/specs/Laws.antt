@@ -1,15 +1,14 @@
 -- What a program of sound units never does (X3.9-1966, sections 5 to 10).
-use Rattle.std.specs.Prelude.{◌≡◌, ◌≢◌, ℕ, true, List, [], Some}
+use Rattle.std.specs.Prelude.{◌≡◌, ◌≢◌, ℕ, true, List, Some}
 use Rattle.std.specs.List.{All, slice_get}
 use Rattle.ground.specs.declared.fault.FaultKind.TheVariants.{MissingUnit, WrongCount}
 use Rattle.f66_tree.specs.Syntax.{Text, Line, Routine}
 use Rattle.f66_tree.specs.World.{Record, Wrong, Ended}
 use Rattle.f66_tree.specs.Units.{is_main, Linkage}
 use Rattle.f66_tree.specs.Execution.{f66}
-use Rattle.f66_soundness.specs.SoundUnits.{RunsRightly}
 use Rattle.f66_check.specs.Answers.{IsSoundUnit}
 use Rattle.f66_program.specs.Mentions.{context_of}
-use Rattle.f66_program.specs.Calls.{calls_in, unit_named}
+use Rattle.f66_program.specs.Calls.{unit_named}
 use Rattle.f66_program.specs.Linking.{Program, Part, Breaks, IsWhole, IsLinkage}
 
 -- each unit that is called is there, and has as many dummies as the call has actuals
@@ -43,12 +42,3 @@ CompleteNeverWrong =
 abbrev pub LinkedNeverWrong : Type 0
 LinkedNeverWrong =
     (p : Program) → All IsSoundUnit p.units → IsWhole p → (l : Linkage) → IsLinkage p.units l → (codes : ℕ → List Line) → AreCodes p.units codes → NeverEndsWrong l codes
-
--- a main that calls no unit
-pub record IsAlone (u : Routine) : Type 0 where
-  pub main : is_main u.header ≡ true
-  pub calls : (i : ℕ) (s : Line) → slice_get u.lines i ≡ Some s → calls_in (context_of u) s.act ≡ []
-
--- and so a sound main that calls no unit never goes wrong by itself, where each of its places is a storage unit of its own
-abbrev pub AloneNeverWrong : Type 0
-AloneNeverWrong = (u : Routine) → IsSoundUnit u → IsAlone u → RunsRightly u.lines

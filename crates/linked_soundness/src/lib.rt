@@ -3,4 +3,4 @@
 
 mod laws;
 
-pub use laws::{alone_never_wrong, complete_never_wrong, linked_never_wrong};
+pub use laws::{complete_never_wrong, linked_never_wrong};
