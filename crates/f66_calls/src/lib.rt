@@ -10,7 +10,7 @@ mod ratfor;
 mod trees;
 mod units;
 
-pub use checks::{checked, fault_in, to_run};
+pub use checks::checked;
 pub use edits::{end, integer_in, letter_out, plan_of, turn};
 pub use flow::{header_breaks, line_breaks};
 pub use made_names::{kept_or_made, made_label};

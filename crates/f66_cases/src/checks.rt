@@ -2,8 +2,8 @@
 
 use crate::reading::{at, statement, unit};
 use crate::subprograms::SUBPROGRAMS;
-use crate::units::{EXPRESSIONS, PAIRS, PARTS, STATEMENTS, STORES};
-use f66_check::{check_unit, first_fault};
+use crate::units::{ENDS, EXPRESSIONS, PAIRS, STATEMENTS, STORES};
+use f66_check::check_unit;
 use f66_tree::{Header, Unit};
 use ground::{Fault, Refusal};
 use std::alloc::{AllocError, Global};
@@ -21,8 +21,8 @@ pub(crate) fn fault_shown(alloc: Global, fault: Fault) -> Result<String, AllocEr
     Ok(format!(in alloc; "{word} {limit} at {line}")?)
 }
 
-/// What the checks of a whole unit answer.
-fn whole_outcome(alloc: Global, unit: Unit) -> Result<String, Fail> {
+/// What the checks of a unit answer.
+fn outcome(alloc: Global, unit: Unit) -> Result<String, Fail> {
     match check_unit(alloc, unit) {
         Ok(_) => Ok("sound".to_string(alloc)?),
         Err(Refusal::Fault(fault)) => Ok(fault_shown(alloc, fault)?),
@@ -30,41 +30,11 @@ fn whole_outcome(alloc: Global, unit: Unit) -> Result<String, Fail> {
     }
 }
 
-/// What the checks of a unit in parts answer; a fault stands on the line of its statement's number.
-fn part_outcome(alloc: Global, unit: &Unit) -> Result<String, Fail> {
-    if unit.statements.len() > 1000 {
-        return Err("too long")?;
-    }
-    match first_fault(alloc, unit) {
-        Ok(None) => Ok("sound".to_string(alloc)?),
-        Ok(Some((number, fault))) if number == fault.place.line => Ok(fault_shown(alloc, fault)?),
-        Ok(Some(_)) => Err("another place")?,
-        Err(_) => Err("memory")?,
-    }
-}
-
-fn expect_whole(rt: &impl Abort, alloc: Global, text: &str, wanted: &str) -> Result<(), Fail> {
-    let found = whole_outcome(alloc, unit(alloc, text)?)?;
-    assert_eq!(rt; found.as_str(), wanted, "{text}");
-    Ok(())
-}
-
-fn expect_part(rt: &impl Abort, alloc: Global, text: &str, wanted: &str) -> Result<(), Fail> {
-    let unit = unit(alloc, text)?;
-    let found = part_outcome(alloc, &unit)?;
-    assert_eq!(rt; found.as_str(), wanted, "{text} in parts");
-    Ok(())
-}
-
 fn expect(rt: &impl Abort, alloc: Global, row: &str) -> Result<(), Fail> {
     let (text, wanted) = row.split_once(" | ").ok_or("no bar")?;
-    match wanted.split_once(" | ") {
-        Some((whole, part)) => {
-            expect_whole(rt, alloc, text, whole)?;
-            expect_part(rt, alloc, text, part)
-        }
-        None => expect_whole(rt, alloc, text, wanted),
-    }
+    let found = outcome(alloc, unit(alloc, text)?)?;
+    assert_eq!(rt; found.as_str(), wanted, "{text}");
+    Ok(())
 }
 
 fn expect_all(rt: &impl Abort, alloc: Global, rows: &str) -> Result<(), Fail> {
@@ -83,7 +53,7 @@ fn first_faults(rt: HostRuntime) -> Result<(), Fail> {
     expect_all(&rt, rt.alloc(), STORES)?;
     expect_all(&rt, rt.alloc(), PAIRS)?;
     expect_all(&rt, rt.alloc(), SUBPROGRAMS)?;
-    expect_all(&rt, rt.alloc(), PARTS)
+    expect_all(&rt, rt.alloc(), ENDS)
 }
 
 /// Units of 20,000 statements, of which the last alone is at fault.
@@ -135,7 +105,7 @@ fn long_units(rt: HostRuntime) -> Result<(), Fail> {
         (Long::Nested, "DoNesting at 20000"),
     ] {
         let unit = long_unit(rt.alloc(), long)?;
-        let found = whole_outcome(rt.alloc(), unit)?;
+        let found = outcome(rt.alloc(), unit)?;
         assert_eq!(rt; found.as_str(), wanted);
     }
     Ok(())

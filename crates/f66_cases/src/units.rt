@@ -563,47 +563,46 @@ CONTINUE; SET K, K true +; INTEGER M 0; STOP | TypeClash at 2
 INTEGER M 0; 0 FORMAT 1I133 | Syntax at 0
 ";
 
-/// Units, what the checks of a whole unit answer, and what those of one in parts do.
-pub const PARTS: &str = "
-# What a unit in parts is not asked: its end, the labels of DO, and the ranges.
- | Syntax at 0 | sound
-INTEGER K | Syntax at 0 | sound
-SET K, 1 | Syntax at 1 | sound
-DO 10 K 1 9 1; STOP | BadLabel at 1 | sound
-DO 9 K 1 9 1; 9 FORMAT 1I5; STOP | BadLabel at 1 | sound
-10 CONTINUE; DO 10 K 1 9 1; STOP | DoNesting at 2 | sound
-DO 10 K 1 9 1; 10 STOP | DoNesting at 1 | sound
-DO 10 K 1 9 1; DO 20 K 1 9 1; 10 CONTINUE; 20 STOP | DoNesting at 2 | sound
-DO 10 K 1 9 1; 20 CONTINUE; 10 CONTINUE; GO 20 | DoNesting at 4 | sound
-# What it is asked in the place of these.
-DO 10 K 1 9 1; SET K, true; STOP | BadLabel at 1 | TypeClash at 2
-INTEGER M 0 | Syntax at 0 | BadConstant at 1
-0 SET K, 1 | Syntax at 1 | BadLabel at 1
-INTEGER M 5; DO 10 M 1 9 1; STOP | BadLabel at 2 | NotAssignable at 2
-INTEGER M 5; 10 CONTINUE; DO 10 M 1 9 1; STOP | DoNesting at 3 | NotAssignable at 3
-SET MOD, 1; SET K, 7 2 MOD@2 | Syntax at 2 | DuplicateName at 2
-STOP; SET K, 7 MOD@1 | Syntax at 2 | WrongCount at 2
-# What it is asked as well.
-STOP | sound | sound
-SET K, 1; INTEGER K; STOP | Syntax at 2 | Syntax at 2
-SET K, -1; STOP | Syntax at 1 | Syntax at 1
-SET KKKKKKK, 1; STOP | NameTooLong at 1 | NameTooLong at 1
-SET X, 1; STOP | OutOfProfileType at 1 | OutOfProfileType at 1
-100000 STOP | BadLabel at 1 | BadLabel at 1
-10 CONTINUE; 10 STOP | BadLabel at 2 | BadLabel at 2
-IF true ? GO 20; STOP | BadLabel at 1 | BadLabel at 1
-WRITE 6 9 K; STOP | BadLabel at 1 | BadLabel at 1
-9 FORMAT 1I133; STOP | BadFormat at 1 | BadFormat at 1
-INTEGER M 32768; STOP | Limit 7 at 1 | Limit 7 at 1
-SET K, -1; COMMON K | Syntax at 1 | Syntax at 1
-COMMON K; COMMON K; STOP | DuplicateName at 2 | DuplicateName at 2
-# The same of the smallest units.
-SET I, 1 | Syntax at 1 | sound
-DO 10 I 1 9 1 | Syntax at 1 | sound
-10 CONTINUE; DO 10 I 1 9 1; STOP | DoNesting at 2 | sound
-SET I, 1; INTEGER I | Syntax at 1 | Syntax at 2
-INTEGER I; INTEGER I | Syntax at 0 | DuplicateName at 2
-SET I, 1; 0 STOP | BadLabel at 2 | BadLabel at 2
-GO 10; SET I, 1 | BadLabel at 1 | BadLabel at 1
-SET I, -1; RETURN | Syntax at 1 | Syntax at 1
+/// Units whose end, DO labels and ranges are at fault, with other faults or none, and small ones.
+pub const ENDS: &str = "
+ | Syntax at 0
+INTEGER K | Syntax at 0
+SET K, 1 | Syntax at 1
+DO 10 K 1 9 1; STOP | BadLabel at 1
+DO 9 K 1 9 1; 9 FORMAT 1I5; STOP | BadLabel at 1
+10 CONTINUE; DO 10 K 1 9 1; STOP | DoNesting at 2
+DO 10 K 1 9 1; 10 STOP | DoNesting at 1
+DO 10 K 1 9 1; DO 20 K 1 9 1; 10 CONTINUE; 20 STOP | DoNesting at 2
+DO 10 K 1 9 1; 20 CONTINUE; 10 CONTINUE; GO 20 | DoNesting at 4
+# Other faults besides.
+DO 10 K 1 9 1; SET K, true; STOP | BadLabel at 1
+INTEGER M 0 | Syntax at 0
+0 SET K, 1 | Syntax at 1
+INTEGER M 5; DO 10 M 1 9 1; STOP | BadLabel at 2
+INTEGER M 5; 10 CONTINUE; DO 10 M 1 9 1; STOP | DoNesting at 3
+SET MOD, 1; SET K, 7 2 MOD@2 | Syntax at 2
+STOP; SET K, 7 MOD@1 | Syntax at 2
+# Other faults alone.
+STOP | sound
+SET K, 1; INTEGER K; STOP | Syntax at 2
+SET K, -1; STOP | Syntax at 1
+SET KKKKKKK, 1; STOP | NameTooLong at 1
+SET X, 1; STOP | OutOfProfileType at 1
+100000 STOP | BadLabel at 1
+10 CONTINUE; 10 STOP | BadLabel at 2
+IF true ? GO 20; STOP | BadLabel at 1
+WRITE 6 9 K; STOP | BadLabel at 1
+9 FORMAT 1I133; STOP | BadFormat at 1
+INTEGER M 32768; STOP | Limit 7 at 1
+SET K, -1; COMMON K | Syntax at 1
+COMMON K; COMMON K; STOP | DuplicateName at 2
+# The smallest units.
+SET I, 1 | Syntax at 1
+DO 10 I 1 9 1 | Syntax at 1
+10 CONTINUE; DO 10 I 1 9 1; STOP | DoNesting at 2
+SET I, 1; INTEGER I | Syntax at 1
+INTEGER I; INTEGER I | Syntax at 0
+SET I, 1; 0 STOP | BadLabel at 2
+GO 10; SET I, 1 | BadLabel at 1
+SET I, -1; RETURN | Syntax at 1
 ";

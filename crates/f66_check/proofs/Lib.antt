@@ -1,6 +1,2 @@
 -- The lemmas of f66_check.
 pub mod PartLemmas
-pub mod BuiltLemmas
-pub mod PlainLemmas
-pub mod SoundLemmas
-pub mod RunLemmas

@@ -1,6 +1,6 @@
 -- The parts of a unit one after another, and a unit as the tables of its names and of its labels see it.
-use Rattle.std.proofs.Common.{◌≡◌, ◌<◌, ◌≤◌, ◌+◌, ◌-◌, ℕ, zero, suc, Bool, true, false, Option, Some, None, List, [], ◌∷◌, map, length, MatchOption, option_map, refl, ap, sym, ◌∙◌, subst, arith, add-one, inl, inr}
-use Rattle.std.specs.Prelude.{Result, Ok, Err, IfOk, not, ◌&&◌, is_none, if◌then◌else◌}
+use Rattle.std.proofs.Common.{◌≡◌, ◌<◌, ◌≤◌, ◌+◌, ◌-◌, ℕ, zero, suc, Bool, false, Option, Some, None, List, [], ◌∷◌, map, length, MatchOption, option_map, refl, ap, sym, ◌∙◌, subst, arith, add-one, inl, inr}
+use Rattle.std.specs.Prelude.{Result, Ok, Err, IfOk}
 use Rattle.std.specs.declared.alloc.AllocError.{AllocError}
 use Rattle.std.specs.List.{slice_get}
 use Rattle.std.proofs.lemmas.Option.{slice_get-map, slice_get_past}
@@ -9,24 +9,22 @@ use Rattle.rule_table.specs.FaultRules.{rule_number}
 use Rattle.rule_table.specs.declared.rule.Rule.{Rule}
 use Rattle.rule_table.specs.First.{IsFirst, IsClean}
 use Rattle.rule_table.specs.FaultRules.{first_rule}
-use Rattle.rule_table.specs.Words.{first_place, is_some_and}
+use Rattle.rule_table.specs.Words.{is_some_and}
 use Rattle.rule_table.proofs.RuleLemmas.{part_first, part_clean}
 use Rattle.f66_tree.specs.Syntax.{Act, Line, Routine}
-use Rattle.f66_tree.specs.Units.{Context, is_main}
+use Rattle.f66_tree.specs.Units.{Context}
 use Rattle.f66_tree.specs.Views.{act_of, line_of, lines_of, header_of, routine_of}
 use Rattle.f66_tree.specs.declared.statement.Stmt.{Stmt}
 use Rattle.f66_names.specs.declared.saying.Saying.{Saying}
 use Rattle.f66_tree.specs.declared.unit.Unit.{Unit}
 use Rattle.f66_names.specs.declared.declarations.Declarations.{Declarations}
 use Rattle.f66_names.specs.ActViews.{acts_of as said_by}
-use Rattle.f66_names.specs.BuiltActs.{is_built}
 use Rattle.f66_names.specs.Declaring.{context_by}
 use Rattle.f66_names.specs.DeclarationViews.{context_in, acts_in}
-use Rattle.f66_flow.proofs.PlaceLemmas.{first_place-map}
 use Rattle.f66_flow.specs.declared.scope.Scope.{Scope}
 use Rattle.f66_flow.specs.FlowRules.{breaks_flow, breaks_flow_at}
 use Rattle.f66_soundness.specs.SoundUnits.{acts_in_unit}
-use Rattle.f66_check.specs.CheckRules.{context_of, unbuilt_line, first_unbuilt}
+use Rattle.f66_check.specs.CheckRules.{context_of}
 use Rattle.f66_check.specs.UnitChecks.{breaks_statement, breaks_piece, breaks_unit}
 use Rattle.f66_check.specs.Answers.{place_at, IsFaultless}
 
@@ -96,12 +94,6 @@ acts_told d unit sayings e h = ap said_by e ∙ h ∙ sym (acts_are unit.stateme
 pub context_told : (d : Declarations) (unit : Unit) → d.header.now ≡ unit.header → acts_in d ≡ acts_in_unit (lines_of unit.statements.items) → context_in d ≡ context_of (routine_of unit)
 context_told d unit e h = ap (λ x. context_by (header_of x) (acts_in d)) e ∙ ap (context_by (header_of unit.header)) h
 
--- the first statement that is not built, by the tables of names
-pub unbuilt_told : (c : Context) (unit : Unit) (o : Option ℕ) → c ≡ context_of (routine_of unit) → o ≡ first_place (λ s. not (is_built c (act_of s.kind))) unit.statements.items →
-    unbuilt_line (context_of (routine_of unit)) (lines_of unit.statements.items) ≡ o
-unbuilt_told c unit o e h =
-    ap (λ d. unbuilt_line d (lines_of unit.statements.items)) (sym e) ∙ first_place-map (λ s. not (is_built c s.act)) line_of unit.statements.items ∙ sym h
-
 first_told : (w : Scope) (u : Routine) (o : Option (ℕ × Rule)) →
     MatchOption o (IsClean (breaks_unit w u)) (λ r. IsFirst rule_number (breaks_unit w u) r.0 r.1) →
     MatchOption o (IsFaultless w u) (λ r. IsFirst rule_number (breaks_unit w u) r.0 r.1)
@@ -126,20 +118,6 @@ pub told_by : (w : Scope) (u : Routine) (c : Context) (acts : List Act) (lines :
     IfOk r (λ o. MatchOption o (IsFaultless w u) (λ p. IsFirst rule_number (breaks_unit w u) p.0 p.1))
 told_by w u c acts lines (Ok o) same_context same_acts same_lines told = told_of w u c acts lines o same_context same_acts same_lines told
 told_by w u c acts lines (Err e) same_context same_acts same_lines told = tt
-
--- ---- units that run ----
-
--- whether a unit is a main all of whose statements are built
-mapped_none : (o : Option ℕ) → is_none (option_map (λ i. i + 1) o) ≡ is_none o
-mapped_none None = refl
-mapped_none (Some i) = refl
-
-pub built_told : (u : Routine) (b : Bool) (o : Option ℕ) → b ≡ is_main u.header → unbuilt_line (context_of u) u.lines ≡ o → (b && is_none o) ≡ is_none (first_unbuilt u)
-built_told u b o main found = by b ∙ ap (λ m. is_none (if m then option_map (λ i. i + 1) (unbuilt_line (context_of u) u.lines) else Some 0)) main
-  where
-    by : (v : Bool) → (v && is_none o) ≡ is_none (if v then option_map (λ i. i + 1) (unbuilt_line (context_of u) u.lines) else Some 0)
-    by true = sym (mapped_none (unbuilt_line (context_of u) u.lines) ∙ ap is_none found)
-    by false = refl
 
 -- ---- the answers ----
 

@@ -1,5 +1,5 @@
 -- What the checks of a unit answer: that nothing is at fault, or the first fault.
-use Rattle.std.specs.Prelude.{◌≡◌, ℕ, zero, suc, Option, Some, None, option_map, ⊤}
+use Rattle.std.specs.Prelude.{◌≡◌, ℕ, zero, suc, Option, Some, option_map, ⊤}
 use Rattle.std.specs.List.{slice_get}
 use Rattle.rule_table.specs.FaultRules.{rule_number}
 use Rattle.ground.specs.declared.place.Place.{Place}
@@ -12,7 +12,6 @@ use Rattle.rule_table.specs.FaultRules.{fault_of}
 use Rattle.f66_tree.specs.Syntax.{Routine}
 use Rattle.f66_flow.specs.declared.scope.Scope.{Scope}
 use Rattle.f66_flow.specs.declared.scope.Scope.TheVariants.{Whole}
-use Rattle.f66_check.specs.CheckRules.{first_unbuilt}
 use Rattle.f66_check.specs.UnitChecks.{breaks_unit}
 
 -- the place of a unit's header, or of a statement
@@ -27,11 +26,6 @@ pub record IsFaultless (w : Scope) (u : Routine) : Type 0 where
 -- a sound unit of any kind
 abbrev pub IsSoundUnit : Routine → Type 0
 IsSoundUnit u = IsFaultless Whole u
-
--- a sound main unit all of whose statements are built, which is what is compiled and run so far
-pub record IsSound (u : Routine) : Type 0 where
-  pub built : first_unbuilt u ≡ None
-  pub sound : IsSoundUnit u
 
 -- f is the first fault, and stands at the part with the number n
 pub record IsFirstFault (w : Scope) (u : Routine) (n : ℕ) (f : Fault) : Type 0 where

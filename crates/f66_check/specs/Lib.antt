@@ -2,4 +2,3 @@
 pub mod CheckRules
 pub mod UnitChecks
 pub mod Answers
-pub mod SoundRuns

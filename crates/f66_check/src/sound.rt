@@ -1,21 +1,32 @@
 // The checks of a unit.
-ghost use Rattle.std.specs.Prelude.{◌≡◌, ◌≤◌, ◌-◌, ◌^◌, ◌<◌, length, Some, IfOk, IfErr, OnOk, IfSome, IfNone, MatchOption};
-ghost use Rattle.f66_tree.specs.Views.{routine_of};
-ghost use Rattle.f66_flow.specs.declared.scope.Scope.TheVariants.{Part};
+ghost use Rattle.std.specs.Prelude.{◌≡◌, ◌≤◌, ◌-◌, map, length, Some, IfOk, IfErr, OnOk, IfSome, MatchOption};
+ghost use Rattle.f66_tree.specs.Views.{act_of, routine_of};
+ghost use Rattle.f66_names.specs.ActViews.{acts_of};
 ghost use Rattle.f66_check.specs.UnitChecks.{breaks_unit};
-ghost use Rattle.f66_check.specs.Answers.{IsFaultless, IsSoundUnit, IsFirstFault, IsRightRefusal, place_at};
+ghost use Rattle.f66_check.specs.Answers.{IsFaultless, IsSoundUnit, IsRightRefusal, place_at};
 ghost use Rattle.rule_table.specs.First.{IsFirst};
 ghost use Rattle.rule_table.specs.FaultRules.{rule_number, fault_of};
 
 use crate::parts::first_broken;
-use crate::unbuilt::sayings_of;
 use f66_flow::{Scope, flow_of};
-use f66_tree::Unit;
-use ground::{Fault, Memory, Place, Refusal};
+use f66_names::Saying;
+use f66_tree::{Stmt, Unit};
+use ground::{Fault, Place, Refusal};
 use rule_table::Rule;
 use std::alloc::{AllocError, Global};
 use std::marker::Model;
 use unit_rules::unit_names_of;
+
+/// What the statements say, in reading order.
+fn sayings_of(alloc: Global, statements: &[Stmt]) -> Result<Vec<Saying>, AllocError>
+    ensures { IfOk result (λ sayings. acts_of sayings.items ≡ map (λ s. act_of s.kind) statements.now) }
+{
+    let mut sayings = Vec::new(alloc);
+    for statement in statements {
+        sayings.push(Saying::Act(&statement.kind))?;
+    }
+    Ok(sayings)
+}
 
 /// The number of the first part of a unit that is at fault, and the rule that it breaks.
 fn first_of(alloc: Global, scope: Scope, unit: &Unit) -> Result<Option<(usize, Rule)>, AllocError>
@@ -100,21 +111,5 @@ pub fn check_unit(alloc: Global, unit: Unit) -> Result<SoundUnit, Refusal>
     match first {
         Some((number, rule)) => Err(Refusal::Fault(fault_at(&unit, number, rule))),
         None => Ok(SoundUnit { unit }),
-    }
-}
-
-/// The number of the first part that is at fault, and the fault, by the rules that do not speak of a unit's end
-/// (X3.9-1966, sections 3 to 9): 0 for the header, and the statements from 1 on.
-pub fn first_fault(alloc: Global, unit: &Unit) -> Result<Option<(u32, Fault)>, Memory>
-    requires { length unit.now.statements.items < 2 ^ 32 }
-    ensures none { IfOk result (λ o. IfNone o (IsFaultless Part (routine_of unit.now))) }
-    ensures first { IfOk result (λ o. IfSome o (λ r. IsFirstFault Part (routine_of unit.now) r.0 r.1)) }
-{
-    let Ok(first) = first_of(alloc, Scope::Part, unit) else {
-        return Err(Memory);
-    };
-    match first {
-        Some((number, rule)) => Ok(Some((number as u32, fault_at(unit, number, rule)))),
-        None => Ok(None),
     }
 }

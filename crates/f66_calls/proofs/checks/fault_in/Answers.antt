@@ -1,6 +1,0 @@
--- Why `fault_in` keeps its clauses.
-use Rattle.std.proofs.Common.{rules}
-use Rattle.f66_calls.proofs.checks.fault_in.Goals as goal
-
-pub returns : goal.returns
-returns c = search rules
