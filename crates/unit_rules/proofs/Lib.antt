@@ -7,6 +7,4 @@ pub mod MisfitLemmas
 pub mod WithinLemmas
 pub mod AgainLemmas
 pub mod JudgedLemmas
-pub mod MainLemmas
 pub mod SayingLemmas
-pub mod KeptLemmas
