@@ -16,6 +16,7 @@ pub mod Measure
 pub mod Roles
 pub mod Live
 pub mod Turn
+pub mod SpotArms
 pub mod Moving
 pub mod Starting
 pub mod Recorded

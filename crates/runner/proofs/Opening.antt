@@ -112,6 +112,7 @@ open_ended (Some p) o1 e = (p, refl, sym (same_Some _ _ e))
 abbrev pub is_straight : Role → Bool
 is_straight (roles.Begins p) = true
 is_straight roles.Turns = true
+is_straight (roles.Spots first size) = true
 is_straight roles.Works = true
 is_straight roles.Holds = true
 is_straight (roles.Dummies n) = true
@@ -121,6 +122,7 @@ is_straight _ = false
 pub straight_apart : (r : Role) → is_straight r ≡ true → is_apart r ≡ true
 straight_apart (roles.Begins p) e = refl
 straight_apart roles.Turns e = refl
+straight_apart (roles.Spots first size) e = refl
 straight_apart roles.Works e = refl
 straight_apart roles.Holds e = refl
 straight_apart (roles.Dummies n) e = refl

@@ -25,7 +25,7 @@ abbrev pub role : Instruction → Role
 role (i.Begin p) = roles.Begins p
 role i.Step = roles.Turns
 role (i.Push v) = roles.Works
-role (i.PushSpot first size) = roles.Works
+role (i.PushSpot first size) = roles.Spots first size
 role (i.Dummy n) = roles.Dummies n
 role (i.Element n) = roles.Works
 role (i.Load k) = roles.Holds

@@ -38,6 +38,10 @@ pub record IsPlaced (p : Spot) (w : Word) : Type 0 where
   pub inside : p.position < p.size
   pub few : w.behind < 2 ^ 31
 
+-- the word of the spot of some units: the first, and how many
+abbrev pub spot_word : ℕ → ℕ → Word
+spot_word first size = record { value = pos first; behind = first + size }
+
 abbrev pub IsSpotWord : Bool → Spot → Word → Type 0
 IsSpotWord true p w = IsLent p w
 IsSpotWord false p w = IsPlaced p w

@@ -82,6 +82,54 @@ fn far_of(stack: &[Word], subscripts: usize, sizes: usize, count: usize) -> Opti
     Some(reach.far)
 }
 
+/// The same by one subscript and its dimension.
+#[inline(always)]
+fn far_of_one(stack: &[Word], subscript: usize, size: usize) -> Option<u64>
+    requires subscript { subscript < length stack.now }
+    requires size { size < length stack.now }
+    ensures is { result ≡ reaches at_first stack.now subscript size 1 }
+    ensures small { IfSome result (λ far. far ≤ 2 ^ 31) }
+{
+    match advance_at(Reach { far: 0, step: 1 }, stack, subscript, size) {
+        Some(reach) => Some(reach.far),
+        None => None,
+    }
+}
+
+/// The same by two.
+#[inline(always)]
+fn far_of_two(stack: &[Word], subscripts: usize, sizes: usize) -> Option<u64>
+    requires subscripts { subscripts + 2 ≤ length stack.now }
+    requires sizes { sizes + 2 ≤ length stack.now }
+    ensures is { result ≡ reaches at_first stack.now subscripts sizes 2 }
+    ensures small { IfSome result (λ far. far ≤ 2 ^ 31) }
+{
+    match advance_at(Reach { far: 0, step: 1 }, stack, subscripts, sizes) {
+        Some(first) => match advance_at(first, stack, subscripts + 1, sizes + 1) {
+            Some(reach) => Some(reach.far),
+            None => None,
+        },
+        None => None,
+    }
+}
+
+/// The same, with no loop for one subscript or two.
+#[inline(always)]
+fn far_by(stack: &[Word], subscripts: usize, sizes: usize, count: usize) -> Option<u64>
+    requires subscripts { subscripts + count ≤ length stack.now }
+    requires sizes { sizes + count ≤ length stack.now }
+    ensures is { result ≡ reaches at_first stack.now subscripts sizes count }
+    ensures small { IfSome result (λ far. far ≤ 2 ^ 31) }
+{
+    if count == 1 {
+        far_of_one(stack, subscripts, sizes)
+    } else if count == 2 {
+        far_of_two(stack, subscripts, sizes)
+    } else {
+        far_of(stack, subscripts, sizes, count)
+    }
+}
+
 /// The product so far with one more dimension, or None where that is below one.
 fn widened(far: u64, size: i32) -> Option<u64>
     requires { far ≤ 2 ^ 31 }
@@ -161,7 +209,7 @@ pub(crate) fn element(count: u8, stack: &mut [Word], top: usize) -> Result<usize
 {
     let sizes = top - count as usize;
     let subscripts = sizes - count as usize;
-    match far_of(stack, subscripts, sizes, count as usize) {
+    match far_by(stack, subscripts, sizes, count as usize) {
         None => Err(Trap::Subscript),
         Some(far) => match shifted(word_at(stack, subscripts), far) {
             None => Err(Trap::Subscript),

@@ -1,11 +1,12 @@
 // The instructions on storage units: what they hold is read, stored and lent.
-ghost use Rattle.std.specs.Prelude.{◌≡◌, ◌≤◌, ◌<◌, ◌^◌, length, slice_get, pos, Some, Ok};
+ghost use Rattle.std.specs.Prelude.{◌≡◌, ◌+◌, ◌≤◌, ◌<◌, ◌^◌, ℕ, length, slice_get, slice_set, pos, Some, Ok};
+ghost use Rattle.ground.specs.declared.value.Kind.TheVariants.{Integer};
 ghost use Rattle.ground.specs.Content.{Content};
 ghost use Rattle.f66_tree.specs.Evaluation.{asked};
 ghost use Rattle.f66_tree.specs.World.{Store as TheStore, put_in};
 ghost use Rattle.stack_code.specs.Instructions.{Load, Store, Forget, Lend};
 ghost use Rattle.stack_code.specs.StackMachine.{Spot, Val, At, unit_of as unit_in};
-ghost use Rattle.runner.specs.Words.{Shows, IsMade, IsSmall, Agrees, content_of};
+ghost use Rattle.runner.specs.Words.{Shows, IsMade, IsSmall, Agrees, content_of, spot_word};
 ghost use Rattle.runner.specs.Work.{MayHold, Holds, IsRoomFor};
 
 use crate::words::{Cell, Word, is_true, push, truth, two_at, word_at};
@@ -87,6 +88,29 @@ pub(crate) fn load(
             let under = top - 1;
             push(stack, under, word);
             Ok(under + 1)
+        }
+        Err(trap) => Err(trap),
+    }
+}
+
+/// The integer of a variable's first unit is pushed: what a load does where the variable's spot lies on the stack, which need
+/// not be written there.
+#[inline(always)]
+pub(crate) fn variable(
+    first: u32,
+    stack: &mut [Word],
+    top: usize,
+    cells: &[Cell],
+) -> Result<usize, Trap>
+    requires unit { first < length cells.now }
+    requires room { top < length stack.old }
+    ensures works { (size : ℕ) → Holds (Load Integer) (slice_set stack.old top (spot_word first size)) (top + 1) cells.now stack.new cells.now result }
+    ensures room { IsRoomFor stack.new result }
+{
+    match shown(Kind::Integer, cell_at(cells, first as usize)) {
+        Ok(word) => {
+            push(stack, top, word);
+            Ok(top + 1)
         }
         Err(trap) => Err(trap),
     }

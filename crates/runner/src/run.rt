@@ -1,5 +1,7 @@
 // The loop that runs code, over a stack and a store that are given to it.
-ghost use Rattle.std.specs.Prelude.{◌≡◌, ◌+◌, ◌-◌, ◌<◌, ◌≤◌, ◌^◌, ℕ, [], length};
+ghost use Rattle.std.specs.Prelude.{◌≡◌, ◌+◌, ◌-◌, ◌<◌, ◌≤◌, ◌^◌, ℕ, [], true, length};
+ghost use Rattle.ground.specs.declared.value.Kind.TheVariants.{Integer};
+ghost use Rattle.stack_code.specs.Instructions.{Load};
 ghost use Rattle.stack_code.specs.Views.{code_of, instruction_of};
 ghost use Rattle.runner.specs.Work.{MayWork, Works, MayHold, Holds, IsRoomFor};
 ghost use Rattle.runner.specs.Running.{IsReady, HasRange, HasUnits, bounded, ran, role as role_for};
@@ -11,7 +13,7 @@ use crate::elements::element;
 use crate::frames::{Resume, call, caller_below, dummy, keep_caller};
 use crate::intrinsics::known;
 use crate::loops::{loop_start, loop_turn};
-use crate::places::{forget, lend, load, store};
+use crate::places::{forget, lend, load, store, variable};
 use crate::records::record_step;
 use crate::values::{both, minus, not, push_integer, push_spot, push_truth};
 use crate::words::{Cell, Word};
@@ -60,6 +62,8 @@ enum Role {
     Stops(u16),
     /// It may go on elsewhere than at the next instruction.
     Leaps,
+    /// It pushes a spot of these units: the first, and how many.
+    Spots(u32, u32),
     /// It works on the stack alone.
     Works,
     /// It works on the stack and the store.
@@ -84,7 +88,7 @@ fn role_of(op: &Op) -> Role
         Op::Step => Role::Turns,
         Op::PushInt(_) => Role::Works,
         Op::PushLog(_) => Role::Works,
-        Op::Spot(_, _) => Role::Works,
+        Op::Spot(first, size) => Role::Spots(*first, *size),
         Op::Dummy(number) => Role::Dummies(*number),
         Op::Element(_) => Role::Works,
         Op::LoadInt => Role::Holds,
@@ -123,6 +127,14 @@ fn role_of(op: &Op) -> Role
     }
 }
 
+/// Whether an integer is loaded.
+#[inline(always)]
+fn is_load(op: &Op) -> bool
+    ensures { result ≡ true → instruction_of op.now ≡ Load Integer }
+{
+    matches!(op, Op::LoadInt)
+}
+
 /// An instruction that works on the stack alone.
 #[inline(always)]
 fn work(op: &Op, stack: &mut [Word], top: usize) -> Result<usize, Trap>
@@ -135,7 +147,6 @@ fn work(op: &Op, stack: &mut [Word], top: usize) -> Result<usize, Trap>
     match op {
         Op::PushInt(number) => Ok(push_integer(*number, stack, top)),
         Op::PushLog(value) => Ok(push_truth(*value, stack, top)),
-        Op::Spot(first, size) => Ok(push_spot(*first, *size, stack, top)),
         Op::Add => both(Operator::Add, stack, top),
         Op::Sub => both(Operator::Sub, stack, top),
         Op::Mul => both(Operator::Mul, stack, top),
@@ -248,6 +259,25 @@ pub(crate) fn run_code<S: Source, K: Sink>(
                     counted(executed, from, pc),
                 ),
             },
+            Role::Spots(first, size) => {
+                prove!(pc + 1 < ops.len());
+                if is_load(&ops[pc + 1]) {
+                    match variable(first, stack, top, cells) {
+                        Ok(rest) => {
+                            top = rest;
+                            pc += 2;
+                        }
+                        Err(trap) => return over(
+                            End::Trapped(trap, place),
+                            left,
+                            counted(executed, from, pc + 1),
+                        ),
+                    }
+                } else {
+                    top = push_spot(first, size, stack, top);
+                    pc += 1;
+                }
+            }
             Role::Works => match work(op, stack, top) {
                 Ok(rest) => {
                     top = rest;

@@ -17,15 +17,15 @@ overflow_sub-subscripts c =
     let within = m.within in
     omega arith
 
-pub far_of-requires-clause-subscripts : goal.far_of-requires-clause-subscripts
-far_of-requires-clause-subscripts c =
+pub far_by-requires-clause-subscripts : goal.far_by-requires-clause-subscripts
+far_by-requires-clause-subscripts c =
     let m = c.requires in
     let tall = element_tall c.args.count c.args.stack.now c.args.top m.within _ m.plans m.core m.world m.stand m.right in
     let within = m.within in
     omega arith
 
-pub far_of-requires-clause-sizes : goal.far_of-requires-clause-sizes
-far_of-requires-clause-sizes c =
+pub far_by-requires-clause-sizes : goal.far_by-requires-clause-sizes
+far_by-requires-clause-sizes c =
     let m = c.requires in
     let tall = element_tall c.args.count c.args.stack.now c.args.top m.within _ m.plans m.core m.world m.stand m.right in
     let within = m.within in

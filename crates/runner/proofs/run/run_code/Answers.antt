@@ -8,6 +8,7 @@ use Rattle.runner.specs.Endings.{IsEnd}
 use Rattle.runner.specs.Running.{HasUnits, is_apart}
 use Rattle.runner.proofs.Measure.{nearer_begun, nearer_call, nearer_return}
 use Rattle.runner.proofs.Opening.{is_straight}
+use Rattle.runner.proofs.SpotArms as spots
 use Rattle.runner.proofs.Turn as turn
 use Rattle.runner.proofs.Calls as calls
 use Rattle.runner.proofs.RecordArms.{may_act, acts_on, acts_over}
@@ -89,6 +90,94 @@ pub returns-in-Err : goal.returns-in-Err
 returns-in-Err g c =
     let at = turn.stands c.requires.ready.valid c.valid_is_safe.ensures c.turn.invariant.turn c.index-ops-pc.result c.deref-ops.result.now c.deref-ops.ensures.value c.index-ops-pc.is in
     answered g.S.Source.left g.K.Sink.puts g.S.Source.faults g.K.Sink.faults c.args.input.now c.turn.input c.args.out.now c.turn.out c.args.code.now c.args.steps _ _ _ _ c.over-in-Err.ensures (whole c.turn.invariant c.requires.unread _ _ _ (turn.leaps_over c.requires.ready.valid c.valid_is_safe.ensures c.turn.invariant.turn at c.counted-in-Err.ensures c.in-Err.ensures.leaps))
+
+pub prove-unreachable-requires-in-Spots : goal.prove-unreachable-requires-in-Spots
+prove-unreachable-requires-in-Spots g c =
+    let at = turn.stands c.requires.ready.valid c.valid_is_safe.ensures c.turn.invariant.turn c.index-ops-pc.result c.deref-ops.result.now c.deref-ops.ensures.value c.index-ops-pc.is in
+    let here = at ∙ ap Some (roles.told (role.Spots c.in-Spots.first c.in-Spots.size) (instruction_of c.index-ops-pc.result) (sym c.in-Spots.is ∙ c.role_of.ensures)) in
+    let room = subst (λ n. suc c.args.code.now.depth * c.args.code.now.stack ≤ n) (sym c.turn.auto.stack) c.requires.ready.room in
+    let in_code = spots.next_within c.requires.ready.valid c.valid_is_safe.ensures c.requires.ready.few c.turn.invariant.turn room c.in-Spots.first c.in-Spots.size here in
+    let same = ap length c.deref-ops.ensures.value in
+    omega (arith, in_code, same)
+
+pub variable-requires-clause-unit : goal.variable-requires-clause-unit
+variable-requires-clause-unit g c =
+    let at = turn.stands c.requires.ready.valid c.valid_is_safe.ensures c.turn.invariant.turn c.index-ops-pc.result c.deref-ops.result.now c.deref-ops.ensures.value c.index-ops-pc.is in
+    let here = at ∙ ap Some (roles.told (role.Spots c.in-Spots.first c.in-Spots.size) (instruction_of c.index-ops-pc.result) (sym c.in-Spots.is ∙ c.role_of.ensures)) in
+    let room = subst (λ n. suc c.args.code.now.depth * c.args.code.now.stack ≤ n) (sym c.turn.auto.stack) c.requires.ready.room in
+    spots.unit_there c.requires.ready.valid c.valid_is_safe.ensures c.requires.ready.few c.turn.invariant.turn room c.in-Spots.first c.in-Spots.size here
+
+pub variable-requires-clause-room : goal.variable-requires-clause-room
+variable-requires-clause-room g c =
+    let at = turn.stands c.requires.ready.valid c.valid_is_safe.ensures c.turn.invariant.turn c.index-ops-pc.result c.deref-ops.result.now c.deref-ops.ensures.value c.index-ops-pc.is in
+    let here = at ∙ ap Some (roles.told (role.Spots c.in-Spots.first c.in-Spots.size) (instruction_of c.index-ops-pc.result) (sym c.in-Spots.is ∙ c.role_of.ensures)) in
+    let room = subst (λ n. suc c.args.code.now.depth * c.args.code.now.stack ≤ n) (sym c.turn.auto.stack) c.requires.ready.room in
+    spots.has_room c.requires.ready.valid c.valid_is_safe.ensures c.requires.ready.few c.turn.invariant.turn room c.in-Spots.first c.in-Spots.size here
+
+pub turn-smaller-in-Ok-variable : goal.turn-smaller-in-Ok-variable
+turn-smaller-in-Ok-variable g c =
+    let at = turn.stands c.requires.ready.valid c.valid_is_safe.ensures c.turn.invariant.turn c.index-ops-pc.result c.deref-ops.result.now c.deref-ops.ensures.value c.index-ops-pc.is in
+    let here = at ∙ ap Some (roles.told (role.Spots c.in-Spots.first c.in-Spots.size) (instruction_of c.index-ops-pc.result) (sym c.in-Spots.is ∙ c.role_of.ensures)) in
+    let room = subst (λ n. suc c.args.code.now.depth * c.args.code.now.stack ≤ n) (sym c.turn.auto.stack) c.requires.ready.room in
+    let after = spots.after c.requires.ready.valid c.valid_is_safe.ensures c.requires.ready.few c.turn.invariant.turn room c.in-Spots.first c.in-Spots.size here in
+    let next = turn.stands c.requires.ready.valid c.valid_is_safe.ensures after c.index-ops-pc-in-Spots.result c.deref-ops.result.now c.deref-ops.ensures.value c.index-ops-pc-in-Spots.is in
+    let load_at = next ∙ ap Some (c.is_load.ensures c.if-is_load.true) in
+    spots.loads_nearer c.requires.ready.valid c.valid_is_safe.ensures c.requires.ready.few c.turn.invariant.turn room c.in-Spots.first c.in-Spots.size here load_at
+
+pub turn-preserved-in-Ok-variable : goal.turn-preserved-in-Ok-variable
+turn-preserved-in-Ok-variable g c =
+    let at = turn.stands c.requires.ready.valid c.valid_is_safe.ensures c.turn.invariant.turn c.index-ops-pc.result c.deref-ops.result.now c.deref-ops.ensures.value c.index-ops-pc.is in
+    let here = at ∙ ap Some (roles.told (role.Spots c.in-Spots.first c.in-Spots.size) (instruction_of c.index-ops-pc.result) (sym c.in-Spots.is ∙ c.role_of.ensures)) in
+    let room = subst (λ n. suc c.args.code.now.depth * c.args.code.now.stack ≤ n) (sym c.turn.auto.stack) c.requires.ready.room in
+    let after = spots.after c.requires.ready.valid c.valid_is_safe.ensures c.requires.ready.few c.turn.invariant.turn room c.in-Spots.first c.in-Spots.size here in
+    let next = turn.stands c.requires.ready.valid c.valid_is_safe.ensures after c.index-ops-pc-in-Spots.result c.deref-ops.result.now c.deref-ops.ensures.value c.index-ops-pc-in-Spots.is in
+    let load_at = next ∙ ap Some (c.is_load.ensures c.if-is_load.true) in
+    keeps_on c.turn.invariant (spots.loads_on c.requires.ready.valid c.valid_is_safe.ensures c.requires.ready.few c.turn.invariant.turn room c.in-Spots.first c.in-Spots.size here load_at (c.in-Ok-variable.ensures.works c.in-Spots.size) c.in-Ok-variable.ensures.room)
+
+pub returns-in-Err-variable : goal.returns-in-Err-variable
+returns-in-Err-variable g c =
+    let at = turn.stands c.requires.ready.valid c.valid_is_safe.ensures c.turn.invariant.turn c.index-ops-pc.result c.deref-ops.result.now c.deref-ops.ensures.value c.index-ops-pc.is in
+    let here = at ∙ ap Some (roles.told (role.Spots c.in-Spots.first c.in-Spots.size) (instruction_of c.index-ops-pc.result) (sym c.in-Spots.is ∙ c.role_of.ensures)) in
+    let room = subst (λ n. suc c.args.code.now.depth * c.args.code.now.stack ≤ n) (sym c.turn.auto.stack) c.requires.ready.room in
+    let after = spots.after c.requires.ready.valid c.valid_is_safe.ensures c.requires.ready.few c.turn.invariant.turn room c.in-Spots.first c.in-Spots.size here in
+    let next = turn.stands c.requires.ready.valid c.valid_is_safe.ensures after c.index-ops-pc-in-Spots.result c.deref-ops.result.now c.deref-ops.ensures.value c.index-ops-pc-in-Spots.is in
+    let load_at = next ∙ ap Some (c.is_load.ensures c.if-is_load.true) in
+    answered g.S.Source.left g.K.Sink.puts g.S.Source.faults g.K.Sink.faults c.args.input.now c.turn.input c.args.out.now c.turn.out c.args.code.now c.args.steps _ _ _ _ c.over-in-Err-variable.ensures (whole c.turn.invariant c.requires.unread _ _ _ (turn.holds_over c.requires.ready.valid c.valid_is_safe.ensures after load_at c.counted-in-Err-variable.ensures (c.in-Err-variable.ensures.works c.in-Spots.size)))
+
+pub push_spot-top-requires-clause-some : goal.push_spot-top-requires-clause-some
+push_spot-top-requires-clause-some g c =
+    let at = turn.stands c.requires.ready.valid c.valid_is_safe.ensures c.turn.invariant.turn c.index-ops-pc.result c.deref-ops.result.now c.deref-ops.ensures.value c.index-ops-pc.is in
+    let here = at ∙ ap Some (roles.told (role.Spots c.in-Spots.first c.in-Spots.size) (instruction_of c.index-ops-pc.result) (sym c.in-Spots.is ∙ c.role_of.ensures)) in
+    let room = subst (λ n. suc c.args.code.now.depth * c.args.code.now.stack ≤ n) (sym c.turn.auto.stack) c.requires.ready.room in
+    (spots.ranges c.requires.ready.valid c.valid_is_safe.ensures c.requires.ready.few c.turn.invariant.turn room c.in-Spots.first c.in-Spots.size here).0
+
+pub push_spot-top-requires-clause-few : goal.push_spot-top-requires-clause-few
+push_spot-top-requires-clause-few g c =
+    let at = turn.stands c.requires.ready.valid c.valid_is_safe.ensures c.turn.invariant.turn c.index-ops-pc.result c.deref-ops.result.now c.deref-ops.ensures.value c.index-ops-pc.is in
+    let here = at ∙ ap Some (roles.told (role.Spots c.in-Spots.first c.in-Spots.size) (instruction_of c.index-ops-pc.result) (sym c.in-Spots.is ∙ c.role_of.ensures)) in
+    let room = subst (λ n. suc c.args.code.now.depth * c.args.code.now.stack ≤ n) (sym c.turn.auto.stack) c.requires.ready.room in
+    (spots.ranges c.requires.ready.valid c.valid_is_safe.ensures c.requires.ready.few c.turn.invariant.turn room c.in-Spots.first c.in-Spots.size here).1
+
+pub push_spot-top-requires-clause-work : goal.push_spot-top-requires-clause-work
+push_spot-top-requires-clause-work g c =
+    let at = turn.stands c.requires.ready.valid c.valid_is_safe.ensures c.turn.invariant.turn c.index-ops-pc.result c.deref-ops.result.now c.deref-ops.ensures.value c.index-ops-pc.is in
+    let here = at ∙ ap Some (roles.told (role.Spots c.in-Spots.first c.in-Spots.size) (instruction_of c.index-ops-pc.result) (sym c.in-Spots.is ∙ c.role_of.ensures)) in
+    let room = subst (λ n. suc c.args.code.now.depth * c.args.code.now.stack ≤ n) (sym c.turn.auto.stack) c.requires.ready.room in
+    turn.may_work c.requires.ready.valid c.valid_is_safe.ensures c.turn.invariant.turn here room
+
+pub turn-smaller-else-is_load : goal.turn-smaller-else-is_load
+turn-smaller-else-is_load g c =
+    let at = turn.stands c.requires.ready.valid c.valid_is_safe.ensures c.turn.invariant.turn c.index-ops-pc.result c.deref-ops.result.now c.deref-ops.ensures.value c.index-ops-pc.is in
+    let here = at ∙ ap Some (roles.told (role.Spots c.in-Spots.first c.in-Spots.size) (instruction_of c.index-ops-pc.result) (sym c.in-Spots.is ∙ c.role_of.ensures)) in
+    let room = subst (λ n. suc c.args.code.now.depth * c.args.code.now.stack ≤ n) (sym c.turn.auto.stack) c.requires.ready.room in
+    turn.nearer_next c.requires.ready.valid c.valid_is_safe.ensures c.turn.invariant.turn here refl
+
+pub turn-preserved-else-is_load : goal.turn-preserved-else-is_load
+turn-preserved-else-is_load g c =
+    let at = turn.stands c.requires.ready.valid c.valid_is_safe.ensures c.turn.invariant.turn c.index-ops-pc.result c.deref-ops.result.now c.deref-ops.ensures.value c.index-ops-pc.is in
+    let here = at ∙ ap Some (roles.told (role.Spots c.in-Spots.first c.in-Spots.size) (instruction_of c.index-ops-pc.result) (sym c.in-Spots.is ∙ c.role_of.ensures)) in
+    let room = subst (λ n. suc c.args.code.now.depth * c.args.code.now.stack ≤ n) (sym c.turn.auto.stack) c.requires.ready.room in
+    keeps_on c.turn.invariant (turn.works_on c.requires.ready.valid c.valid_is_safe.ensures c.turn.invariant.turn here refl c.push_spot-top.ensures.works c.push_spot-top.ensures.room)
 
 pub work-requires-clause-ranges : goal.work-requires-clause-ranges
 work-requires-clause-ranges g c =

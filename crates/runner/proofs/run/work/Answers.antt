@@ -26,18 +26,6 @@ push_truth-requires c = record { work = subst (λ op. MayWork (instruction_of op
 pub returns-in-PushLog-clause-works : goal.returns-in-PushLog-clause-works
 returns-in-PushLog-clause-works c = subst (λ op. Works (instruction_of op) c.args.stack.now c.args.top c.push_truth.new.stack (Ok c.push_truth.result)) (sym c.in-PushLog.is) c.push_truth.ensures.works
 
-pub push_spot-requires-clause-work : goal.push_spot-requires-clause-work
-push_spot-requires-clause-work c = subst (λ op. MayWork (instruction_of op) c.args.stack.now c.args.top) c.in-Spot.is c.requires.work
-
-pub push_spot-requires-clause-some : goal.push_spot-requires-clause-some
-push_spot-requires-clause-some c = (subst (λ op. HasRange (instruction_of op)) c.in-Spot.is c.requires.ranges).0
-
-pub push_spot-requires-clause-few : goal.push_spot-requires-clause-few
-push_spot-requires-clause-few c = (subst (λ op. HasRange (instruction_of op)) c.in-Spot.is c.requires.ranges).1
-
-pub returns-in-Spot-clause-works : goal.returns-in-Spot-clause-works
-returns-in-Spot-clause-works c = subst (λ op. Works (instruction_of op) c.args.stack.now c.args.top c.push_spot.new.stack (Ok c.push_spot.result)) (sym c.in-Spot.is) c.push_spot.ensures.works
-
 pub minus-requires : goal.minus-requires
 minus-requires c = subst (λ op. MayWork (instruction_of op) c.args.stack.now c.args.top) c.in-Minus.is c.requires.work
 
