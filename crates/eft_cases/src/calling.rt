@@ -66,7 +66,7 @@ fn shown(alloc: Global, bytes: &[u8]) -> Result<String, AllocError> {
     Ok(shown)
 }
 
-/// Whether the counts of faults rose exactly where an exit code tells one. A read that fails is counted though nothing is wanted.
+/// Whether the counts of faults rose exactly where an exit code tells one. A read that fails is wanted, and so it is told.
 fn is_counted(
     code: u8,
     library: &MemLibrary,
@@ -75,12 +75,13 @@ fn is_counted(
     diag: &MemSink,
 ) -> bool {
     let fetched = library.faults() == 0;
+    let read = input.faults() == 0;
     let put = out.faults() == 0 && diag.faults() == 0;
     match code {
-        4 => !fetched && put,
-        5 => fetched && put && input.faults() != 0,
+        4 => !fetched && read && put,
+        5 => fetched && !read && put,
         6 => !put,
-        _ => fetched && put,
+        _ => fetched && read && put,
     }
 }
 

@@ -28,6 +28,8 @@ fn of_one_call(rt: HostRuntime) -> Result<(), Fail> {
             (&[], (2, 0, 0, 0), (4, "", "library fault\n")),
             (&[], (3, 0, 0, 1), (15, RECORDS, TRAP)),
             (&[], (0, 1, 0, 0), (6, "", "output fault\n")),
+            (&[], (0, 2, 0, 0), (6, "          1\n", "output fault\n")),
+            (&[], (0, 3, 0, 0), (15, RECORDS, TRAP)),
             (&[], (0, 1, 1, 0), (6, "", "")),
             (&[], (0, 0, 1, 0), (6, RECORDS, "")),
             (&[], (1, 0, 1, 0), (6, "", "")),
@@ -50,7 +52,7 @@ fn of_no_put(rt: HostRuntime) -> Result<(), Fail> {
     )
 }
 
-// A sink has as much room as the records take, or one byte less.
+// A sink has as much room as the records take, or one byte less: a record goes whole or not at all.
 #[test]
 fn of_room(rt: HostRuntime) -> Result<(), Fail> {
     let alloc = rt.alloc();
@@ -63,6 +65,6 @@ fn of_room(rt: HostRuntime) -> Result<(), Fail> {
         &[],
         none,
         23,
-        (6, "", "output fault\n"),
+        (6, "          1\n", "output fault\n"),
     )
 }

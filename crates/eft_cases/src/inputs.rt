@@ -1,6 +1,6 @@
 // Inputs in pieces, and reads that fail.
 
-use crate::calling::{Texts, expect, expect_all};
+use crate::calling::{Pieces, Texts, expect, expect_all};
 use std::test::Fail;
 
 const TWO: Texts<'static> = &[(
@@ -15,11 +15,15 @@ const ECHO: Texts<'static> = &[(
     b"10 read(5,9) k\n9 format(i3)\nwrite(6,9) k\ngoto 10\nend\n",
 )];
 
+const THREE: Pieces<'static> = &[b"  1\n", b"  2\n", b"  3\n"];
+
+const ALL: &str = "  1\n  2\n  3\n";
+
 const BOTH: &str = "   1\n   2\n";
 
 const FAULT: &str = "input fault\n";
 
-// A text that reads nothing has its input read all the same.
+// A text that reads nothing leaves its input alone: its reads may all fail.
 #[test]
 fn unwanted(rt: HostRuntime) -> Result<(), Fail> {
     expect_all(
@@ -34,7 +38,7 @@ fn unwanted(rt: HostRuntime) -> Result<(), Fail> {
     )
 }
 
-// A read that failed is remembered until a record is wanted, and a line that it cut is no record.
+// A read fails where a record is wanted, and a line that it cuts is no record. No read follows the last record that is wanted.
 #[test]
 fn failing(rt: HostRuntime) -> Result<(), Fail> {
     expect_all(
@@ -53,7 +57,7 @@ fn failing(rt: HostRuntime) -> Result<(), Fail> {
     )
 }
 
-// An input cut anywhere has the same records.
+// An input that is cut anywhere has the same records.
 #[test]
 fn pieces(rt: HostRuntime) -> Result<(), Fail> {
     let input: &[u8] = b"   1\r\n   2\r\n";
@@ -92,17 +96,26 @@ fn long_records(rt: HostRuntime) -> Result<(), Fail> {
     )
 }
 
-// A program that reads without end, of whose source the third read fails.
+// A program that reads without end, over three records: each read fails in turn, and then each put.
 #[test]
 fn endless(rt: HostRuntime) -> Result<(), Fail> {
+    let ended = "trap 6 EndOfInput at p.r:1\n";
+    let broken = "output fault\n";
     expect_all(
         &rt,
         rt.alloc(),
         ECHO,
-        &[(
-            &[b"  1\n", b"  2\n"],
-            (0, 0, 0, 3),
-            (5, "  1\n  2\n", FAULT),
-        )],
+        &[
+            (THREE, (0, 0, 0, 1), (5, "", FAULT)),
+            (THREE, (0, 0, 0, 2), (5, "  1\n", FAULT)),
+            (THREE, (0, 0, 0, 3), (5, "  1\n  2\n", FAULT)),
+            (THREE, (0, 0, 0, 4), (5, ALL, FAULT)),
+            (THREE, (0, 0, 0, 5), (16, ALL, ended)),
+            (THREE, (0, 1, 0, 0), (6, "", broken)),
+            (THREE, (0, 2, 0, 0), (6, "  1\n", broken)),
+            (THREE, (0, 3, 0, 0), (6, "  1\n  2\n", broken)),
+            (THREE, (0, 4, 0, 0), (16, ALL, ended)),
+            (&[b"  ", b"1", b"\n", b"  2\n"], (0, 0, 0, 0), (16, "  1\n  2\n", ended)),
+        ],
     )
 }

@@ -31,8 +31,11 @@ pub fn eft_in_memory(
 ) -> Status
     ensures answer { AnswersCall (AskFor (texts words.now.items)) (Some (held_bytes library.old.texts)) (HasGiven (λ source. Some source.left) (λ source. source.faults) input.old input.new) result
         (λ bytes. out.new.held ≡ out.old.held ++ bytes) (λ bytes. diag.new.held ≡ diag.old.held ++ bytes) }
-    // The program that wants a record beyond the last has read all.
+    // The program that wants a record beyond the last has read all, and a read that failed is told.
     ensures at_end { result ≡ Status.Trapped EndOfInput → input.new.left ≡ [] }
+    ensures told { result ≢ Status.OutputFault → result ≢ Status.InputFault → input.new.faults ≡ input.old.faults }
+    // Want of memory comes before anything is read or put.
+    ensures before { result ≡ Status.Memory → (input.new ≡ input.old) × (out.new.held ≡ out.old.held ++ []) }
     // With no failing fetch on its list the library is never at fault.
     ensures no_fault { library.old.failing ≡ [] → library.old.faults ≡ 0 → result ≢ Status.LibraryFault }
 {

@@ -2,8 +2,8 @@
 mod ReadWords
 mod Statuses
 mod StepNumbers
-mod ReadsInARow
-mod Puts
+mod OctalDigits
+mod Delivery
 mod Reports
 mod Decks
 mod Runs

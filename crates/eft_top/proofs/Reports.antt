@@ -1,8 +1,21 @@
--- From the report of a run to what came of the command.
-use Rattle.std.proofs.Common.{◌≡◌, ◌∙◌, ◌&&◌, if◌then◌else◌, ap, subst, sym, ℕ, Bool, true, false, List, [], ◌∷◌, Option, Some, None, refl}
+-- From what came of a run, a deck or a refusal to what came of the command.
+use Rattle.std.proofs.Common.{◌≡◌, ◌≢◌, ◌∙◌, ◌++◌, ap, subst, sym, ℕ, Bool, true, false, List, [], ◌∷◌, Option, Some, refl, inl, inr}
 use Rattle.std.specs.Prelude.{Result, Ok, Err, IfOk}
+use Rattle.std.specs.Io.KnownBytes.{IsAtEnd}
+use Rattle.std.proofs.lemmas.List.{append-nil}
+use Rattle.std.proofs.lemmas.Grind.{flat_map-append}
+use Rattle.ground.specs.declared.fault.Fault.{Fault}
+use Rattle.ground.specs.declared.place.Place.{Place}
+use Rattle.ground.specs.declared.token.Dialect.{Dialect}
+use Rattle.ground.specs.declared.trap.Trap.TheVariants.{EndOfInput}
+use Rattle.ports.specs.Records.{got_records, output_bytes}
+use Rattle.ports.specs.Puts.{PutsPrefix}
+use Rattle.f66_tree.specs.World.{Record, Shown, End, Ended, GoesOn, Done, Stopped, Trapped, IsPrefix}
 use Rattle.f66_program.specs.Linking.{Program}
-use Rattle.machine.specs.Runs.{IsRunOf, is_end_of_input}
+use Rattle.macro_define.specs.Answers.{Known}
+use Rattle.macro_define.specs.Gathered.{HasCause}
+use Rattle.macro_define.specs.declared.refusal.TextRefusal.{TextRefusal}
+use Rattle.macro_define.specs.declared.refusal.TextRefusal.TheVariants as refusals
 use Rattle.front.specs.Checked.{Meaning}
 use Rattle.front.specs.Verdict.{Refuses, Accepts, Becomes}
 use Rattle.front.specs.Programs.{IsProgramOf}
@@ -10,41 +23,128 @@ use Rattle.front.specs.Translated.{IsTranslated}
 use Rattle.front.specs.declared.translate.Translated.{Translated}
 use Rattle.deck_file.specs.Answers.{IsDeckIn}
 use Rattle.f66_tree.specs.declared.unit.Unit.{Unit as AUnit}
-use Rattle.ground.specs.declared.fault.Fault.{Fault}
-use Rattle.ground.specs.declared.token.Dialect.{Dialect}
-use Rattle.macro_define.specs.Answers.{Known}
-use Rattle.macro_define.specs.Gathered.{HasCause}
-use Rattle.macro_define.specs.declared.refusal.TextRefusal.{TextRefusal}
-use Rattle.macro_define.specs.declared.refusal.TextRefusal.TheVariants as refusals
-use Rattle.ground.specs.declared.trap.Trap.{Trap}
-use Rattle.f66_tree.specs.World.{Record, Shown, End, Ended, GoesOn, Lost, Done, Stopped, Trapped, Wrong}
+use Rattle.record_intake.specs.Intakes.{MayCome as MayCome1}
+use Rattle.runner.specs.declared.run.End.{End as TheEnd}
+use Rattle.runner.specs.declared.run.End.TheVariants as ends
+use Rattle.machine.specs.Runs.{IsRunOf}
+use Rattle.machine.specs.Streams.{RunsWhole, RunsCutOff, RunsBrokenOff, StreamsTo}
 use Rattle.eft_top.specs.Words.{Command, Cards, Deck}
 use Rattle.eft_top.specs.Causes.{NeedsNoInput}
-use Rattle.eft_top.specs.declared.status.Status.{Status}
-use Rattle.eft_top.specs.declared.status.Status.TheVariants.{Done as IsDone, Stopped as IsStopped, Trapped as IsTrapped, StepLimit, InputFault}
-use Rattle.eft_top.specs.Story.{CameOf, NotFetched, NoMemory, Shows}
+use Rattle.eft_top.specs.declared.status.Status.TheVariants as statuses
 use Rattle.eft_top.specs.declared.report.Report.{Report}
-use Rattle.eft_top.specs.Input.{Got, is_too_long, is_unread, records_of}
-use Rattle.eft_top.specs.Outcome.{Outcome, HasFault, HasLongInput, Runs, IsRun, RunsIn, ComesOf, DeckComesOf, IsOutcomeOf, end_status}
-use Rattle.eft_top.specs.Report.{IsReport, ReportsIn, ReportsOn, ReportsRefusal}
+use Rattle.eft_top.specs.Input.{Got, Unread, Nothing, Broken, HasGiven, HasGot, HasRead, is_unread}
+use Rattle.eft_top.specs.Outcome.{Outcome, HasFault, HasDeck, Runs, IsRun, RunsOver, ComesOf, DeckComesOf, IsOutcomeOf, IsOutcomeBy, end_status, end_line}
+use Rattle.eft_top.specs.Report.{ReportsRefusal, line_bytes, status_at, line_at}
+use Rattle.eft_top.specs.Story.{HasPut, HasBroken, Shows, AllPut, BrokenOff, Prints, CameOf, NotFetched, NoMemory, Came}
+use Rattle.eft_top.proofs.Delivery.{longer}
 
 pub if_ok : {T E : Type 0} {P Q : T → Type 0} → ((t : T) → P t → Q t) → (r : Result T E) → IfOk r P → IfOk r Q
 if_ok by (Ok t) p = by t p
 if_ok by (Err e) p = tt
 
--- ---- runs ----
+-- ---- the run of linked units ----
 
-module _ (report : Report) (files : List (List ℕ)) (made : Program) (limit : ℕ) (got : Got) (P : Shown → Type 0) where
-  -- what holds of the run that is shown
-  abbrev Holds : Type 0
-  Holds = (shown : Shown) → IsRunOf made (records_of got) limit shown → P shown
+module _ {S K : Type 0} (left : S → Option (List ℕ)) (puts : K → List ℕ → K → Type 0) (faults : S → ℕ) (failures : K → ℕ) (i0 i1 : S) (o0 o1 : K) (files : List (List ℕ)) (made : Program) (limit begun executed : ℕ) where
+  abbrev pub Over : (Got → Type 0) → Outcome → Type 0
+  Over given outcome = RunsOver files (λ records. IsRunOf made records limit) limit given outcome
 
-  told_by : Holds → (long : Bool) → ReportsIn long report files made limit got → (o : Outcome) × RunsIn long files P limit got o × IsReport report o
-  told_by holds true reports = (HasLongInput, refl, reports)
-  told_by holds false reports = (Runs files limit got.failed reports.0, (reports.0, holds reports.0 reports.1, refl), reports.2)
+  abbrev pub Shown1 : Report → Type 0
+  Shown1 report = Shows Over (HasGiven left faults i0 i1) (HasGot left i0 i1) (HasPut puts failures o0 o1) (HasBroken puts failures o0 o1) report
 
-  told_of : Holds → ReportsOn report files made limit got → (o : Outcome) × RunsIn (is_too_long got) files P limit got o × IsReport report o
-  told_of holds reports = told_by holds (is_too_long got) reports
+  whole : (end : End) → RunsWhole left puts faults failures i0 i1 o0 o1 made limit end begun executed → (report : Report) → Some report.status ≡ end_status false end → line_bytes report.line ≡ end_line files limit false end → Shown1 report
+  whole end h report status line = by h.ended h.at_end h.told h.runs
+    where
+      shown : Shown
+      shown = record { records = h.written; end = end; work = begun }
+
+      by : (ended : Bool) → (ended ≡ true → IsAtEnd (left i1)) → ((place : Place) → end ≡ Ended (Trapped EndOfInput place) → ended ≡ true) → ((failed : Bool) (later : List ℕ) → MayCome1 ended failed later → IsRunOf made (got_records failed (h.got ++ later)) limit shown) → Shown1 report
+      by true at_end told runs =
+          AllPut (Runs files limit false shown)
+          (record { bytes = h.got; behind = Nothing }, record { bytes = h.consumes; counts = h.steady.input; end = λ e. at_end refl }, shown, runs, tt, refl)
+          (record { all = h.sent; steady = h.steady.out })
+          (record { status = status; line = line })
+      by false at_end told runs =
+          AllPut (Runs files limit false shown)
+          (record { bytes = h.got; behind = Unread }, record { bytes = h.consumes; counts = h.steady.input; end = λ e. cc }, shown, runs, (λ place is. let no : false ≡ true = told place is in cc), refl)
+          (record { all = h.sent; steady = h.steady.out })
+          (record { status = status; line = line })
+
+  cut_off : RunsCutOff left puts faults failures i0 i1 o0 o1 made limit begun executed → (report : Report) → report.status ≡ statuses.InputFault → line_bytes report.line ≡ line_at files limit ends.InputFault → Shown1 report
+  cut_off h report status line =
+      AllPut (Runs files limit true shown)
+      (record { bytes = h.got; behind = Broken }, record { bytes = h.consumes; counts = h.input; end = λ e. cc }, shown, runs, (h.place, refl), refl)
+      (record { all = h.sent; steady = h.out })
+      (record { status = ap Some status; line = line })
+    where
+      shown : Shown
+      shown = record { records = h.written; end = Ended (Trapped EndOfInput h.place); work = begun }
+
+      runs : (failed : Bool) (later : List ℕ) → (failed ≡ true) × (later ≡ []) → IsRunOf made (got_records failed (h.got ++ later)) limit shown
+      runs failed later may =
+          subst (λ (cut : Bool). IsRunOf made (got_records cut (h.got ++ later)) limit shown) (sym may.0)
+          (subst (λ (bytes : List ℕ). IsRunOf made (got_records true bytes) limit shown) (sym (ap (λ (l : List ℕ). h.got ++ l) may.1 ∙ append-nil h.got)) h.runs)
+
+  broken_off : RunsBrokenOff left puts faults failures i0 i1 o0 o1 made limit → (report : Report) → report.status ≡ statuses.OutputFault → line_bytes report.line ≡ line_at files limit ends.OutputFault → Shown1 report
+  broken_off h report status line =
+      BrokenOff (Runs files limit false shown)
+      (record { bytes = h.got; behind = Nothing }, h.consumes, shown, runs, tt, refl)
+      (record { front = subst (λ (bytes : List ℕ). PutsPrefix puts o0 bytes o1) more (longer puts failures o0 o1 (output_bytes h.written) (output_bytes begins.rest) h.sent); cause = h.out })
+      (record { status = status; line = line })
+    where
+      shown : Shown
+      shown = h.some.0
+
+      begins : IsPrefix h.written shown.records
+      begins = h.begins shown h.some.1
+
+      more : output_bytes h.written ++ output_bytes begins.rest ≡ output_bytes shown.records
+      more = sym (flat_map-append (λ record_bytes. record_bytes ++ 10 ∷ []) h.written begins.rest) ∙ ap output_bytes begins.is
+
+      runs : (failed : Bool) (later : List ℕ) → (failed ≡ false) × (later ≡ []) → IsRunOf made (got_records failed (h.got ++ later)) limit shown
+      runs failed later may =
+          subst (λ (cut : Bool). IsRunOf made (got_records cut (h.got ++ later)) limit shown) (sym may.0)
+          (subst (λ (bytes : List ℕ). IsRunOf made (got_records false bytes) limit shown) (sym (ap (λ (l : List ℕ). h.got ++ l) may.1 ∙ append-nil h.got)) h.some.1)
+
+  pub run_shows : (end : TheEnd) → StreamsTo left puts faults failures i0 i1 o0 o1 made limit begun executed end → (report : Report) → report.status ≡ status_at end → line_bytes report.line ≡ line_at files limit end → Shown1 report
+  run_shows ends.Done h report status line = whole (Ended Done) h report (ap Some status) line
+  run_shows (ends.Stopped n) h report status line = whole (Ended (Stopped n)) h report (ap Some status) line
+  run_shows (ends.Trapped trap place) h report status line = whole (Ended (Trapped trap place)) h report (ap Some status) line
+  run_shows ends.StepLimit h report status line = whole GoesOn h report (ap Some status) line
+  run_shows ends.InputFault h report status line = cut_off h report status line
+  run_shows ends.OutputFault h report status line = broken_off h report status line
+
+  -- something was read, or nothing
+  pub run_reads : (end : TheEnd) → StreamsTo left puts faults failures i0 i1 o0 o1 made limit begun executed end → HasRead (left i0) (left i1)
+  run_reads ends.Done h = (h.got, h.consumes)
+  run_reads (ends.Stopped n) h = (h.got, h.consumes)
+  run_reads (ends.Trapped trap place) h = (h.got, h.consumes)
+  run_reads ends.StepLimit h = (h.got, h.consumes)
+  run_reads ends.InputFault h = (h.got, h.consumes)
+  run_reads ends.OutputFault h = (h.got, h.consumes)
+
+  -- and with any other end no read has failed
+  pub all_read : (end : TheEnd) → StreamsTo left puts faults failures i0 i1 o0 o1 made limit begun executed end → status_at end ≢ statuses.InputFault → faults i1 ≡ faults i0
+  all_read ends.Done h other = h.steady.input
+  all_read (ends.Stopped n) h other = h.steady.input
+  all_read (ends.Trapped trap place) h other = h.steady.input
+  all_read ends.StepLimit h other = h.steady.input
+  all_read ends.InputFault h other = absurd (other refl)
+  all_read ends.OutputFault h other = h.input
+
+-- a run needs its input
+pub needs_input : (end : TheEnd) → NeedsNoInput (status_at end) → ⊥
+needs_input ends.Done none = none
+needs_input (ends.Stopped n) none = none
+needs_input (ends.Trapped trap place) none = none
+needs_input ends.StepLimit none = none
+needs_input ends.InputFault none = none
+needs_input ends.OutputFault none = none
+
+-- ---- what has one outcome has another ----
+
+pub shows_so : {one other : (Got → Type 0) → Outcome → Type 0} {given got : Got → Type 0} {put broken : List ℕ → Type 0} {report : Report} → ((some : Got → Type 0) (o : Outcome) → one some o → other some o) → Shows one given got put broken report → Shows other given got put broken report
+shows_so {given = given} {got = got} by (AllPut o comes sent shows) = AllPut o (by given o comes) sent shows
+shows_so {given = given} {got = got} by (BrokenOff o comes broke says) = BrokenOff o (by got o comes) broke says
 
 -- the run of a program of a meaning is one of the meaning
 is_run : (meaning : Meaning) (made : Program) (limit : ℕ) (input : List Record) → IsProgramOf meaning made → (shown : Shown) → IsRunOf made input limit shown → IsRun meaning limit input shown
@@ -52,59 +152,44 @@ is_run meaning made limit input program shown runs =
     let linked = program.linked in
     record { made = made; program = program; is = runs.shows linked.linkage linked.links linked.codes linked.of ∙ sym (ap (λ (run : Meaning). run input limit) linked.is) }
 
--- so an accepted text comes to its run, and a deck
-pub ran_text : (report : Report) (files : List (List ℕ)) (made : Program) (meaning : Meaning) (limit : ℕ) (given : Got → Type 0) → IsProgramOf meaning made → (got : Got) × given got × ReportsOn report files made limit got
-    → (o : Outcome) × ComesOf (Accepts files meaning) limit given o × IsReport report o
-ran_text report files made meaning limit given program ran =
-    let told = told_of report files made limit ran.0 (IsRun meaning limit (records_of ran.0)) (is_run meaning made limit (records_of ran.0) program) ran.2 in
-    (told.0, (ran.0, ran.1, told.1), told.2)
+-- so an accepted text comes to its run, and a deck to its own
+pub ran_text : (files : List (List ℕ)) (made : Program) (meaning : Meaning) (limit : ℕ) → IsProgramOf meaning made → (given : Got → Type 0) (o : Outcome) → RunsOver files (λ records. IsRunOf made records limit) limit given o → ComesOf (Accepts files meaning) limit given o
+ran_text files made meaning limit program given o over = (over.0, over.1, over.2, (λ failed later may. is_run meaning made limit _ program over.2 (over.3 failed later may)), over.4, over.5)
 
-pub ran_deck : (report : Report) (made : Program) (files : List (List ℕ)) (file : List ℕ) (limit : ℕ) (given : Got → Type 0) → files ≡ file ∷ [] → (got : Got) × given got × ReportsOn report files made limit got
-    → (o : Outcome) × DeckComesOf file (Ok made) limit given o × IsReport report o
-ran_deck report made files file limit given is ran =
-    let run : Shown → Type 0 = IsRunOf made (records_of ran.0) limit in
-    let told = told_of report files made limit ran.0 run (λ shown e. e) ran.2 in
-    (told.0, (ran.0, ran.1, subst (λ files. RunsIn (is_too_long ran.0) files run limit ran.0 told.0) is told.1), told.2)
+pub ran_deck : (made : Program) (files : List (List ℕ)) (file : List ℕ) (limit : ℕ) → files ≡ file ∷ [] → (given : Got → Type 0) (o : Outcome) → RunsOver files (λ records. IsRunOf made records limit) limit given o → DeckComesOf file (Ok made) limit given o
+ran_deck made files file limit is given o over = subst (λ (names : List (List ℕ)). RunsOver names (λ records. IsRunOf made records limit) limit given o) is over
 
--- ---- what a run needs ----
+-- ---- a deck that is put ----
 
-same_status : (s t : Status) → Some s ≡ Some t → s ≡ t
-same_status s t e = cc
-
-trapped_needs : (cut : Bool) (trap : Trap) (s : Status) → Some s ≡ Some (if cut then InputFault else IsTrapped trap) → NeedsNoInput s → ⊥
-trapped_needs true trap s e none = subst (λ t. NeedsNoInput t) (same_status s InputFault e) none
-trapped_needs false trap s e none = subst (λ t. NeedsNoInput t) (same_status s (IsTrapped trap) e) none
-
--- a run has read its input
-pub needs_input : (failed : Bool) (end : End) (s : Status) → Some s ≡ end_status failed end → NeedsNoInput s → ⊥
-needs_input failed (Ended Done) s e none = subst (λ t. NeedsNoInput t) (same_status s IsDone e) none
-needs_input failed (Ended (Stopped n)) s e none = subst (λ t. NeedsNoInput t) (same_status s (IsStopped n) e) none
-needs_input failed (Ended (Trapped trap place)) s e none = trapped_needs (failed && is_end_of_input trap) trap s e none
-needs_input failed (Ended Wrong) s e none = let f : Some s ≡ None = e in cc
-needs_input failed GoesOn s e none = subst (λ t. NeedsNoInput t) (same_status s StepLimit e) none
-needs_input failed Lost s e none = let f : Some s ≡ None = e in cc
+pub prints_shows : (deck : List ℕ) (comes : (Got → Type 0) → Outcome → Type 0) → ((given : Got → Type 0) → comes given (HasDeck deck)) → (given got : Got → Type 0) (put broken : List ℕ → Type 0) (report : Report) → Prints deck put broken report → Shows comes given got put broken report
+prints_shows deck comes is given got put broken report (inl done) = AllPut (HasDeck deck) (is given) done.0 (record { status = ap Some done.1.status; line = done.1.line })
+prints_shows deck comes is given got put broken report (inr broke) = BrokenOff (HasDeck deck) (is got) broke.0 broke.1
 
 -- ---- a refusal ----
 
 -- a command that comes to a text's fault where the text has one
-pub refused_came : (command : Command) (d : Dialect) (file : List ℕ) (files : Option (List ℕ → Option (List ℕ))) (before now : ℕ) (given : Got → Type 0) (refusal : TextRefusal) (report : Report) →
+pub refused_came : (command : Command) (d : Dialect) (file : List ℕ) (files : Option (List ℕ → Option (List ℕ))) (before now : ℕ) (given got : Got → Type 0) (put broken : List ℕ → Type 0) (refusal : TextRefusal) (report : Report) →
     ((fault : Fault) (name : List ℕ) (known : Known) → Becomes d file known (Refuses fault name) → IsOutcomeOf command known given (HasFault fault name)) →
-    IsTranslated files d file (Err refusal) → HasCause {B = Translated} before now (Err refusal) → ReportsRefusal refusal report → CameOf command files before now given report
-refused_came command d file files before now given (refusals.Fault fault name) report comes text cause shows = Shows (HasFault fault name) (text.known, text.of, comes fault name text.known text.gives) cause shows
-refused_came command d file files before now given refusals.Library report comes text cause shows = NotFetched cause shows
-refused_came command d file files before now given refusals.Memory report comes text cause shows = absurd shows
+    IsTranslated files d file (Err refusal) → HasCause {B = Translated} before now (Err refusal) → put [] → ReportsRefusal refusal report → CameOf command files before now given got put broken report
+refused_came command d file files before now given got put broken (refusals.Fault fault name) report comes text cause none shows = Came cause (AllPut (HasFault fault name) (text.known, text.of, comes fault name text.known text.gives) none shows)
+refused_came command d file files before now given got put broken refusals.Library report comes text cause none shows = NotFetched cause none shows
+refused_came command d file files before now given got put broken refusals.Memory report comes text cause none shows = absurd shows
 
 -- the same of a deck
-pub refused_deck : (limit : ℕ) (file : List ℕ) (files : Option (List ℕ → Option (List ℕ))) (before now : ℕ) (given : Got → Type 0) (refusal : TextRefusal) (report : Report) →
-    IsDeckIn files file (Err refusal) → HasCause {B = AUnit} before now (Err refusal) → ReportsRefusal refusal report → CameOf (Deck limit file) files before now given report
-refused_deck limit file files before now given (refusals.Fault fault name) report deck cause shows =
-    Shows (HasFault fault name) (deck.known, deck.of, (Err fault, deck.gives.0, ap (λ n. HasFault fault n) deck.gives.1)) cause shows
-refused_deck limit file files before now given refusals.Library report deck cause shows = NotFetched cause shows
-refused_deck limit file files before now given refusals.Memory report deck cause shows = absurd shows
+pub refused_deck : (limit : ℕ) (file : List ℕ) (files : Option (List ℕ → Option (List ℕ))) (before now : ℕ) (given got : Got → Type 0) (put broken : List ℕ → Type 0) (refusal : TextRefusal) (report : Report) →
+    IsDeckIn files file (Err refusal) → HasCause {B = AUnit} before now (Err refusal) → put [] → ReportsRefusal refusal report → CameOf (Deck limit file) files before now given got put broken report
+refused_deck limit file files before now given got put broken (refusals.Fault fault name) report deck cause none shows =
+    Came cause (AllPut (HasFault fault name) (deck.known, deck.of, (Err fault, deck.gives.0, ap (λ n. HasFault fault n) deck.gives.1)) none shows)
+refused_deck limit file files before now given got put broken refusals.Library report deck cause none shows = NotFetched cause none shows
+refused_deck limit file files before now given got put broken refusals.Memory report deck cause none shows = absurd shows
 
 -- cards do not ask for reads
-pub unread_came : (d : Dialect) (file : List ℕ) (files : Option (List ℕ → Option (List ℕ))) (before now : ℕ) (given : Got → Type 0) (report : Report) →
-    CameOf (Cards d file) files before now is_unread report → CameOf (Cards d file) files before now given report
-unread_came d file files before now given report (NotFetched rose says) = NotFetched rose says
-unread_came d file files before now given report (NoMemory says) = NoMemory says
-unread_came d file files before now given report (Shows o is same shows) = Shows o is same shows
+unread_so : (d : Dialect) (file : List ℕ) (files : Option (List ℕ → Option (List ℕ))) (given got one other : Got → Type 0) (put broken : List ℕ → Type 0) (report : Report) → Shows (IsOutcomeBy (Cards d file) files) given got put broken report → Shows (IsOutcomeBy (Cards d file) files) one other put broken report
+unread_so d file files given got one other put broken report (AllPut o is sent shows) = AllPut o is sent shows
+unread_so d file files given got one other put broken report (BrokenOff o is broke says) = BrokenOff o is broke says
+
+pub unread_came : (d : Dialect) (file : List ℕ) (files : Option (List ℕ → Option (List ℕ))) (before now : ℕ) (given got : Got → Type 0) (put broken : List ℕ → Type 0) (report : Report) →
+    CameOf (Cards d file) files before now is_unread is_unread put broken report → CameOf (Cards d file) files before now given got put broken report
+unread_came d file files before now given got put broken report (NotFetched rose none says) = NotFetched rose none says
+unread_came d file files before now given got put broken report (NoMemory none says) = NoMemory none says
+unread_came d file files before now given got put broken report (Came same shows) = Came same (unread_so d file files is_unread is_unread given got put broken report shows)

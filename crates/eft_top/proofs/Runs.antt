@@ -1,7 +1,8 @@
 -- From what `eft` answers to the laws of runs.
-use Rattle.std.proofs.Common.{◌≡◌, ℕ, ◌+◌, ◌*◌, ◌≤◌, Bool, true, false, List, [], ◌∷◌, ◌++◌, append_assoc, ◌⊎◌, inl, inr, refl, sym, ◌∙◌, ap, subst, Some, None}
+use Rattle.std.proofs.Common.{◌≡◌, ◌≢◌, ℕ, ◌+◌, ◌*◌, ◌≤◌, Bool, false, List, [], ◌∷◌, ◌++◌, append_assoc, ◌⊎◌, inl, inr, refl, sym, ◌∙◌, ap, subst, Some, None}
 use Rattle.std.specs.declared.option.Option.{Option}
-use Rattle.ports.specs.Records.{output_bytes}
+use Rattle.std.specs.Io.KnownBytes.{Consumes, IsAtEnd}
+use Rattle.ports.specs.Records.{input_records, output_bytes}
 use Rattle.f66_program.specs.Linking.{Program}
 use Rattle.f66_tree.specs.World.{Record, Shown, IsPrefix, Finish, End, Ended, GoesOn, Lost}
 use Rattle.f66_tree.specs.Agreement.{Same}
@@ -13,12 +14,12 @@ use Rattle.front.specs.Verdict.{Accepts, Becomes}
 use Rattle.front.specs.Laws.{OneVerdict}
 use Rattle.front.specs.Programs.{AreLinked}
 use Rattle.eft_top.specs.declared.status.Status.{Status}
-use Rattle.eft_top.specs.declared.status.Status.TheVariants.{Done, Usage, SourceFault, LibraryFault, InputFault, OutputFault, StepLimit, Memory, Stopped, InputTooLong, Trapped}
-use Rattle.eft_top.specs.Input.{Got, is_too_long, records_of}
+use Rattle.eft_top.specs.declared.status.Status.TheVariants.{Done, Usage, SourceFault, LibraryFault, InputFault, OutputFault, StepLimit, Memory, Stopped, Trapped}
+use Rattle.eft_top.specs.Input.{Got, Behind, Unread, Nothing, Broken, is_broken, MayCome, MayHave, OfEach}
 use Rattle.eft_top.specs.Words.{Command, Run}
-use Rattle.eft_top.specs.Outcome.{Outcome, IsRun, RunsIn, ComesOf, IsOutcomeBy, status_of, out_of, diag_line, end_status, end_line}
+use Rattle.eft_top.specs.Outcome.{Outcome, IsRun, RunsOver, ComesOf, IsOutcomeBy, status_of, out_of, diag_line, end_status, end_line}
 use Rattle.eft_top.specs.Causes.{IsOneOf, IsOfText}
-use Rattle.eft_top.specs.Laws.{IsRunOf, Presents, IsMeant, MissesNothing, RunShowsMeaning, RunMissesNothing}
+use Rattle.eft_top.specs.Laws.{IsRunOf, Presents, IsMeant, MissesNothing, RunShowsMeaning, RunMissesNothing, InputIsWhole}
 use Rattle.eft_top.proofs.ReadWords.{one_command}
 
 some_injective : {a b : Status} → Some a ≡ Some b → a ≡ b
@@ -39,88 +40,82 @@ module _ (verdicts : OneVerdict) (words : List (List ℕ)) (limit : ℕ) (langua
   -- a run that the call presents
   record Ran (got : Got) : Type 0 where
     pub run : Shown
-    pub is : IsRun meaning limit (records_of got) run
-    pub presents : Presents files limit got.failed run result out diag
+    pub is : OfEach got (λ records. IsRun meaning limit records run)
+    pub presents : Presents files limit (is_broken got.behind) run result out diag
 
-  ran_in : (got : Got) (o : Outcome) (long : Bool) → is_too_long got ≡ long → RunsIn long files (IsRun meaning limit (records_of got)) limit got o → Some result ≡ status_of o → out (out_of o) → diag (diag_line o) →
-      ((is_too_long got ≡ true) × (result ≡ InputTooLong)) ⊎ Ran got
-  ran_in got o true e over s p d = inl (e, some_injective (s ∙ ap status_of over))
-  ran_in got o false e over s p d = inr (record {
-    run = over.0;
-    is = over.1;
-    presents = record {
-      status = s ∙ ap status_of over.2;
-      on_out = subst (λ (x : Outcome). out (out_of x)) over.2 p;
-      on_diag = subst (λ (x : Outcome). diag (diag_line x)) over.2 d;
-    };
-  })
-
-  ran_by : (o : Outcome) → (h : IsRunOf words limit language file held files meaning given result out diag) → IsOutcomeBy (Run limit language file) (Some held) given o → (got : Got) × given got × RunsIn (is_too_long got) files (IsRun meaning limit (records_of got)) limit got o
+  ran_by : (o : Outcome) → (h : IsRunOf words limit language file held files meaning given result out diag) → IsOutcomeBy (Run limit language file) (Some held) given o → RunsOver files (IsRun meaning limit) limit given o
   ran_by o h is =
       let told = subst (λ (k : Known). Becomes language file k is.2.0) is.1 is.2.1 in
       let same = verdicts language file (Holds held) is.2.0 (Accepts files meaning) told h.accepted in
       subst (λ v. ComesOf v limit given o) same is.2.2
 
-  ran : IsRunOf words limit language file held files meaning given result out diag → IsOfText result → (got : Got) × given got × (((is_too_long got ≡ true) × (result ≡ InputTooLong)) ⊎ Ran got)
+  ran : IsRunOf words limit language file held files meaning given result out diag → IsOfText result → (got : Got) × given got × Ran got
   ran h text =
       let shown = h.answer.shown text in
       let is : IsOutcomeBy (Run limit language file) (Some held) given shown.outcome =
       subst (λ (c : Command). IsOutcomeBy c (Some held) given shown.outcome) (one_command words shown.is.0 (Run limit language file) shown.is.1 h.asks) shown.is.2 in
-      let r = ran_by shown.outcome h is in
-      (r.0, r.1, ran_in r.0 shown.outcome (is_too_long r.0) refl r.2 shown.status shown.on_out shown.on_diag)
+      let r = ran_by shown.outcome h is in (
+        r.0,
+        r.1,
+        record {
+          run = r.2;
+          is = r.3;
+          presents = record {
+            status = shown.status ∙ ap status_of r.5;
+            on_out = subst (λ (x : Outcome). out (out_of x)) r.5 shown.on_out;
+            on_diag = subst (λ (x : Outcome). diag (diag_line x)) r.5 shown.on_diag;
+          };
+        },
+      )
 
   -- ---- what a run shows is what the text means ----
 
-  meant : (got : Got) → (r : Ran got) → IsMeant (meaning (records_of got) limit) r.run
-  meant got r = subst (λ (s : Shown). IsMeant (meaning (records_of got) limit) s) (sym r.is.is) (by (r.is.program.run (records_of got) limit).end refl)
-    where
-      by : (end : End) → (r.is.program.run (records_of got) limit).end ≡ end → IsMeant (meaning (records_of got) limit) (r.is.program.run (records_of got) limit)
-      by (Ended f) e = inl ((r.is.program.agrees (records_of got)).ended limit f e)
-      by GoesOn e = inr (e, (r.is.program.agrees (records_of got)).going limit e)
-      by Lost e = absurd (let lost : Some result ≡ None = r.presents.status ∙ (ap (λ (s : Shown). end_status got.failed s.end) r.is.is ∙ ap (end_status got.failed) e) in cc)
+  module _ (failed : Bool) (input : List Record) (run : Shown) (is : IsRun meaning limit input run) (presents : Presents files limit failed run result out diag) where
+    meant : IsMeant (meaning input limit) run
+    meant = subst (λ (s : Shown). IsMeant (meaning input limit) s) (sym is.is) (by (is.program.run input limit).end refl)
+      where
+        by : (end : End) → (is.program.run input limit).end ≡ end → IsMeant (meaning input limit) (is.program.run input limit)
+        by (Ended f) e = inl ((is.program.agrees input).ended limit f e)
+        by GoesOn e = inr (e, (is.program.agrees input).going limit e)
+        by Lost e = absurd (let lost : Some result ≡ None = presents.status ∙ (ap (λ (s : Shown). end_status failed s.end) is.is ∙ ap (end_status failed) e) in cc)
 
-  pub shows_meaning : IsRunOf words limit language file held files meaning given result out diag → IsOfText result →
-      (got : Got) × given got × (((is_too_long got ≡ true) × (result ≡ InputTooLong)) ⊎ ((run : Shown) × IsMeant (meaning (records_of got) limit) run × Presents files limit got.failed run result out diag))
-  shows_meaning h text =
-      let r = ran h text in
-      (r.0, r.1, elim r.2 [ inl long ↦ inl long | inr one ↦ inr (one.run, meant r.0 one, one.presents) ])
+    -- ---- a run misses nothing that the text means ----
 
-  -- ---- a run misses nothing that the text means ----
+    same_end : (other : Shown) → Same other run → Presents files limit failed other result out diag
+    same_end other same = record {
+      status = presents.status ∙ ap (end_status failed) (sym same.end);
+      on_out = subst (λ (xs : List Record). out (output_bytes xs)) (sym same.records) presents.on_out;
+      on_diag = subst (λ (e : End). diag (end_line files limit failed e)) (sym same.end) presents.on_diag;
+    }
 
-  same_end : (failed : Bool) (run : Shown) (other : Shown) → Same other run → Presents files limit failed run result out diag → Presents files limit failed other result out diag
-  same_end failed run other same p = record {
-    status = p.status ∙ ap (end_status failed) (sym same.end);
-    on_out = subst (λ (xs : List Record). out (output_bytes xs)) (sym same.records) p.on_out;
-    on_diag = subst (λ (e : End). diag (end_line files limit failed e)) (sym same.end) p.on_diag;
-  }
-
-  limit_stops : (got : Got) → ((b : ℕ) → (meaning (records_of got) b).end ≡ GoesOn) → (run : Shown) → IsMeant (meaning (records_of got) limit) run → end_status got.failed run.end ≡ Some StepLimit
-  limit_stops got on run (inl same) = ap (end_status got.failed) (sym same.end ∙ on limit)
-  limit_stops got on run (inr goes) = ap (end_status got.failed) goes.0
-
-  module _ (got : Got) (r : Ran got) where
-    abbrev input : List Record
-    input = records_of got
+    limit_stops : ((b : ℕ) → (meaning input b).end ≡ GoesOn) → IsMeant (meaning input limit) run → end_status failed run.end ≡ Some StepLimit
+    limit_stops on (inl same) = ap (end_status failed) (sym same.end ∙ on limit)
+    limit_stops on (inr goes) = ap (end_status failed) goes.0
 
     -- the bound at which a run has done what is meant with this bound on turns
     abbrev far : ℕ → ℕ
     far b = 32 * ((meaning input b).work + 1)
 
-    ended_so : (b : ℕ) (f : Finish) → (meaning input b).end ≡ Ended f → far b ≤ limit → Presents files limit got.failed (meaning input b) result out diag
-    ended_so b f e le =
-        same_end got.failed r.run (meaning input b) (subst (λ (s : Shown). Same (meaning input b) s) (sym r.is.is) ((r.is.program.agrees input).ended_too b f e limit le)) r.presents
+    ended_so : (b : ℕ) (f : Finish) → (meaning input b).end ≡ Ended f → far b ≤ limit → Presents files limit failed (meaning input b) result out diag
+    ended_so b f e le = same_end (meaning input b) (subst (λ (s : Shown). Same (meaning input b) s) (sym is.is) ((is.program.agrees input).ended_too b f e limit le))
 
-    goes_so : RunsExtend → (b : ℕ) → (meaning input b).end ≡ GoesOn → far b ≤ limit → IsPrefix (meaning input b).records r.run.records
+    goes_so : RunsExtend → (b : ℕ) → (meaning input b).end ≡ GoesOn → far b ≤ limit → IsPrefix (meaning input b).records run.records
     goes_so extend b e le =
-        prefix_on (meaning input b).records (r.is.program.run input (far b)).records r.run.records ((r.is.program.agrees input).going_too b e)
-        (subst (λ (s : Shown). IsPrefix (r.is.program.run input (far b)).records s.records) (sym r.is.is) (longer extend r.is.made r.is.program.run r.is.program.linked input (far b) limit le))
+        prefix_on (meaning input b).records (is.program.run input (far b)).records run.records ((is.program.agrees input).going_too b e)
+        (subst (λ (s : Shown). IsPrefix (is.program.run input (far b)).records s.records) (sym is.is) (longer extend is.made is.program.run is.program.linked input (far b) limit le))
 
-    misses_nothing : RunsExtend → MissesNothing (meaning input) files limit got.failed result out diag
+    misses_nothing : RunsExtend → MissesNothing (meaning input) files limit failed result out diag
     misses_nothing extend = record {
       ended = ended_so;
-      going = λ b e le. (r.run.records, goes_so extend b e le, r.presents.on_out);
-      endless = λ on. some_injective (r.presents.status ∙ limit_stops got on r.run (meant got r));
+      going = λ b e le. (run.records, goes_so extend b e le, presents.on_out);
+      endless = λ on. some_injective (presents.status ∙ limit_stops on meant);
     }
+
+  pub shows_meaning : IsRunOf words limit language file held files meaning given result out diag → IsOfText result →
+      (got : Got) × given got × (run : Shown) × OfEach got (λ records. IsMeant (meaning records limit) run) × Presents files limit (is_broken got.behind) run result out diag
+  shows_meaning h text =
+      let r = ran h text in
+      (r.0, r.1, r.2.run, (λ failed later may. meant (is_broken r.0.behind) _ r.2.run (r.2.is failed later may) r.2.presents), r.2.presents)
 
   -- of a text, or one of the others
   which : (s : Status) → result ≡ s → (s ≡ Usage → ⊥) → IsOneOf result (LibraryFault ∷ OutputFault ∷ Memory ∷ []) ⊎ IsOfText result
@@ -133,20 +128,15 @@ module _ (verdicts : OneVerdict) (words : List (List ℕ)) (limit : ℕ) (langua
   which StepLimit e none = inr (subst IsOfText (sym e) tt)
   which Memory e none = inl (inr (inr (inl e)))
   which (Stopped n) e none = inr (subst IsOfText (sym e) tt)
-  which InputTooLong e none = inr (subst IsOfText (sym e) tt)
   which (Trapped trap) e none = inr (subst IsOfText (sym e) tt)
 
   pub runs_whole : RunsExtend → IsRunOf words limit language file held files meaning given result out diag →
       IsOneOf result (LibraryFault ∷ OutputFault ∷ Memory ∷ [])
-      ⊎ ((got : Got) × given got × (is_too_long got ≡ false → MissesNothing (meaning (records_of got)) files limit got.failed result out diag))
+      ⊎ ((got : Got) × given got × OfEach got (λ records. MissesNothing (meaning records) files limit (is_broken got.behind) result out diag))
   runs_whole extend h = elim (which result refl (λ e. h.answer.usage.only e (Run limit language file) h.asks)) [
     | inl other ↦ inl other
-    | inr text ↦ inr (let r = ran h text in (r.0, r.1, λ short. short_one r.0 short r.2))
+    | inr text ↦ inr (let r = ran h text in (r.0, r.1, λ failed later may. misses_nothing (is_broken r.0.behind) _ r.2.run (r.2.is failed later may) r.2.presents extend))
   ]
-    where
-      short_one : (got : Got) → is_too_long got ≡ false → ((is_too_long got ≡ true) × (result ≡ InputTooLong)) ⊎ Ran got → MissesNothing (meaning (records_of got)) files limit got.failed result out diag
-      short_one got short (inl long) = absurd (let e = sym short ∙ long.0 in cc)
-      short_one got short (inr one) = misses_nothing got one extend
 
 module _ (given : Got → Type 0) (out diag : List ℕ → Type 0) where
   pub run_shows_meaning : OneVerdict → RunShowsMeaning given out diag
@@ -154,3 +144,21 @@ module _ (given : Got → Type 0) (out diag : List ℕ → Type 0) where
 
   pub run_misses_nothing : OneVerdict → RunsExtend → RunMissesNothing given out diag
   run_misses_nothing verdicts extend words limit language file held files meaning result = runs_whole verdicts words limit language file held files meaning given result out diag extend
+
+-- ---- a source that tells its bytes ----
+
+module _ {S : Type 0} (left : S → Option (List ℕ)) (faults : S → ℕ) (before after : S) where
+  told_by : (got : Got) (bytes : List ℕ) (was is : Option (List ℕ)) → was ≡ Some bytes → Consumes was is got.bytes → (got.behind ≡ Nothing → IsAtEnd is) → got.behind ≢ Broken → MayHave got (input_records bytes)
+  told_by got bytes None is e h end other = cc
+  told_by got bytes (Some all) None e h end other = absurd h
+  told_by got bytes (Some all) (Some rest) e h end other =
+      let same : all ≡ bytes = cc in
+      (false, rest, by got.behind refl, ap input_records (sym same ∙ h))
+    where
+      by : (behind : Behind) → got.behind ≡ behind → MayCome got.behind false rest
+      by Unread b = subst (λ (x : Behind). MayCome x false rest) (sym b) tt
+      by Nothing b = subst (λ (x : Behind). MayCome x false rest) (sym b) (refl, end b)
+      by Broken b = absurd (other b)
+
+  pub input_is_whole : InputIsWhole left faults before after
+  input_is_whole got bytes given told other = told_by got bytes (left before) (left after) told given.bytes given.end other

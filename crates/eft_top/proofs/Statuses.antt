@@ -1,26 +1,28 @@
 -- From what came of a call to the clauses of the top call.
-use Rattle.std.proofs.Common.{◌≡◌, ℕ, Bool, true, false, ◌&&◌, if◌then◌else◌, List, [], ◌∷◌, ◌⊎◌, inl, inr, refl, sym, ◌∙◌, ap, subst, Ok, Err, Some, None}
+use Rattle.std.specs.Prelude.{IfSome}
+use Rattle.std.proofs.Common.{◌≡◌, ◌≢◌, ℕ, Bool, true, false, ◌&&◌, if◌then◌else◌, List, [], ◌∷◌, ◌⊎◌, inl, inr, refl, sym, ◌∙◌, ap, subst, Ok, Err, Some, None}
 use Rattle.std.specs.declared.option.Option.{Option}
 use Rattle.ground.specs.declared.trap.Trap.{Trap}
 use Rattle.ground.specs.declared.trap.Trap.TheVariants.{EndOfInput}
 use Rattle.ground.specs.declared.fault.Fault.{Fault}
-use Rattle.f66_tree.specs.World.{Shown, End, Ended, GoesOn, Lost, Done, Stopped, Trapped, Wrong}
+use Rattle.ground.specs.declared.place.Place.{Place}
+use Rattle.f66_tree.specs.World.{Record, Shown, End, Ended, GoesOn, Lost, Done, Stopped, Trapped, Wrong}
 use Rattle.macro_define.specs.Answers.{Known, Holds, answer}
 use Rattle.front.specs.Verdict.{Verdict, Refuses, Accepts}
 use Rattle.front.specs.Laws.{OneVerdict}
+use Rattle.machine.specs.Runs.{IsRunOf}
 use Rattle.deck_file.specs.Loaded.{Loaded}
 use Rattle.deck_file.proofs.OneLoaded.{both_refused}
 use Rattle.eft_top.specs.declared.status.Status.{Status}
-use Rattle.eft_top.specs.declared.status.Status.TheVariants.{Done as IsDone, Usage, SourceFault, LibraryFault, InputFault, OutputFault, Memory, Trapped as IsTrapped}
+use Rattle.eft_top.specs.declared.status.Status.TheVariants.{Done as IsDone, Usage, SourceFault, LibraryFault, InputFault, OutputFault, StepLimit, Memory, Stopped as IsStopped, Trapped as IsTrapped}
 use Rattle.eft_top.specs.declared.report.Report.{Report}
 use Rattle.eft_top.specs.Words.{Command, Run, Cards, Deck, AskNothing}
-use Rattle.eft_top.specs.Input.{Got, is_too_long}
-use Rattle.machine.specs.Runs.{is_end_of_input}
-use Rattle.eft_top.specs.Outcome.{Outcome, HasFault, HasDeck, HasLongInput, Runs, RunsIn, IsPrinted, ComesOf, DeckComesOf, trap_status, IsOutcomeOf, IsOutcomeBy, status_of, end_status}
+use Rattle.eft_top.specs.Input.{Got, Behind, Unread, Nothing, Broken, is_broken}
+use Rattle.eft_top.specs.Outcome.{Outcome, HasFault, HasDeck, Runs, IsRun, RunsOver, Asks, IsPrinted, ComesOf, DeckComesOf, is_end_of_input, trap_status, IsOutcomeOf, IsOutcomeBy, status_of, end_status, out_of, diag_line}
 use Rattle.eft_top.specs.Lines.{output_fault_line}
-use Rattle.eft_top.specs.Causes.{Comes, MayBe, Compels, IsOfText, IsShown, IfTold, AnswersCall, WasToShow}
-use Rattle.eft_top.specs.Report.{IsReport, line_bytes}
-use Rattle.eft_top.specs.Story.{CameOf, NotFetched, NoMemory, Shows, Came, BadWords, Asked}
+use Rattle.eft_top.specs.Causes.{Comes, MayBe, Compels, IsOfText, IsShown, IfTold, AnswersCall, WasToShow, fixed_line}
+use Rattle.eft_top.specs.Report.{SaysAll, IsReport, line_bytes}
+use Rattle.eft_top.specs.Story.{Shows, AllPut, BrokenOff, CameOf, NotFetched, NoMemory, Came, CameOfWords, BadWords, Asked}
 
 some_injective : {a b : Status} → Some a ≡ Some b → a ≡ b
 some_injective e = cc
@@ -42,7 +44,6 @@ end_of_text failed Lost s e = absurd (let f = e in cc)
 outcome_of_text : (o : Outcome) (s : Status) → Some s ≡ status_of o → IsOfText s
 outcome_of_text (HasFault fault file) s e = subst IsOfText (sym (some_injective e)) tt
 outcome_of_text (HasDeck deck) s e = subst IsOfText (sym (some_injective e)) tt
-outcome_of_text HasLongInput s e = subst IsOfText (sym (some_injective e)) tt
 outcome_of_text (Runs files limit failed run) s e = end_of_text failed run.end s e
 
 -- ---- a fault comes alone ----
@@ -59,13 +60,12 @@ no_run_is_faulty failed (Ended Wrong) e = cc
 no_run_is_faulty failed GoesOn e = cc
 no_run_is_faulty failed Lost e = cc
 
-no_run_over_is_faulty : (files : List (List ℕ)) (P : Shown → Type 0) (limit : ℕ) (got : Got) (o : Outcome) (long : Bool) → RunsIn long files P limit got o → status_of o ≡ Some SourceFault → ⊥
-no_run_over_is_faulty files P limit got o true over e = absurd (let f = ap status_of (sym over) ∙ e in cc)
-no_run_over_is_faulty files P limit got o false over e = no_run_is_faulty got.failed over.0.end (ap status_of (sym over.2) ∙ e)
+no_run_over_is_faulty : (files : List (List ℕ)) (P : List Record → Shown → Type 0) (limit : ℕ) (given : Got → Type 0) (o : Outcome) → RunsOver files P limit given o → status_of o ≡ Some SourceFault → ⊥
+no_run_over_is_faulty files P limit given o over e = no_run_is_faulty (is_broken over.0.behind) over.2.end (ap status_of (sym over.5) ∙ e)
 
 faulty_of : (verdict : Verdict) (limit : ℕ) (given : Got → Type 0) (one other : Outcome) → ComesOf verdict limit given one → ComesOf verdict limit given other → status_of other ≡ Some SourceFault → status_of one ≡ Some SourceFault
 faulty_of (Refuses fault file) limit given one other h k e = ap status_of h
-faulty_of (Accepts files meaning) limit given one other h k e = absurd (no_run_over_is_faulty files _ limit k.0 other (is_too_long k.0) k.2 e)
+faulty_of (Accepts files meaning) limit given one other h k e = absurd (no_run_over_is_faulty files (IsRun meaning limit) limit given other k e)
 
 no_deck_is_faulty : (deck : List ℕ) (o : Outcome) → o ≡ HasDeck deck → status_of o ≡ Some SourceFault → ⊥
 no_deck_is_faulty deck o is e = let f = ap status_of (sym is) ∙ e in cc
@@ -77,7 +77,7 @@ faulty_print (Accepts files meaning) one other h k e = absurd (no_deck_is_faulty
 -- a deck that comes to a fault was refused
 faulty_deck : (file : List ℕ) (loaded : Loaded) (limit : ℕ) (given : Got → Type 0) (o : Outcome) → DeckComesOf file loaded limit given o → status_of o ≡ Some SourceFault → (fault : Fault) × (loaded ≡ Err fault)
 faulty_deck file (Err fault) limit given o h e = (fault, refl)
-faulty_deck file (Ok lines) limit given o h e = absurd (no_run_over_is_faulty (file ∷ []) _ limit h.0 o (is_too_long h.0) h.2 e)
+faulty_deck file (Ok lines) limit given o h e = absurd (no_run_over_is_faulty (file ∷ []) (λ records. IsRunOf lines records limit) limit given o h e)
 
 faulty_too : OneVerdict → (command : Command) (known : Known) (given : Got → Type 0) (one other : Outcome) → IsOutcomeOf command known given one → IsOutcomeOf command known given other → status_of other ≡ Some SourceFault → status_of one ≡ Some SourceFault
 faulty_too verdicts (Run limit language file) known given one other h k e =
@@ -97,28 +97,35 @@ compelled verdicts command known given o told status must = must o told
 
 -- ---- what a call answers ----
 
-module _ (verdicts : OneVerdict) (asks : Command → Type 0) (alone : (a b : Command) → asks a → asks b → a ≡ b) (files : Option (List ℕ → Option (List ℕ))) (before now : ℕ) (given : Got → Type 0) (report : Report) (result : Status) (put : (result ≡ report.status) ⊎ (result ≡ OutputFault)) where
-  -- a status that is none of a text, before its puts and after them
+module _ (verdicts : OneVerdict) (asks : Command → Type 0) (alone : (a b : Command) → asks a → asks b → a ≡ b) (files : Option (List ℕ → Option (List ℕ))) (before now : ℕ) (given got : Got → Type 0) (put broken : List ℕ → Type 0) (report : Report) (result : Status) (line : (result ≡ report.status) ⊎ (result ≡ OutputFault)) where
+  -- a status that is none of a text, before its line is put and after
   no_text : (some : Status) → report.status ≡ some → (IsOfText some → ⊥) → IsOfText result → ⊥
-  no_text some is other text = elim put [
+  no_text some is other text = elim line [
     | inl same ↦ other (subst IsOfText (same ∙ is) text)
     | inr failed ↦ subst IsOfText failed text
   ]
 
   -- and what it then is
   or_failed : (some : Status) → report.status ≡ some → (result ≡ some) ⊎ (result ≡ OutputFault)
-  or_failed some is = elim put [ inl same ↦ inl (same ∙ is) | inr failed ↦ inr failed ]
+  or_failed some is = elim line [ inl same ↦ inl (same ∙ is) | inr failed ↦ inr failed ]
 
-  not_usage : (command : Command) → asks command → CameOf command files before now given report → result ≡ Usage → ⊥
-  not_usage command asked (NotFetched rose says) e = elim (or_failed LibraryFault says.status) [ inl a ↦ (let b = sym e ∙ a in cc) | inr a ↦ (let b = sym e ∙ a in cc) ]
-  not_usage command asked (NoMemory says) e = elim (or_failed Memory says.status) [ inl a ↦ (let b = sym e ∙ a in cc) | inr a ↦ (let b = sym e ∙ a in cc) ]
-  not_usage command asked (Shows o is same shows) e = elim put [
+  is_failed : report.status ≡ OutputFault → result ≡ OutputFault
+  is_failed is = elim line [ inl same ↦ same ∙ is | inr failed ↦ failed ]
+
+  no_usage : (command : Command) → Shows (IsOutcomeBy command files) given got put broken report → result ≡ Usage → ⊥
+  no_usage command (AllPut o is sent shows) e = elim line [
     | inl a ↦ subst IsOfText (sym a ∙ e) (outcome_of_text o report.status shows.status)
     | inr a ↦ (let b = sym e ∙ a in cc)
   ]
+  no_usage command (BrokenOff o is broke says) e = let b = sym e ∙ is_failed says.status in cc
 
-  usage_comes : Came asks files before now given report → Comes result Usage (AskNothing asks) (AskNothing asks) (OutputFault ∷ [])
-  usage_comes (BadWords none says) = record { only = λ e. none; wherever = λ q. elim (or_failed Usage says.status) [ inl a ↦ inl a | inr a ↦ inr (inl a) ] }
+  not_usage : (command : Command) → asks command → CameOf command files before now given got put broken report → result ≡ Usage → ⊥
+  not_usage command asked (NotFetched rose none says) e = elim (or_failed LibraryFault says.status) [ inl a ↦ (let b = sym e ∙ a in cc) | inr a ↦ (let b = sym e ∙ a in cc) ]
+  not_usage command asked (NoMemory none says) e = elim (or_failed Memory says.status) [ inl a ↦ (let b = sym e ∙ a in cc) | inr a ↦ (let b = sym e ∙ a in cc) ]
+  not_usage command asked (Came same shows) e = no_usage command shows e
+
+  usage_comes : CameOfWords asks files before now given got put broken report → Comes result Usage (AskNothing asks) (AskNothing asks) (OutputFault ∷ [])
+  usage_comes (BadWords none nothing says) = record { only = λ e. none; wherever = λ q. elim (or_failed Usage says.status) [ inl a ↦ inl a | inr a ↦ inr (inl a) ] }
   usage_comes (Asked command asked came) = record { only = λ e. absurd (not_usage command asked came e); wherever = λ none. absurd (none command asked) }
 
   module _ (command : Command) (held : List ℕ → Option (List ℕ)) (status : Status) (text : IsOfText status) where
@@ -130,62 +137,78 @@ module _ (verdicts : OneVerdict) (asks : Command → Type 0) (alone : (a b : Com
       only = λ e. (
         o,
         is,
-        elim put [
+        elim line [
           | inl same ↦ sym shows.status ∙ ap Some (sym same ∙ e)
           | inr failed ↦ absurd (subst IsOfText (sym e ∙ failed) text)
         ],
       );
-      wherever = λ q. elim put [
+      wherever = λ q. elim line [
         | inl same ↦ inl (same ∙ some_injective (shows.status ∙ compelled verdicts command (Holds held) given o is status q))
         | inr failed ↦ inr (inr (inl failed))
       ];
     }
 
-    status_comes : CameOf command (Some held) before now given report → Comes result status (MayBe told status) (Compels told status) (LibraryFault ∷ OutputFault ∷ Memory ∷ [])
-    status_comes (NotFetched rose says) = record {
+    status_of_shows : Shows (IsOutcomeBy command (Some held)) given got put broken report → Comes result status (MayBe told status) (Compels told status) (LibraryFault ∷ OutputFault ∷ Memory ∷ [])
+    status_of_shows (AllPut o is sent shows) = status_shown o (subst (λ known. IsOutcomeOf command known given o) is.1 is.2) shows
+    status_of_shows (BrokenOff o is broke says) = record {
+      only = λ e. absurd (subst IsOfText (sym e ∙ is_failed says.status) text);
+      wherever = λ q. inr (inr (inl (is_failed says.status)));
+    }
+
+    status_comes : CameOf command (Some held) before now given got put broken report → Comes result status (MayBe told status) (Compels told status) (LibraryFault ∷ OutputFault ∷ Memory ∷ [])
+    status_comes (NotFetched rose none says) = record {
       only = λ e. absurd (no_text LibraryFault says.status (λ h. h) (subst IsOfText (sym e) text));
       wherever = λ q. elim (or_failed LibraryFault says.status) [ inl a ↦ inr (inl a) | inr a ↦ inr (inr (inl a)) ];
     }
-    status_comes (NoMemory says) = record {
+    status_comes (NoMemory none says) = record {
       only = λ e. absurd (no_text Memory says.status (λ h. h) (subst IsOfText (sym e) text));
       wherever = λ q. elim (or_failed Memory says.status) [ inl a ↦ inr (inr (inr (inl a))) | inr a ↦ inr (inr (inl a)) ];
     }
-    status_comes (Shows o is same shows) = status_shown o (subst (λ known. IsOutcomeOf command known given o) is.1 is.2) shows
+    status_comes (Came same shows) = status_of_shows shows
 
-  statuses_come : (command : Command) → asks command → Came asks files before now given report → (status : Status) → IsOfText status → IfTold files (λ held.
+  statuses_come : (command : Command) → asks command → CameOfWords asks files before now given got put broken report → (status : Status) → IsOfText status → IfTold files (λ held.
       Comes result status (MayBe (IsOutcomeOf command (Holds held) given) status) (Compels (IsOutcomeOf command (Holds held) given) status) (LibraryFault ∷ OutputFault ∷ Memory ∷ []))
-  statuses_come command asked (BadWords none says) status text = absurd (none command asked)
-  statuses_come command asked (Asked other too came) status text = by files (subst (λ one. CameOf one files before now given report) (alone other command too asked) came)
+  statuses_come command asked (BadWords none nothing says) status text = absurd (none command asked)
+  statuses_come command asked (Asked other too came) status text = by files (subst (λ one. CameOf one files before now given got put broken report) (alone other command too asked) came)
     where
-      by : (library : Option (List ℕ → Option (List ℕ))) → CameOf command library before now given report → IfTold library (λ held.
+      by : (library : Option (List ℕ → Option (List ℕ))) → CameOf command library before now given got put broken report → IfTold library (λ held.
           Comes result status (MayBe (IsOutcomeOf command (Holds held) given) status) (Compels (IsOutcomeOf command (Holds held) given) status) (LibraryFault ∷ OutputFault ∷ Memory ∷ []))
       by None came1 = tt
       by (Some held) came1 = status_comes command held status text came1
 
-  module _ (out diag : List ℕ → Type 0) where
-    shown_of : (command : Command) → asks command → CameOf command files before now given report → IsOfText result → out (report.out.items) → diag (line_bytes report.line) → IsShown asks files given result out diag
-    shown_of command asked (NotFetched rose says) text p d = absurd (no_text LibraryFault says.status (λ h. h) text)
-    shown_of command asked (NoMemory says) text p d = absurd (no_text Memory says.status (λ h. h) text)
-    shown_of command asked (Shows o is same shows) text p d = record {
+  module _ (out diag : List ℕ → Type 0) (sends : (bytes : List ℕ) → put bytes → out bytes) where
+    shown_by : (command : Command) → asks command → Shows (IsOutcomeBy command files) given got put broken report → IsOfText result → diag (line_bytes report.line) → IsShown asks files given result out diag
+    shown_by command asked (AllPut o is sent shows) text d = record {
       outcome = o;
       is = (command, asked, is);
-      status = elim put [ inl a ↦ ap Some a ∙ shows.status | inr failed ↦ absurd (subst IsOfText failed text) ];
-      on_out = subst out shows.on_out p;
+      status = elim line [ inl a ↦ ap Some a ∙ shows.status | inr failed ↦ absurd (subst IsOfText failed text) ];
+      on_out = sends (out_of o) sent;
       on_diag = subst diag shows.line d;
     }
+    shown_by command asked (BrokenOff o is broke says) text d = absurd (subst IsOfText (is_failed says.status) text)
 
-    shown : Came asks files before now given report → IsOfText result → out (report.out.items) → diag (line_bytes report.line) → IsShown asks files given result out diag
-    shown (BadWords none says) text p d = absurd (no_text Usage says.status (λ h. h) text)
-    shown (Asked command asked came) text p d = shown_of command asked came text p d
+    shown_of : (command : Command) → asks command → CameOf command files before now given got put broken report → IsOfText result → diag (line_bytes report.line) → IsShown asks files given result out diag
+    shown_of command asked (NotFetched rose none says) text d = absurd (no_text LibraryFault says.status (λ h. h) text)
+    shown_of command asked (NoMemory none says) text d = absurd (no_text Memory says.status (λ h. h) text)
+    shown_of command asked (Came same shows) text d = shown_by command asked shows text d
 
-    pub answered : Came asks files before now given report → (IsOfText result → out (report.out.items) × diag (line_bytes report.line)) → AnswersCall asks files given result out diag
-    answered came held = record {
+    shown : CameOfWords asks files before now given got put broken report → IsOfText result → diag (line_bytes report.line) → IsShown asks files given result out diag
+    shown (BadWords none nothing says) text d = absurd (no_text Usage says.status (λ h. h) text)
+    shown (Asked command asked came) text d = shown_of command asked came text d
+
+    pub answered : CameOfWords asks files before now given got put broken report → (IsOfText result → diag (line_bytes report.line)) → AnswersCall asks files given result out diag
+    answered came told = record {
       usage = usage_comes came;
       status = λ command asked status text. statuses_come command asked came status text;
-      shown = λ text. shown came text (held text).0 (held text).1;
+      shown = λ text. shown came text (told text);
     }
 
 -- ---- what is known of the reads ----
+
+broken_of : (behind : Behind) → is_broken behind ≡ true → behind ≡ Broken
+broken_of Unread e = cc
+broken_of Nothing e = cc
+broken_of Broken e = refl
 
 failed_of_trap : (failed : Bool) (trap : Trap) → trap_status failed trap ≡ InputFault → failed ≡ true
 failed_of_trap true trap e = refl
@@ -203,25 +226,22 @@ no_trap_of_failed : (trap : Trap) (ends : Bool) → is_end_of_input trap ≡ end
 no_trap_of_failed trap true is e = cc
 no_trap_of_failed trap false is e = let same : trap ≡ EndOfInput = cc in absurd (let two : is_end_of_input EndOfInput ≡ false = ap is_end_of_input (sym same) ∙ is in cc)
 
-read_of_trap : (failed : Bool) (trap : Trap) → trap_status failed trap ≡ IsTrapped EndOfInput → failed ≡ false
-read_of_trap true trap e = absurd (no_trap_of_failed trap (is_end_of_input trap) refl e)
-read_of_trap false trap e = refl
+same_trap : (trap : Trap) → trap_status false trap ≡ IsTrapped EndOfInput → trap ≡ EndOfInput
+same_trap trap e = cc
 
-read_of_end : (failed : Bool) (end : End) → end_status failed end ≡ Some (IsTrapped EndOfInput) → failed ≡ false
-read_of_end failed (Ended Done) e = cc
-read_of_end failed (Ended (Stopped n)) e = cc
-read_of_end failed (Ended (Trapped trap place)) e = read_of_trap failed trap (some_injective e)
-read_of_end failed (Ended Wrong) e = cc
-read_of_end failed GoesOn e = cc
-read_of_end failed Lost e = cc
+-- where a run ends for want of a record, the source has told its end
+end_of_trap : (behind : Behind) (trap : Trap) (place : Place) → Asks behind (Ended (Trapped trap place)) → trap_status (is_broken behind) trap ≡ IsTrapped EndOfInput → behind ≡ Nothing
+end_of_trap Unread trap place asks e = absurd (asks place (ap (λ (t : Trap). Ended (Trapped t place)) (same_trap trap e)))
+end_of_trap Nothing trap place asks e = refl
+end_of_trap Broken trap place asks e = absurd (no_trap_of_failed trap (is_end_of_input trap) refl e)
 
-failed_of_run : (files : List (List ℕ)) (P : Shown → Type 0) (limit : ℕ) (got : Got) (o : Outcome) (long : Bool) → RunsIn long files P limit got o → status_of o ≡ Some InputFault → got.failed ≡ true
-failed_of_run files P limit got o true over e = absurd (let f = ap status_of (sym over) ∙ e in cc)
-failed_of_run files P limit got o false over e = failed_of_end got.failed over.0.end (ap status_of (sym over.2) ∙ e)
-
-read_of_run : (files : List (List ℕ)) (P : Shown → Type 0) (limit : ℕ) (got : Got) (o : Outcome) (long : Bool) → RunsIn long files P limit got o → status_of o ≡ Some (IsTrapped EndOfInput) → (got.failed ≡ false) × (long ≡ false)
-read_of_run files P limit got o true over e = absurd (let f = ap status_of (sym over) ∙ e in cc)
-read_of_run files P limit got o false over e = (read_of_end got.failed over.0.end (ap status_of (sym over.2) ∙ e), refl)
+end_of_end : (behind : Behind) (end : End) → Asks behind end → end_status (is_broken behind) end ≡ Some (IsTrapped EndOfInput) → behind ≡ Nothing
+end_of_end behind (Ended Done) asks e = cc
+end_of_end behind (Ended (Stopped n)) asks e = cc
+end_of_end behind (Ended (Trapped trap place)) asks e = end_of_trap behind trap place asks (some_injective e)
+end_of_end behind (Ended Wrong) asks e = cc
+end_of_end behind GoesOn asks e = cc
+end_of_end behind Lost asks e = cc
 
 -- a text that is printed has a fault, or the deck is done
 printed_status : (verdict : Verdict) (o : Outcome) → IsPrinted verdict o → (status_of o ≡ Some SourceFault) ⊎ (status_of o ≡ Some IsDone)
@@ -229,70 +249,191 @@ printed_status (Refuses fault file) o h = inl (ap status_of h)
 printed_status (Accepts files meaning) o h = inr (ap status_of h.2)
 
 module _ (files : Option (List ℕ → Option (List ℕ))) (given : Got → Type 0) (o : Outcome) where
-  failed_of_verdict : (verdict : Verdict) (limit : ℕ) → ComesOf verdict limit given o → status_of o ≡ Some InputFault → (got : Got) × given got × (got.failed ≡ true)
+  failed_of_run : (names : List (List ℕ)) (P : List Record → Shown → Type 0) (limit : ℕ) → RunsOver names P limit given o → status_of o ≡ Some InputFault → (got : Got) × given got × (got.behind ≡ Broken)
+  failed_of_run names P limit over e = (over.0, over.1, broken_of over.0.behind (failed_of_end (is_broken over.0.behind) over.2.end (ap status_of (sym over.5) ∙ e)))
+
+  read_of_run : (names : List (List ℕ)) (P : List Record → Shown → Type 0) (limit : ℕ) → RunsOver names P limit given o → status_of o ≡ Some (IsTrapped EndOfInput) → (got : Got) × given got × (got.behind ≡ Nothing)
+  read_of_run names P limit over e = (over.0, over.1, end_of_end over.0.behind over.2.end over.4 (ap status_of (sym over.5) ∙ e))
+
+  failed_of_verdict : (verdict : Verdict) (limit : ℕ) → ComesOf verdict limit given o → status_of o ≡ Some InputFault → (got : Got) × given got × (got.behind ≡ Broken)
   failed_of_verdict (Refuses fault file) limit h e = absurd (let f = ap status_of (sym h) ∙ e in cc)
-  failed_of_verdict (Accepts names meaning) limit h e = (h.0, h.1, failed_of_run names _ limit h.0 o (is_too_long h.0) h.2 e)
+  failed_of_verdict (Accepts names meaning) limit h e = failed_of_run names (IsRun meaning limit) limit h e
 
-  read_of_verdict : (verdict : Verdict) (limit : ℕ) → ComesOf verdict limit given o → status_of o ≡ Some (IsTrapped EndOfInput) → (got : Got) × given got × (got.failed ≡ false) × (is_too_long got ≡ false)
+  read_of_verdict : (verdict : Verdict) (limit : ℕ) → ComesOf verdict limit given o → status_of o ≡ Some (IsTrapped EndOfInput) → (got : Got) × given got × (got.behind ≡ Nothing)
   read_of_verdict (Refuses fault file) limit h e = absurd (let f = ap status_of (sym h) ∙ e in cc)
-  read_of_verdict (Accepts names meaning) limit h e = let read = read_of_run names _ limit h.0 o (is_too_long h.0) h.2 e in (h.0, h.1, read.0, read.1)
+  read_of_verdict (Accepts names meaning) limit h e = read_of_run names (IsRun meaning limit) limit h e
 
-  failed_of_deck : (file : List ℕ) (loaded : Loaded) (limit : ℕ) → DeckComesOf file loaded limit given o → status_of o ≡ Some InputFault → (got : Got) × given got × (got.failed ≡ true)
+  failed_of_deck : (file : List ℕ) (loaded : Loaded) (limit : ℕ) → DeckComesOf file loaded limit given o → status_of o ≡ Some InputFault → (got : Got) × given got × (got.behind ≡ Broken)
   failed_of_deck file (Err fault) limit h e = absurd (let f = ap status_of (sym h) ∙ e in cc)
-  failed_of_deck file (Ok lines) limit h e = (h.0, h.1, failed_of_run (file ∷ []) _ limit h.0 o (is_too_long h.0) h.2 e)
+  failed_of_deck file (Ok lines) limit h e = failed_of_run (file ∷ []) (λ records. IsRunOf lines records limit) limit h e
 
-  read_of_deck : (file : List ℕ) (loaded : Loaded) (limit : ℕ) → DeckComesOf file loaded limit given o → status_of o ≡ Some (IsTrapped EndOfInput) → (got : Got) × given got × (got.failed ≡ false) × (is_too_long got ≡ false)
+  read_of_deck : (file : List ℕ) (loaded : Loaded) (limit : ℕ) → DeckComesOf file loaded limit given o → status_of o ≡ Some (IsTrapped EndOfInput) → (got : Got) × given got × (got.behind ≡ Nothing)
   read_of_deck file (Err fault) limit h e = absurd (let f = ap status_of (sym h) ∙ e in cc)
-  read_of_deck file (Ok lines) limit h e = let read = read_of_run (file ∷ []) _ limit h.0 o (is_too_long h.0) h.2 e in (h.0, h.1, read.0, read.1)
+  read_of_deck file (Ok lines) limit h e = read_of_run (file ∷ []) (λ records. IsRunOf lines records limit) limit h e
 
-  failed_of_outcome : (command : Command) → IsOutcomeBy command files given o → status_of o ≡ Some InputFault → (got : Got) × given got × (got.failed ≡ true)
+  failed_of_outcome : (command : Command) → IsOutcomeBy command files given o → status_of o ≡ Some InputFault → (got : Got) × given got × (got.behind ≡ Broken)
   failed_of_outcome (Run limit language file) h e = failed_of_verdict h.2.0 limit h.2.2 e
   failed_of_outcome (Cards language file) h e = elim (printed_status h.2.0 o h.2.2) [ inl f ↦ absurd (let g = sym f ∙ e in cc) | inr f ↦ absurd (let g = sym f ∙ e in cc) ]
   failed_of_outcome (Deck limit file) h e = failed_of_deck file h.2.0 limit h.2.2 e
 
-  read_of_outcome : (command : Command) → IsOutcomeBy command files given o → status_of o ≡ Some (IsTrapped EndOfInput) → (got : Got) × given got × (got.failed ≡ false) × (is_too_long got ≡ false)
+  read_of_outcome : (command : Command) → IsOutcomeBy command files given o → status_of o ≡ Some (IsTrapped EndOfInput) → (got : Got) × given got × (got.behind ≡ Nothing)
   read_of_outcome (Run limit language file) h e = read_of_verdict h.2.0 limit h.2.2 e
   read_of_outcome (Cards language file) h e = elim (printed_status h.2.0 o h.2.2) [ inl f ↦ absurd (let g = sym f ∙ e in cc) | inr f ↦ absurd (let g = sym f ∙ e in cc) ]
   read_of_outcome (Deck limit file) h e = read_of_deck file h.2.0 limit h.2.2 e
 
-module _ (asks : Command → Type 0) (files : Option (List ℕ → Option (List ℕ))) (before now : ℕ) (given : Got → Type 0) (report : Report) where
-  failed_of : (command : Command) → CameOf command files before now given report → report.status ≡ InputFault → (got : Got) × given got × (got.failed ≡ true)
-  failed_of command (NotFetched rose says) e = absurd (let f = sym says.status ∙ e in cc)
-  failed_of command (NoMemory says) e = absurd (let f = sym says.status ∙ e in cc)
-  failed_of command (Shows o is same shows) e = failed_of_outcome files given o command is (sym shows.status ∙ ap Some e)
+-- what was got may be told by less
+module _ (one other : Got → Type 0) (so : (got : Got) → one got → other got) where
+  run_too : (names : List (List ℕ)) (P : List Record → Shown → Type 0) (limit : ℕ) (o : Outcome) → RunsOver names P limit one o → RunsOver names P limit other o
+  run_too names P limit o over = (over.0, so over.0 over.1, over.2, over.3, over.4, over.5)
 
-  read_of : (command : Command) → CameOf command files before now given report → report.status ≡ IsTrapped EndOfInput → (got : Got) × given got × (got.failed ≡ false) × (is_too_long got ≡ false)
-  read_of command (NotFetched rose says) e = absurd (let f = sym says.status ∙ e in cc)
-  read_of command (NoMemory says) e = absurd (let f = sym says.status ∙ e in cc)
-  read_of command (Shows o is same shows) e = read_of_outcome files given o command is (sym shows.status ∙ ap Some e)
+  verdict_too : (verdict : Verdict) (limit : ℕ) (o : Outcome) → ComesOf verdict limit one o → ComesOf verdict limit other o
+  verdict_too (Refuses fault file) limit o h = h
+  verdict_too (Accepts names meaning) limit o h = run_too names (IsRun meaning limit) limit o h
+
+  deck_too : (file : List ℕ) (loaded : Loaded) (limit : ℕ) (o : Outcome) → DeckComesOf file loaded limit one o → DeckComesOf file loaded limit other o
+  deck_too file (Err fault) limit o h = h
+  deck_too file (Ok lines) limit o h = run_too (file ∷ []) (λ records. IsRunOf lines records limit) limit o h
+
+  outcome_too : (command : Command) (files : Option (List ℕ → Option (List ℕ))) (o : Outcome) → IsOutcomeBy command files one o → IsOutcomeBy command files other o
+  outcome_too (Run limit language file) files o h = (h.0, h.1, (h.2.0, h.2.1, verdict_too h.2.0 limit o h.2.2))
+  outcome_too (Cards language file) files o h = h
+  outcome_too (Deck limit file) files o h = (h.0, h.1, (h.2.0, h.2.1, deck_too file h.2.0 limit o h.2.2))
+
+-- a status of a text has no line that says all
+no_fixed_line : (status : Status) → IsOfText status → fixed_line status ≡ None
+no_fixed_line IsDone text = refl
+no_fixed_line SourceFault text = refl
+no_fixed_line InputFault text = refl
+no_fixed_line StepLimit text = refl
+no_fixed_line (IsStopped n) text = refl
+no_fixed_line (IsTrapped trap) text = refl
+no_fixed_line Usage text = absurd text
+no_fixed_line LibraryFault text = absurd text
+no_fixed_line OutputFault text = absurd text
+no_fixed_line Memory text = absurd text
+
+module _ (asks : Command → Type 0) (files : Option (List ℕ → Option (List ℕ))) (before now : ℕ) (given got : Got → Type 0) (put broken : List ℕ → Type 0) (report : Report) where
+  -- ---- what came of a command is an outcome that was put, or was broken off, or none ----
+
+  abbrev Some1 : Command → Type 0
+  Some1 command = Shows (IsOutcomeBy command files) given got put broken report
+
+  failed_by : (command : Command) → Some1 command → report.status ≡ InputFault → (got : Got) × given got × (got.behind ≡ Broken)
+  failed_by command (AllPut o is sent shows) e = failed_of_outcome files given o command is (sym shows.status ∙ ap Some e)
+  failed_by command (BrokenOff o is broke says) e = absurd (let f = sym says.status ∙ e in cc)
+
+  failed_of : (command : Command) → CameOf command files before now given got put broken report → report.status ≡ InputFault → (got : Got) × given got × (got.behind ≡ Broken)
+  failed_of command (NotFetched rose none says) e = absurd (let f = sym says.status ∙ e in cc)
+  failed_of command (NoMemory none says) e = absurd (let f = sym says.status ∙ e in cc)
+  failed_of command (Came same shows) e = failed_by command shows e
 
   -- an input fault has a failed read behind it
-  pub failed_read : Came asks files before now given report → report.status ≡ InputFault → (got : Got) × given got × (got.failed ≡ true)
-  failed_read (BadWords none says) e = absurd (let f = sym says.status ∙ e in cc)
+  pub failed_read : CameOfWords asks files before now given got put broken report → report.status ≡ InputFault → (got : Got) × given got × (got.behind ≡ Broken)
+  failed_read (BadWords none nothing says) e = absurd (let f = sym says.status ∙ e in cc)
   failed_read (Asked command asked came) e = failed_of command came e
 
-  -- at the end of the input none has failed
-  pub read_to_end : Came asks files before now given report → report.status ≡ IsTrapped EndOfInput → (got : Got) × given got × (got.failed ≡ false) × (is_too_long got ≡ false)
-  read_to_end (BadWords none says) e = absurd (let f = sym says.status ∙ e in cc)
+  read_by : (command : Command) → Some1 command → report.status ≡ IsTrapped EndOfInput → (got : Got) × given got × (got.behind ≡ Nothing)
+  read_by command (AllPut o is sent shows) e = read_of_outcome files given o command is (sym shows.status ∙ ap Some e)
+  read_by command (BrokenOff o is broke says) e = absurd (let f = sym says.status ∙ e in cc)
+
+  read_of : (command : Command) → CameOf command files before now given got put broken report → report.status ≡ IsTrapped EndOfInput → (got : Got) × given got × (got.behind ≡ Nothing)
+  read_of command (NotFetched rose none says) e = absurd (let f = sym says.status ∙ e in cc)
+  read_of command (NoMemory none says) e = absurd (let f = sym says.status ∙ e in cc)
+  read_of command (Came same shows) e = read_by command shows e
+
+  -- at the end of the input the source has told it
+  pub read_to_end : CameOfWords asks files before now given got put broken report → report.status ≡ IsTrapped EndOfInput → (got : Got) × given got × (got.behind ≡ Nothing)
+  read_to_end (BadWords none nothing says) e = absurd (let f = sym says.status ∙ e in cc)
   read_to_end (Asked command asked came) e = read_of command came e
 
   -- ---- other clauses ----
 
-  fetched_of : (command : Command) → CameOf command files before now given report → IsOfText report.status → now ≡ before
-  fetched_of command (NotFetched rose says) text = absurd (subst IsOfText says.status text)
-  fetched_of command (NoMemory says) text = absurd (subst IsOfText says.status text)
-  fetched_of command (Shows o is same shows) text = same
+  fetched_of : (command : Command) → CameOf command files before now given got put broken report → IsOfText report.status → now ≡ before
+  fetched_of command (NotFetched rose none says) text = absurd (subst IsOfText says.status text)
+  fetched_of command (NoMemory none says) text = absurd (subst IsOfText says.status text)
+  fetched_of command (Came same shows) text = same
 
-  pub all_fetched : Came asks files before now given report → IsOfText report.status → now ≡ before
-  all_fetched (BadWords none says) text = absurd (subst IsOfText says.status text)
+  pub all_fetched : CameOfWords asks files before now given got put broken report → IsOfText report.status → now ≡ before
+  all_fetched (BadWords none nothing says) text = absurd (subst IsOfText says.status text)
   all_fetched (Asked command asked came) text = fetched_of command came text
 
-  module _ (out diag : List ℕ → Type 0) (some : report.out.items ≡ [] → line_bytes report.line ≡ [] → ⊥) (p : out (report.out.items)) (d : diag (line_bytes report.line) ⊎ diag output_fault_line) where
-    planned_of : (command : Command) → asks command → CameOf command files before now given report → WasToShow asks files given out diag
-    planned_of command asked (NotFetched rose says) = record { bytes = report.out.items; line = line_bytes report.line; planned = inl (says.on_out, inr (inl says.line)); some = some; on_out = p; on_diag = d }
-    planned_of command asked (NoMemory says) = record { bytes = report.out.items; line = line_bytes report.line; planned = inl (says.on_out, inr (inr (inl says.line))); some = some; on_out = p; on_diag = d }
-    planned_of command asked (Shows o is same shows) = record { bytes = report.out.items; line = line_bytes report.line; planned = inr (o, (command, asked, is), shows.on_out, shows.line); some = some; on_out = p; on_diag = d }
+  -- with another status than that of a failed put some bytes were put whole
+  put_by : (command : Command) → Some1 command → (report.status ≡ OutputFault → ⊥) → (bytes : List ℕ) × put bytes
+  put_by command (AllPut o is sent shows) other = (out_of o, sent)
+  put_by command (BrokenOff o is broke says) other = absurd (other says.status)
 
-    pub planned : Came asks files before now given report → WasToShow asks files given out diag
-    planned (BadWords none says) = record { bytes = report.out.items; line = line_bytes report.line; planned = inl (says.on_out, inl says.line); some = some; on_out = p; on_diag = d }
+  put_of : (command : Command) → CameOf command files before now given got put broken report → (report.status ≡ OutputFault → ⊥) → (bytes : List ℕ) × put bytes
+  put_of command (NotFetched rose none says) other = ([], none)
+  put_of command (NoMemory none says) other = ([], none)
+  put_of command (Came same shows) other = put_by command shows other
+
+  pub all_put : CameOfWords asks files before now given got put broken report → (report.status ≡ OutputFault → ⊥) → (bytes : List ℕ) × put bytes
+  all_put (BadWords none nothing says) other = ([], nothing)
+  all_put (Asked command asked came) other = put_of command came other
+
+  -- and with that status some were broken off, and the line says so
+  broken_by : (command : Command) → Some1 command → report.status ≡ OutputFault → (bytes : List ℕ) × broken bytes × (line_bytes report.line ≡ output_fault_line)
+  broken_by command (AllPut o is sent shows) e = absurd (subst IsOfText e (outcome_of_text o report.status shows.status))
+  broken_by command (BrokenOff o is broke says) e = (out_of o, broke, says.line)
+
+  broken_of_command : (command : Command) → CameOf command files before now given got put broken report → report.status ≡ OutputFault → (bytes : List ℕ) × broken bytes × (line_bytes report.line ≡ output_fault_line)
+  broken_of_command command (NotFetched rose none says) e = absurd (let f = sym says.status ∙ e in cc)
+  broken_of_command command (NoMemory none says) e = absurd (let f = sym says.status ∙ e in cc)
+  broken_of_command command (Came same shows) e = broken_by command shows e
+
+  pub put_failed : CameOfWords asks files before now given got put broken report → report.status ≡ OutputFault → (bytes : List ℕ) × broken bytes × (line_bytes report.line ≡ output_fault_line)
+  put_failed (BadWords none nothing says) e = absurd (let f = sym says.status ∙ e in cc)
+  put_failed (Asked command asked came) e = broken_of_command command came e
+
+  -- a status whose line says all
+  module _ (out diag : List ℕ → Type 0) (sends : (bytes : List ℕ) → put bytes → out bytes) (d : diag (line_bytes report.line)) where
+    said : (status : Status) (text : List ℕ) → fixed_line status ≡ Some text → SaysAll report status text → put [] → IfSome (fixed_line report.status) (λ line. out [] × diag line)
+    said status text is says none =
+        subst (λ (some : Status). IfSome (fixed_line some) (λ line. out [] × diag line)) (sym says.status)
+        (subst (λ (o : Option (List ℕ)). IfSome o (λ line. out [] × diag line)) (sym is) (sends [] none, subst diag says.line d))
+
+    unsaid : (status : Status) → fixed_line status ≡ None → report.status ≡ status → IfSome (fixed_line report.status) (λ line. out [] × diag line)
+    unsaid status is e = subst (λ (o : Option (List ℕ)). IfSome o (λ line. out [] × diag line)) (sym (ap fixed_line e ∙ is)) tt
+
+    said_by : (command : Command) → Some1 command → IfSome (fixed_line report.status) (λ line. out [] × diag line)
+    said_by command (AllPut o is sent shows) = unsaid report.status (no_fixed_line report.status (outcome_of_text o report.status shows.status)) refl
+    said_by command (BrokenOff o is broke says) = unsaid OutputFault refl says.status
+
+    said_of : (command : Command) → CameOf command files before now given got put broken report → IfSome (fixed_line report.status) (λ line. out [] × diag line)
+    said_of command (NotFetched rose none says) = said LibraryFault _ refl says none
+    said_of command (NoMemory none says) = said Memory _ refl says none
+    said_of command (Came same shows) = said_by command shows
+
+    pub line_shown : CameOfWords asks files before now given got put broken report → IfSome (fixed_line report.status) (λ line. out [] × diag line)
+    line_shown (BadWords none nothing says) = said Usage _ refl says nothing
+    line_shown (Asked command asked came) = said_of command came
+
+  -- what was to be shown where a put failed: on diag of a line that is not empty, or on out
+  module _ (out diag : List ℕ → Type 0) (so : (some : Got) → given some → got some) (sends : (bytes : List ℕ) → put bytes → out bytes) (breaks : (bytes : List ℕ) → broken bytes → out bytes) (failed : (line_bytes report.line ≢ []) ⊎ (report.status ≡ OutputFault)) (d : diag (line_bytes report.line)) where
+    on_diag : (report.status ≡ OutputFault → ⊥) → ((line_bytes report.line ≢ []) × diag (line_bytes report.line)) ⊎ diag output_fault_line
+    on_diag other = elim failed [ inl some ↦ inl (some, d) | inr e ↦ absurd (other e) ]
+
+    planned_by : (command : Command) → asks command → Some1 command → WasToShow asks files got out diag
+    planned_by command asked (AllPut o is sent shows) = record {
+      bytes = out_of o;
+      line = line_bytes report.line;
+      planned = inr (o, (command, asked, outcome_too given got so command files o is), refl, shows.line);
+      on_out = sends (out_of o) sent;
+      on_diag = on_diag (λ e. subst IsOfText e (outcome_of_text o report.status shows.status));
+    }
+    planned_by command asked (BrokenOff o is broke says) = record {
+      bytes = out_of o;
+      line = diag_line o;
+      planned = inr (o, (command, asked, is), refl, refl);
+      on_out = breaks (out_of o) broke;
+      on_diag = inr (subst diag says.line d);
+    }
+
+    planned_of : (command : Command) → asks command → CameOf command files before now given got put broken report → WasToShow asks files got out diag
+    planned_of command asked (NotFetched rose none says) = record { bytes = []; line = line_bytes report.line; planned = inl (refl, inr (inl says.line)); on_out = sends [] none; on_diag = on_diag (λ e. let f = sym says.status ∙ e in cc) }
+    planned_of command asked (NoMemory none says) = record { bytes = []; line = line_bytes report.line; planned = inl (refl, inr (inr (inl says.line))); on_out = sends [] none; on_diag = on_diag (λ e. let f = sym says.status ∙ e in cc) }
+    planned_of command asked (Came same shows) = planned_by command asked shows
+
+    pub planned : CameOfWords asks files before now given got put broken report → WasToShow asks files got out diag
+    planned (BadWords none nothing says) = record { bytes = []; line = line_bytes report.line; planned = inl (refl, inl says.line); on_out = sends [] nothing; on_diag = on_diag (λ e. let f = sym says.status ∙ e in cc) }
     planned (Asked command asked came) = planned_of command asked came

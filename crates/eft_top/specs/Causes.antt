@@ -1,9 +1,9 @@
 -- When a status comes, and what out and diag then have.
-use Rattle.std.specs.Prelude.{◌≡◌, ◌⊎◌, ℕ, List, [], ◌∷◌, Some, None}
+use Rattle.std.specs.Prelude.{◌≡◌, ◌≢◌, ◌⊎◌, ℕ, List, [], ◌∷◌, Some, None}
 use Rattle.std.specs.declared.option.Option.{Option}
 use Rattle.eft_top.specs.declared.status.Status.{Status}
-use Rattle.eft_top.specs.declared.status.Status.TheVariants.{Done, Usage, SourceFault, LibraryFault, InputFault, OutputFault, StepLimit, Memory, Stopped, InputTooLong, Trapped}
-use Rattle.eft_top.specs.Lines.{usage_line, library_fault_line, memory_line, output_fault_line, input_too_long_line}
+use Rattle.eft_top.specs.declared.status.Status.TheVariants.{Done, Usage, SourceFault, LibraryFault, InputFault, OutputFault, StepLimit, Memory, Stopped, Trapped}
+use Rattle.eft_top.specs.Lines.{usage_line, library_fault_line, memory_line, output_fault_line}
 use Rattle.eft_top.specs.Input.{Got}
 use Rattle.macro_define.specs.Answers.{Holds}
 use Rattle.eft_top.specs.Words.{Command, AskNothing}
@@ -36,7 +36,6 @@ IsOfText OutputFault = ⊥
 IsOfText StepLimit = Unit {0}
 IsOfText Memory = ⊥
 IsOfText (Stopped n) = Unit {0}
-IsOfText InputTooLong = Unit {0}
 IsOfText (Trapped trap) = Unit {0}
 
 -- What compels a status: that all that may come has it. A text has a fault or has none, so that something has it is enough.
@@ -53,9 +52,8 @@ NeedsNoInput LibraryFault = Unit {0}
 NeedsNoInput InputFault = ⊥
 NeedsNoInput OutputFault = ⊥
 NeedsNoInput StepLimit = ⊥
-NeedsNoInput Memory = ⊥
+NeedsNoInput Memory = Unit {0}
 NeedsNoInput (Stopped n) = ⊥
-NeedsNoInput InputTooLong = ⊥
 NeedsNoInput (Trapped trap) = ⊥
 
 -- the line of a status that says all
@@ -69,7 +67,6 @@ fixed_line OutputFault = None
 fixed_line StepLimit = None
 fixed_line Memory = Some memory_line
 fixed_line (Stopped n) = None
-fixed_line InputTooLong = Some input_too_long_line
 fixed_line (Trapped trap) = None
 
 -- There is an outcome of what the words ask for, of the told text where the library tells it, and of what reads may have
@@ -98,13 +95,12 @@ abbrev pub IsLineOf : List ℕ → List (List ℕ) → Type 0
 IsLineOf line [] = ⊥
 IsLineOf line (one ∷ others) = (line ≡ one) ⊎ IsLineOf line others
 
--- What out and diag were to get where a put failed: a line that says all, or the bytes and the line of an outcome, but not nothing
--- at all; and what they got of it, where diag may have got the line of the failure.
+-- What out and diag were to get where a put failed: a line that says all, or the bytes and the line of an outcome; and what they got of
+-- it. Diag got a front of a line that is not empty, or of the line of the failure.
 pub record WasToShow (asks : Command → Type 0) (files : Option (List ℕ → Option (List ℕ))) (given : Got → Type 0) (out diag : List ℕ → Type 0) : Type 0 where
   pub bytes : List ℕ
   pub line : List ℕ
   pub planned : ((bytes ≡ []) × IsLineOf line (usage_line ∷ library_fault_line ∷ memory_line ∷ []))
       ⊎ ((outcome : Outcome) × IsOutcome asks files given outcome × (bytes ≡ out_of outcome) × (line ≡ diag_line outcome))
-  pub some : bytes ≡ [] → line ≡ [] → ⊥
   pub on_out : out bytes
-  pub on_diag : diag line ⊎ diag output_fault_line
+  pub on_diag : ((line ≢ []) × diag line) ⊎ diag output_fault_line

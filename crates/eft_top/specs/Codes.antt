@@ -2,7 +2,7 @@
 use Rattle.std.specs.Prelude.{ℕ, ◌+◌}
 use Rattle.ground.specs.TrapNames.{trap_number}
 use Rattle.eft_top.specs.declared.status.Status.{Status}
-use Rattle.eft_top.specs.declared.status.Status.TheVariants.{Done, Usage, SourceFault, LibraryFault, InputFault, OutputFault, StepLimit, Memory, Stopped, InputTooLong, Trapped}
+use Rattle.eft_top.specs.declared.status.Status.TheVariants.{Done, Usage, SourceFault, LibraryFault, InputFault, OutputFault, StepLimit, Memory, Stopped, Trapped}
 
 abbrev pub exit_code : Status → ℕ
 exit_code Done = 0
@@ -14,5 +14,4 @@ exit_code OutputFault = 6
 exit_code StepLimit = 7
 exit_code Memory = 8
 exit_code (Stopped n) = 9
-exit_code InputTooLong = 10
 exit_code (Trapped trap) = 10 + trap_number trap

@@ -1,36 +1,56 @@
--- What the reads of a call have given. All of the input is read before a run begins, by one read after the other until one
--- gives no byte, one fails, or more bytes have come than an input may have.
-use Rattle.std.specs.Prelude.{◌≡◌, ℕ, Bool, true, false, List, length, nat_lt}
+-- What the reads of a run have given, and what is known of the input behind that. A run reads only where it asks for a record, so it
+-- seldom reads all of its input.
+use Rattle.std.specs.Prelude.{◌≡◌, ℕ, Bool, true, false, List, [], ◌++◌}
 use Rattle.std.specs.Io.KnownBytes.{Consumes, IsAtEnd}
 use Rattle.std.specs.declared.option.Option.{Option}
 use Rattle.ports.specs.Causes.{Rose}
 use Rattle.ports.specs.Records.{got_records}
 use Rattle.f66_tree.specs.World.{Record}
-use Rattle.eft_top.specs.declared.input.Got as memory
 
--- the most bytes that an input may have
-abbrev pub most_input : ℕ
-most_input = 16777216
+-- nothing is known of what is behind; or the source has told that nothing is; or a read of it has failed
+pub data Behind : Type 0 where
+  Unread : Behind
+  Nothing : Behind
+  Broken : Behind
 
--- the bytes, and whether the last read has failed
+abbrev pub is_broken : Behind → Bool
+is_broken Broken = true
+is_broken _ = false
+
+-- the bytes, and what is behind them
 pub record Got : Type 0 where
   pub bytes : List ℕ
-  pub failed : Bool
+  pub behind : Behind
 
-abbrev pub is_too_long : Got → Bool
-is_too_long got = nat_lt most_input (length got.bytes)
+-- what may come behind, and whether a read fails there
+abbrev pub MayCome : Behind → Bool → List ℕ → Type 0
+MayCome Unread failed later = Unit {0}
+MayCome Nothing failed later = (failed ≡ false) × (later ≡ [])
+MayCome Broken failed later = (failed ≡ true) × (later ≡ [])
 
-abbrev pub records_of : Got → List Record
-records_of got = got_records got.failed got.bytes
+-- P holds of the records of each input that begins with these bytes and goes on as it may
+abbrev pub OfEach : Got → (List Record → Type 0) → Type 0
+OfEach got P = (failed : Bool) (later : List ℕ) → MayCome got.behind failed later → P (got_records failed (got.bytes ++ later))
+
+-- these are the records of one of those inputs
+abbrev pub MayHave : Got → List Record → Type 0
+MayHave got records = (failed : Bool) × (later : List ℕ) × MayCome got.behind failed later × (records ≡ got_records failed (got.bytes ++ later))
+
+-- a read that failed has raised the count, and else it is as it was
+abbrev pub Counts : Behind → ℕ → ℕ → Type 0
+Counts Broken before now = Rose before now
+Counts _ before now = now ≡ before
 
 -- The reads of a call gave this. Where the source tells its bytes, those that were left before the call are these, followed
--- by those that are left after it; a read that failed has raised the count, and else the count is as it was; and where no
--- read failed and the input is not too long, none is left.
+-- by those that are left after it.
 pub record HasGiven {S : Type 0} (left : S → Option (List ℕ)) (faults : S → ℕ) (before after : S) (got : Got) : Type 0 where
   pub bytes : Consumes (left before) (left after) got.bytes
-  pub failed : got.failed ≡ true → Rose (faults before) (faults after)
-  pub steady : got.failed ≡ false → faults after ≡ faults before
-  pub end : got.failed ≡ false → is_too_long got ≡ false → IsAtEnd (left after)
+  pub counts : Counts got.behind (faults before) (faults after)
+  pub end : got.behind ≡ Nothing → IsAtEnd (left after)
+
+-- the same of the bytes alone
+abbrev pub HasGot : {S : Type 0} → (S → Option (List ℕ)) → S → S → Got → Type 0
+HasGot left before after got = Consumes (left before) (left after) got.bytes
 
 -- some bytes were read, or none
 abbrev pub HasRead : Option (List ℕ) → Option (List ℕ) → Type 0
@@ -39,7 +59,3 @@ HasRead before after = (bytes : List ℕ) × Consumes before after bytes
 -- there are no reads
 abbrev pub is_unread : Got → Type 0
 is_unread got = ⊥
-
--- what was got, in memory
-abbrev pub got_of : memory.Got → Got
-got_of got = record { bytes = got.bytes.items; failed = got.failed }

@@ -1,8 +1,8 @@
 -- What the clauses of `eft` say of a run of a text that the library tells and the checks accept: what it shows is what the text
--- means, and it misses nothing that the text means. Each is said by what reads may have given, and by what holds of the bytes that
--- out and diag got.
-use Rattle.std.specs.Prelude.{◌≡◌, ◌⊎◌, ℕ, ◌+◌, ◌*◌, ◌≤◌, Bool, true, false, List, [], ◌∷◌, Option, Some}
-use Rattle.ports.specs.Records.{output_bytes}
+-- means, and it misses nothing that the text means. Each is said by what reads may have given, over each input that begins so, and by
+-- what holds of the bytes that out and diag got.
+use Rattle.std.specs.Prelude.{◌≡◌, ◌≢◌, ◌⊎◌, ℕ, ◌+◌, ◌*◌, ◌≤◌, Bool, List, [], ◌∷◌, Option, Some}
+use Rattle.ports.specs.Records.{input_records, output_bytes}
 use Rattle.f66_tree.specs.World.{Record, Shown, IsPrefix, Finish, Ended, GoesOn}
 use Rattle.f66_tree.specs.Agreement.{Same}
 use Rattle.macro_define.specs.Answers.{Holds}
@@ -10,8 +10,8 @@ use Rattle.ground.specs.declared.token.Dialect.{Dialect}
 use Rattle.front.specs.Checked.{Meaning}
 use Rattle.front.specs.Verdict.{Accepts, Becomes}
 use Rattle.eft_top.specs.declared.status.Status.{Status}
-use Rattle.eft_top.specs.declared.status.Status.TheVariants.{LibraryFault, OutputFault, StepLimit, Memory, InputTooLong}
-use Rattle.eft_top.specs.Input.{Got, is_too_long, records_of}
+use Rattle.eft_top.specs.declared.status.Status.TheVariants.{LibraryFault, OutputFault, StepLimit, Memory}
+use Rattle.eft_top.specs.Input.{Got, Broken, is_broken, OfEach, MayHave, HasGiven}
 use Rattle.eft_top.specs.Words.{AskFor, Run}
 use Rattle.eft_top.specs.Outcome.{end_status, end_line}
 use Rattle.eft_top.specs.Causes.{IsOneOf, IsOfText, AnswersCall}
@@ -35,13 +35,12 @@ pub record Presents (files : List (List ℕ)) (limit : ℕ) (failed : Bool) (run
 abbrev pub IsMeant : Shown → Shown → Type 0
 IsMeant meant run = Same meant run ⊎ ((run.end ≡ GoesOn) × IsPrefix run.records meant.records)
 
--- where the input is not too long, it shows a run that is what the text means over the records that were read
+-- it shows a run that is what the text means over the records of each input that begins with what was got
 abbrev pub RunShowsMeaning : (Got → Type 0) → (List ℕ → Type 0) → (List ℕ → Type 0) → Type 0
 RunShowsMeaning given out diag =
     (words : List (List ℕ)) (limit : ℕ) (language : Dialect) (file : List ℕ) (held : List ℕ → Option (List ℕ)) (files : List (List ℕ)) (meaning : Meaning) (result : Status) →
     IsRunOf words limit language file held files meaning given result out diag → IsOfText result →
-    (got : Got) × given got × (((is_too_long got ≡ true) × (result ≡ InputTooLong))
-    ⊎ ((run : Shown) × IsMeant (meaning (records_of got) limit) run × Presents files limit got.failed run result out diag))
+    (got : Got) × given got × (run : Shown) × OfEach got (λ records. IsMeant (meaning records limit) run) × Presents files limit (is_broken got.behind) run result out diag
 
 -- ---- a run misses nothing that the text means ----
 
@@ -53,10 +52,17 @@ pub record MissesNothing (meant : ℕ → Shown) (files : List (List ℕ)) (limi
   pub going : (b : ℕ) → (meant b).end ≡ GoesOn → 32 * ((meant b).work + 1) ≤ limit → (records : List Record) × IsPrefix (meant b).records records × out (output_bytes records)
   pub endless : ((b : ℕ) → (meant b).end ≡ GoesOn) → result ≡ StepLimit
 
--- unless a fetch or a put failed, or memory was wanting, and where the input is not too long
+-- unless a fetch or a put failed, or memory was wanting
 abbrev pub RunMissesNothing : (Got → Type 0) → (List ℕ → Type 0) → (List ℕ → Type 0) → Type 0
 RunMissesNothing given out diag =
     (words : List (List ℕ)) (limit : ℕ) (language : Dialect) (file : List ℕ) (held : List ℕ → Option (List ℕ)) (files : List (List ℕ)) (meaning : Meaning) (result : Status) →
     IsRunOf words limit language file held files meaning given result out diag →
     IsOneOf result (LibraryFault ∷ OutputFault ∷ Memory ∷ [])
-    ⊎ ((got : Got) × given got × (is_too_long got ≡ false → MissesNothing (meaning (records_of got)) files limit got.failed result out diag))
+    ⊎ ((got : Got) × given got × OfEach got (λ records. MissesNothing (meaning records) files limit (is_broken got.behind) result out diag))
+
+-- ---- a source that tells its bytes ----
+
+-- where no read failed, its whole input is one of those that begin with what was got
+abbrev pub InputIsWhole : {S : Type 0} → (S → Option (List ℕ)) → (S → ℕ) → S → S → Type 0
+InputIsWhole left faults before after =
+    (got : Got) (bytes : List ℕ) → HasGiven left faults before after got → left before ≡ Some bytes → got.behind ≢ Broken → MayHave got (input_records bytes)

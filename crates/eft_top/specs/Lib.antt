@@ -4,6 +4,7 @@ pub mod Lines
 pub mod Words
 pub mod Reading
 pub mod Input
+pub mod Delivery
 pub mod Outcome
 pub mod Causes
 pub mod Laws

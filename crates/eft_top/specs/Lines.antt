@@ -44,9 +44,6 @@ library_fault_line = codes "library fault\n"
 abbrev pub input_fault_line : List ℕ
 input_fault_line = codes "input fault\n"
 
-abbrev pub input_too_long_line : List ℕ
-input_too_long_line = codes "input too long\n"
-
 abbrev pub output_fault_line : List ℕ
 output_fault_line = codes "output fault\n"
 

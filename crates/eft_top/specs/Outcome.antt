@@ -1,9 +1,10 @@
--- What comes of a command: a fault of its text, its deck, an input that is too long, or a run over the records got.
-use Rattle.std.specs.Prelude.{◌≡◌, ℕ, Bool, true, false, ◌&&◌, List, [], ◌∷◌, Ok, Err, Some, None, if◌then◌else◌}
+-- What comes of a command: a fault of its text, its deck, or a run over the records that it asked for.
+use Rattle.std.specs.Prelude.{◌≡◌, ◌≢◌, ℕ, Bool, true, false, ◌&&◌, List, [], ◌∷◌, Ok, Err, Some, None, if◌then◌else◌}
 use Rattle.std.specs.declared.option.Option.{Option}
 use Rattle.ground.specs.declared.fault.Fault.{Fault}
 use Rattle.ground.specs.declared.place.Place.{Place}
 use Rattle.ground.specs.declared.trap.Trap.{Trap}
+use Rattle.ground.specs.declared.trap.Trap.TheVariants.{EndOfInput}
 use Rattle.ports.specs.Records.{output_bytes}
 use Rattle.f66_tree.specs.World.{Record, Shown, End, Ended, GoesOn, Lost, Done, Stopped, Trapped, Wrong}
 use Rattle.f66_program.specs.Linking.{Program}
@@ -12,20 +13,19 @@ use Rattle.front.specs.Checked.{Meaning}
 use Rattle.deck.specs.Decks.{deck_of}
 use Rattle.front.specs.Verdict.{Verdict, Refuses, Accepts, Becomes, file_name}
 use Rattle.front.specs.Programs.{IsProgramOf}
-use Rattle.machine.specs.Runs.{IsRunOf, is_end_of_input}
+use Rattle.machine.specs.Runs.{IsRunOf}
 use Rattle.deck_file.specs.Loaded.{Loaded, IsLoaded}
 use Rattle.eft_top.specs.declared.status.Status.{Status}
-use Rattle.eft_top.specs.declared.status.Status.TheVariants.{SourceFault, Done as IsDone, Stopped as IsStopped, Trapped as IsTrapped, StepLimit, InputFault, InputTooLong}
-use Rattle.eft_top.specs.Lines.{fault_line, trap_line, stop_line, limit_line, input_fault_line, input_too_long_line}
-use Rattle.eft_top.specs.Input.{Got, is_too_long, records_of}
+use Rattle.eft_top.specs.declared.status.Status.TheVariants.{SourceFault, Done as IsDone, Stopped as IsStopped, Trapped as IsTrapped, StepLimit, InputFault}
+use Rattle.eft_top.specs.Lines.{fault_line, trap_line, stop_line, limit_line, input_fault_line}
+use Rattle.eft_top.specs.Input.{Got, Behind, Unread, Nothing, Broken, is_broken, OfEach}
 use Rattle.eft_top.specs.Words.{Command, Run, Cards, Deck}
 
--- a fault in the file of a name; a deck; an input that is too long; or what a run shows of which at most so many statements begin, with
--- the names of the files, and whether a read of its input has failed
+-- a fault in the file of a name; a deck; or what a run shows of which at most so many statements begin, with the names of the files, and
+-- whether a read of its input has failed
 pub data Outcome : Type 0 where
   HasFault : Fault → List ℕ → Outcome
   HasDeck : List ℕ → Outcome
-  HasLongInput : Outcome
   Runs : List (List ℕ) → ℕ → Bool → Shown → Outcome
 
 -- A run with a limit over an input: it shows what a program of the meaning does within the limit, a program of sound FORTRAN
@@ -49,24 +49,27 @@ abbrev pub IsPrinted : Verdict → Outcome → Type 0
 IsPrinted (Refuses fault file) outcome = outcome ≡ HasFault fault file
 IsPrinted (Accepts files meaning) outcome = (deck : List ℕ) × IsDeck meaning deck × (outcome ≡ HasDeck deck)
 
--- what comes of a run and what was got of the input, by whether that is too long; P holds of what the run shows
-abbrev pub RunsIn : Bool → List (List ℕ) → (Shown → Type 0) → ℕ → Got → Outcome → Type 0
-RunsIn true files P limit got outcome = outcome ≡ HasLongInput
-RunsIn false files P limit got outcome = (shown : Shown) × P shown × (outcome ≡ Runs files limit got.failed shown)
+-- A run asks for one record more than there are where a read has failed, and never where nothing is known of what is behind.
+abbrev pub Asks : Behind → End → Type 0
+Asks Unread end = (place : Place) → end ≢ Ended (Trapped EndOfInput place)
+Asks Nothing end = Unit {0}
+Asks Broken end = (place : Place) × (end ≡ Ended (Trapped EndOfInput place))
 
--- the input is read, and what was got is what its reads may have given
-abbrev pub RunsOver : List (List ℕ) → (Got → Shown → Type 0) → ℕ → (Got → Type 0) → Outcome → Type 0
-RunsOver files P limit given outcome = (got : Got) × given got × RunsIn (is_too_long got) files (P got) limit got outcome
+-- What comes of a run: of what reads may have given, something was got, and P holds of what the run shows over the records of each input
+-- that begins so.
+abbrev pub RunsOver : List (List ℕ) → (List Record → Shown → Type 0) → ℕ → (Got → Type 0) → Outcome → Type 0
+RunsOver files P limit given outcome =
+    (got : Got) × given got × (shown : Shown) × OfEach got (λ records. P records shown) × Asks got.behind shown.end × (outcome ≡ Runs files limit (is_broken got.behind) shown)
 
 -- a refused text comes to its fault, an accepted one to a run
 abbrev pub ComesOf : Verdict → ℕ → (Got → Type 0) → Outcome → Type 0
 ComesOf (Refuses fault file) limit given outcome = outcome ≡ HasFault fault file
-ComesOf (Accepts files meaning) limit given outcome = RunsOver files (λ got. IsRun meaning limit (records_of got)) limit given outcome
+ComesOf (Accepts files meaning) limit given outcome = RunsOver files (IsRun meaning limit) limit given outcome
 
 -- a refused deck comes to its fault, another one to the run of its units; all its places are in its file
 abbrev pub DeckComesOf : List ℕ → Loaded → ℕ → (Got → Type 0) → Outcome → Type 0
 DeckComesOf file (Err fault) limit given outcome = outcome ≡ HasFault fault file
-DeckComesOf file (Ok made) limit given outcome = RunsOver (file ∷ []) (λ got. IsRunOf made (records_of got) limit) limit given outcome
+DeckComesOf file (Ok made) limit given outcome = RunsOver (file ∷ []) (λ records. IsRunOf made records limit) limit given outcome
 
 -- what may come of a command, by what is known of the library and what reads may have given
 abbrev pub IsOutcomeOf : Command → Known → (Got → Type 0) → Outcome → Type 0
@@ -81,6 +84,10 @@ IsOutcomeBy command files given outcome = (known : Known) × IsOf files known ×
 -- the same of the command that words ask for
 abbrev pub IsOutcome : (Command → Type 0) → Option (List ℕ → Option (List ℕ)) → (Got → Type 0) → Outcome → Type 0
 IsOutcome asks files given outcome = (command : Command) × asks command × IsOutcomeBy command files given outcome
+
+abbrev pub is_end_of_input : Trap → Bool
+is_end_of_input EndOfInput = true
+is_end_of_input _ = false
 
 -- where a read has failed, the end of the records got is no end of the input
 abbrev pub trap_status : Bool → Trap → Status
@@ -108,17 +115,14 @@ end_line files limit failed _ = []
 abbrev pub status_of : Outcome → Option Status
 status_of (HasFault fault file) = Some SourceFault
 status_of (HasDeck deck) = Some IsDone
-status_of HasLongInput = Some InputTooLong
 status_of (Runs files limit failed run) = end_status failed run.end
 
 abbrev pub out_of : Outcome → List ℕ
 out_of (HasFault fault file) = []
 out_of (HasDeck deck) = deck
-out_of HasLongInput = []
 out_of (Runs files limit failed run) = output_bytes run.records
 
 abbrev pub diag_line : Outcome → List ℕ
 diag_line (HasFault fault file) = fault_line fault file
 diag_line (HasDeck deck) = []
-diag_line HasLongInput = input_too_long_line
 diag_line (Runs files limit failed run) = end_line files limit failed run.end

@@ -1,23 +1,24 @@
-// What a call has to show: the words are read, the text is translated or the deck is read, and the text's deck is written, or the
-// input is read and the units run over it.
-ghost use Rattle.std.specs.Prelude.{◌≡◌, ℕ, List, [], ◌∷◌, false, map, All, IfOk};
+// All that a call does but for its line: the words are read, the text is translated or the deck is read, and the text's deck is put,
+// or the units run over the input and put their records.
+ghost use Rattle.std.specs.Prelude.{◌≡◌, ◌≢◌, ℕ, List, [], ◌∷◌, map, All, IfOk, OnErr};
 ghost use Rattle.ground.specs.declared.token.Dialect.{Dialect};
 ghost use Rattle.f66_tree.specs.Views.{routine_of};
 ghost use Rattle.f66_check.specs.Answers.{IsSoundUnit};
 ghost use Rattle.linker.specs.Rules.{program_of};
-ghost use Rattle.machine.specs.Runs.{IsSoundProgram};
+ghost use Rattle.machine.specs.Runs.{IsSoundProgram, IsRunOf};
 ghost use Rattle.stmt_text.specs.Fitting.{IsPrintable};
 ghost use Rattle.deck.specs.Decks.{deck_of};
+ghost use Rattle.eft_top.specs.declared.status.Status.TheVariants.{InputFault};
 ghost use Rattle.eft_top.specs.Words.{AskFor, texts, Run, Cards, Deck};
-ghost use Rattle.eft_top.specs.Outcome.{HasDeck};
+ghost use Rattle.eft_top.specs.Outcome.{RunsOver};
 ghost use Rattle.eft_top.specs.Reading.{asked_command};
 ghost use Rattle.eft_top.specs.Causes.{NeedsNoInput};
-ghost use Rattle.eft_top.specs.Input.{Got as AllGot, HasGiven, HasRead, got_of, is_too_long, is_unread};
-ghost use Rattle.eft_top.specs.Story.{Came, CameOf};
-ghost use Rattle.eft_top.specs.Report.{IsReport, ReportsOn, ReportsRefusal};
+ghost use Rattle.eft_top.specs.Input.{HasGiven, HasGot, HasRead, is_unread};
+ghost use Rattle.eft_top.specs.Story.{CameOf, CameOfWords, HasPut, HasBroken, Prints, Shows};
+ghost use Rattle.eft_top.specs.Report.{ReportsRefusal};
 
 use crate::Status;
-use crate::input::{Got, read_input};
+use crate::puts::put_all;
 use crate::report::Report;
 use crate::words::{Asked, read_words};
 use deck::write_deck;
@@ -25,96 +26,110 @@ use deck_file::load_deck;
 use f66_tree::Unit;
 use front::{TextRefusal, Translated, translate_text};
 use ground::{Dialect, List, Memory, Place, Refusal, Text};
-use machine::run_units;
-use ports::{Library, Source};
+use machine::{load, loaded_runs};
+use ports::{Failed, Library, Sink, Source};
 use std::alloc::{AllocError, Global};
 
-/// All that a call does but for its puts.
-pub fn answer_to<L: Library, S: Source>(
+/// All that a call does but for its line.
+pub fn answer_to<L: Library, S: Source, K: Sink>(
     alloc: Global,
     words: &Vec<String>,
     library: &mut L,
     input: &mut S,
+    out: &mut K,
 ) -> Report
     ensures library { L.becomes library.old library.new }
     ensures input { HasRead (S.left input.old) (S.left input.new) }
     ensures unread { NeedsNoInput result.status → input.new ≡ input.old }
     ensures unasked { (language : Dialect) (file : List ℕ) → AskFor (texts words.now.items) (Cards language file) → input.new ≡ input.old }
-    ensures came { Came (AskFor (texts words.now.items)) (L.files library.old) (L.faults library.old) (L.faults library.new) (HasGiven S.left S.faults input.old input.new) result }
+    ensures all_read { result.status ≢ InputFault → S.faults input.new ≡ S.faults input.old }
+    ensures came { CameOfWords (AskFor (texts words.now.items)) (L.files library.old) (L.faults library.old) (L.faults library.new) (HasGiven S.left S.faults input.old input.new) (HasGot S.left input.old input.new)
+        (HasPut K.puts K.faults out.old out.new) (HasBroken K.puts K.faults out.old out.new) result }
 {
     let Some(asked) = read_words(words) else {
-        return Report::fixed(
-            alloc,
-            Status::Usage,
-            "usage: eft cards|run|deck|listing|mill\n",
-        );
+        return Report::fixed(Status::Usage, "usage: eft cards|run|deck|listing|mill\n");
     };
-    match report_of(alloc, asked, library, input) {
+    match report_of(alloc, asked, library, input, out) {
         Ok(report) => report,
-        Err(Memory) => Report::fixed(alloc, Status::Memory, "out of memory\n"),
+        Err(Memory) => Report::fixed(Status::Memory, "out of memory\n"),
     }
 }
 
-fn report_of<L: Library, S: Source>(
+fn report_of<L: Library, S: Source, K: Sink>(
     alloc: Global,
     asked: Asked<'_>,
     library: &mut L,
     input: &mut S,
+    out: &mut K,
 ) -> Result<Report, Memory>
     ensures becomes { L.becomes library.old library.new }
     ensures input { HasRead (S.left input.old) (S.left input.new) }
     ensures unread { IfOk result (λ report. NeedsNoInput report.status → input.new ≡ input.old) }
+    ensures untouched { OnErr result (input.new ≡ input.old) }
+    ensures unput { OnErr result (out.new ≡ out.old) }
     ensures unasked { (language : Dialect) (file : List ℕ) → asked_command asked.entry ≡ Cards language file → input.new ≡ input.old }
-    ensures came { IfOk result (CameOf (asked_command asked.entry) (L.files library.old) (L.faults library.old) (L.faults library.new) (HasGiven S.left S.faults input.old input.new)) }
+    ensures all_read { IfOk result (λ report. report.status ≢ InputFault → S.faults input.new ≡ S.faults input.old) }
+    ensures came { IfOk result (CameOf (asked_command asked.entry) (L.files library.old) (L.faults library.old) (L.faults library.new) (HasGiven S.left S.faults input.old input.new) (HasGot S.left input.old input.new)
+        (HasPut K.puts K.faults out.old out.new) (HasBroken K.puts K.faults out.old out.new)) }
 {
     match asked {
         Asked::Run(limit, language, file) => {
-            run_file(alloc, limit, language, file, library, input)
+            run_file(alloc, limit, language, file, library, input, out)
         }
-        Asked::Cards(language, file) => print_file(alloc, language, file, library),
-        Asked::Deck(limit, file) => run_deck(alloc, limit, file, library, input),
+        Asked::Cards(language, file) => print_file(alloc, language, file, library, out),
+        Asked::Deck(limit, file) => run_deck(alloc, limit, file, library, input, out),
     }
 }
 
 /// Translates and runs the text in a file.
-fn run_file<L: Library, S: Source>(
+fn run_file<L: Library, S: Source, K: Sink>(
     alloc: Global,
     limit: u64,
     language: Dialect,
     file: &str,
     library: &mut L,
     input: &mut S,
+    out: &mut K,
 ) -> Result<Report, Memory>
     ensures becomes { L.becomes library.old library.new }
     ensures input { HasRead (S.left input.old) (S.left input.new) }
     ensures unread { IfOk result (λ report. NeedsNoInput report.status → input.new ≡ input.old) }
-    ensures came { IfOk result (CameOf (Run limit language file.now) (L.files library.old) (L.faults library.old) (L.faults library.new) (HasGiven S.left S.faults input.old input.new)) }
+    ensures untouched { OnErr result (input.new ≡ input.old) }
+    ensures unput { OnErr result (out.new ≡ out.old) }
+    ensures all_read { IfOk result (λ report. report.status ≢ InputFault → S.faults input.new ≡ S.faults input.old) }
+    ensures came { IfOk result (CameOf (Run limit language file.now) (L.files library.old) (L.faults library.old) (L.faults library.new) (HasGiven S.left S.faults input.old input.new) (HasGot S.left input.old input.new)
+        (HasPut K.puts K.faults out.old out.new) (HasBroken K.puts K.faults out.old out.new)) }
 {
     match translate_text(alloc, language, file, library) {
         Ok(Translated { made, files }) => {
-            read_and_run(alloc, limit, &made.units, made.finish, &files, input)
+            run(alloc, limit, &made.units, made.finish, files, input, out)
         }
-        Err(refusal) => refused(alloc, refusal),
+        Err(refusal) => refused(refusal),
     }
 }
 
 /// Reads the deck in a file, and runs it.
-fn run_deck<L: Library, S: Source>(
+fn run_deck<L: Library, S: Source, K: Sink>(
     alloc: Global,
     limit: u64,
     file: &str,
     library: &mut L,
     input: &mut S,
+    out: &mut K,
 ) -> Result<Report, Memory>
     ensures becomes { L.becomes library.old library.new }
     ensures input { HasRead (S.left input.old) (S.left input.new) }
     ensures unread { IfOk result (λ report. NeedsNoInput report.status → input.new ≡ input.old) }
-    ensures came { IfOk result (CameOf (Deck limit file.now) (L.files library.old) (L.faults library.old) (L.faults library.new) (HasGiven S.left S.faults input.old input.new)) }
+    ensures untouched { OnErr result (input.new ≡ input.old) }
+    ensures unput { OnErr result (out.new ≡ out.old) }
+    ensures all_read { IfOk result (λ report. report.status ≢ InputFault → S.faults input.new ≡ S.faults input.old) }
+    ensures came { IfOk result (CameOf (Deck limit file.now) (L.files library.old) (L.faults library.old) (L.faults library.new) (HasGiven S.left S.faults input.old input.new) (HasGot S.left input.old input.new)
+        (HasPut K.puts K.faults out.old out.new) (HasBroken K.puts K.faults out.old out.new)) }
 {
     let files = only_file(alloc, file)?;
     match load_deck(alloc, file, library) {
-        Ok(deck) => read_and_run(alloc, limit, &deck.units, deck.finish, &files, input),
-        Err(refusal) => refused(alloc, refusal),
+        Ok(deck) => run(alloc, limit, &deck.units, deck.finish, files, input, out),
+        Err(refusal) => refused(refusal),
     }
 }
 
@@ -128,80 +143,81 @@ fn only_file(alloc: Global, file: &str) -> Result<List<Text>, AllocError>
     Ok(files)
 }
 
-/// Translates the text in a file, and writes its deck.
-fn print_file<L: Library>(
+/// Translates the text in a file, and puts its deck.
+fn print_file<L: Library, K: Sink>(
     alloc: Global,
     language: Dialect,
     file: &str,
     library: &mut L,
+    out: &mut K,
 ) -> Result<Report, Memory>
     ensures becomes { L.becomes library.old library.new }
-    ensures came { IfOk result (CameOf (Cards language file.now) (L.files library.old) (L.faults library.old) (L.faults library.new) is_unread) }
+    ensures unput { OnErr result (out.new ≡ out.old) }
+    ensures came { IfOk result (CameOf (Cards language file.now) (L.files library.old) (L.faults library.old) (L.faults library.new) is_unread is_unread
+        (HasPut K.puts K.faults out.old out.new) (HasBroken K.puts K.faults out.old out.new)) }
 {
     match translate_text(alloc, language, file, library) {
-        Ok(translated) => print_units(alloc, &translated.made.units),
-        Err(refusal) => refused(alloc, refusal),
+        Ok(translated) => print_units(alloc, &translated.made.units, out),
+        Err(refusal) => refused(refusal),
     }
 }
 
-fn print_units(alloc: Global, units: &List<Unit>) -> Result<Report, Memory>
+fn print_units<K: Sink>(alloc: Global, units: &List<Unit>, out: &mut K) -> Result<Report, Memory>
     requires sound { All IsSoundUnit (map routine_of units.now.items) }
     requires printable { All IsPrintable (map routine_of units.now.items) }
-    ensures { IfOk result (λ report. IsReport report (HasDeck (deck_of (map routine_of units.now.items)))) }
+    ensures unput { OnErr result (out.new ≡ out.old) }
+    ensures prints { IfOk result (Prints (deck_of (map routine_of units.now.items)) (HasPut K.puts K.faults out.old out.new) (HasBroken K.puts K.faults out.old out.new)) }
 {
     let mut deck = Vec::new(alloc);
     match write_deck(units, &mut deck) {
-        Ok(()) => Ok(Report::of_deck(deck)),
+        Ok(()) => Ok(print(&deck, out)),
         Err(Refusal::Memory) => Err(Memory),
         Err(Refusal::Fault(_)) => unreachable!(),
     }
 }
 
-fn refused(alloc: Global, refusal: TextRefusal) -> Result<Report, Memory>
+/// Puts a deck.
+fn print<K: Sink>(deck: &[u8], out: &mut K) -> Report
+    ensures { Prints deck.now (HasPut K.puts K.faults out.old out.new) (HasBroken K.puts K.faults out.old out.new) result }
+{
+    match put_all(out, deck) {
+        Ok(()) => Report::fixed(Status::Done, ""),
+        Err(Failed) => Report::fixed(Status::OutputFault, "output fault\n"),
+    }
+}
+
+fn refused(refusal: TextRefusal) -> Result<Report, Memory>
     ensures { IfOk result (ReportsRefusal refusal) }
 {
     match refusal {
-        TextRefusal::Fault(fault, name) => Ok(Report::of_fault(alloc, fault, &name)?),
-        TextRefusal::Library => Ok(Report::fixed(alloc, Status::LibraryFault, "library fault\n")),
+        TextRefusal::Fault(fault, name) => Ok(Report::of_fault(fault, name)),
+        TextRefusal::Library => Ok(Report::fixed(Status::LibraryFault, "library fault\n")),
         TextRefusal::Memory => Err(Memory),
     }
 }
 
-/// Reads the input, and runs linked units over its records.
-fn read_and_run<S: Source>(
+/// Runs linked units over the input. All memory is taken before the run begins.
+fn run<S: Source, K: Sink>(
     alloc: Global,
     limit: u64,
     units: &List<Unit>,
     finish: Place,
-    files: &List<Text>,
+    files: List<Text>,
     input: &mut S,
+    out: &mut K,
 ) -> Result<Report, Memory>
     requires { IsSoundProgram (program_of units.now.items finish) }
     ensures read { HasRead (S.left input.old) (S.left input.new) }
     ensures needs { IfOk result (λ report. NeedsNoInput report.status → ⊥) }
-    ensures report { IfOk result (λ report. (got : AllGot) × HasGiven S.left S.faults input.old input.new got
-        × ReportsOn report files.now.items (program_of units.now.items finish) limit got) }
+    ensures untouched { OnErr result (input.new ≡ input.old) }
+    ensures unput { OnErr result (out.new ≡ out.old) }
+    ensures all_read { IfOk result (λ report. report.status ≢ InputFault → S.faults input.new ≡ S.faults input.old) }
+    ensures shows { IfOk result (Shows (RunsOver files.items (λ records. IsRunOf (program_of units.now.items finish) records limit) limit) (HasGiven S.left S.faults input.old input.new) (HasGot S.left input.old input.new)
+        (HasPut K.puts K.faults out.old out.new) (HasBroken K.puts K.faults out.old out.new)) }
 {
-    let got = read_input(alloc, input)?;
-    if got.is_too_long() {
-        return Ok(Report::fixed(alloc, Status::InputTooLong, "input too long\n"));
-    }
-    run(alloc, limit, units, finish, files, got)
-}
-
-fn run(
-    alloc: Global,
-    limit: u64,
-    units: &List<Unit>,
-    finish: Place,
-    files: &List<Text>,
-    got: Got,
-) -> Result<Report, Memory>
-    requires sound { IsSoundProgram (program_of units.now.items finish) }
-    requires short { is_too_long (got_of got) ≡ false }
-    ensures needs { IfOk result (λ report. NeedsNoInput report.status → ⊥) }
-    ensures report { IfOk result (λ report. ReportsOn report files.now.items (program_of units.now.items finish) limit (got_of got)) }
-{
-    let ran = run_units(alloc, units, finish, got.bytes, got.failed, limit)?;
-    Ok(Report::of_run(alloc, files, limit, ran)?)
+    // A run of a loaded runner is one of its units.
+    loaded_runs::<S, K>();
+    let mut runner = load(alloc, units, finish, limit)?;
+    let end = runner.run(input, out);
+    Ok(Report::of_end(end, limit, files))
 }

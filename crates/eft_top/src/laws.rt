@@ -1,6 +1,6 @@
 // What the clauses of `eft` say of a run, in the words of the languages. The functions do nothing: their contracts are the laws.
 ghost use Rattle.eft_top.specs.Input.{HasGiven};
-ghost use Rattle.eft_top.specs.Laws.{RunShowsMeaning, RunMissesNothing};
+ghost use Rattle.eft_top.specs.Laws.{RunShowsMeaning, RunMissesNothing, InputIsWhole};
 
 use f66_tree::runs_extend;
 use front::one_verdict;
@@ -23,3 +23,8 @@ pub fn a_run_misses_nothing<S: Source, K: Sink, D: Sink>()
     runs_extend();
     one_verdict();
 }
+
+/// The whole input of a source that tells its bytes is one of those that begin with what was got.
+pub fn a_told_input_is_whole<S: Source>()
+    ensures { (input rest : S) → InputIsWhole S.left S.faults input rest }
+{}

@@ -2,16 +2,16 @@
 #![tactic(auto)]
 
 mod answer;
-mod deliver;
-mod input;
 mod laws;
 mod lines;
 mod numbers;
+mod octal;
+mod puts;
 mod report;
 mod status;
 mod top;
 mod words;
 
-pub use laws::{a_run_misses_nothing, a_run_shows_the_meaning};
+pub use laws::{a_run_misses_nothing, a_run_shows_the_meaning, a_told_input_is_whole};
 pub use status::Status;
 pub use top::eft;

@@ -1,64 +1,86 @@
-// The lines that are made for diag.
-ghost use Rattle.std.specs.Prelude.{◌≡◌, ◌++◌, IfOk, string_bytes};
-ghost use Rattle.eft_top.specs.Lines.{at_line as line_at, fault_head as head_of_fault, fault_line, limit_line, stop_line, trap_line};
+// The lines that diag gets. They take no memory: after a run none may be wanted.
+ghost use Rattle.std.specs.Prelude.{◌++◌, ℕ, List};
+ghost use Rattle.eft_top.specs.Delivery.{Delivers, IsWriting};
+ghost use Rattle.eft_top.specs.Lines.{at_line, fault_line, limit_line, limit_part, stop_line, trap_line};
 
+use crate::octal::{ROOM, octal_digits};
+use crate::puts::LineWriter;
 use ground::{Fault, Trap};
-use std::alloc::{AllocError, Global};
+use itoa::Buffer;
+use ports::{Failed, Sink};
 
 /// The line of a fault in the file of this name.
-pub fn fault_text(alloc: Global, fault: Fault, file: &[u8]) -> Result<Vec<u8>, AllocError>
-    ensures { IfOk result (λ text. text.items ≡ fault_line fault file.now) }
+pub fn put_fault<D: Sink>(diag: &mut D, fault: Fault, file: &[u8]) -> Result<(), Failed>
+    ensures { Delivers D.puts D.faults diag.old diag.new (fault_line fault file.now) result }
 {
-    let head = fault_head(alloc, fault)?;
-    at_line(alloc, head, file, fault.place.line)
+    let mut number = Buffer::new();
+    let mut line = LineWriter::new(diag);
+    line.add(b"fault ", diag);
+    line.add(number.format(fault.kind.number()).as_bytes(), diag);
+    line.add(b" ", diag);
+    line.add(fault.kind.word().as_bytes(), diag);
+    add_limit(&mut line, fault.number, diag);
+    end_at(line, file, fault.place.line, diag)
 }
 
-fn fault_head(alloc: Global, fault: Fault) -> Result<String, AllocError>
-    ensures { IfOk result (λ text. string_bytes text ≡ head_of_fault fault) }
+/// The number of a limit; other faults have none.
+fn add_limit<D: Sink>(line: &mut LineWriter, limit: u64, diag: &mut D)
+    ensures { (begun : D) (head : List ℕ) → IsWriting D.puts D.faults begun head diag.old line.old → IsWriting D.puts D.faults begun (head ++ limit_part limit) diag.new line.new }
 {
-    let number = fault.kind.number();
-    let word = fault.kind.word();
-    let limit = fault.number;
-    if limit == 0 {
-        format!(in alloc; "fault {number} {word}")
-    } else {
-        format!(in alloc; "fault {number} {word} {limit}")
+    if limit != 0 {
+        let mut number = Buffer::new();
+        line.add(b" ", diag);
+        line.add(number.format(limit).as_bytes(), diag);
     }
 }
 
 /// The line of a trap within a statement of this line of the file.
-pub fn trap_text(alloc: Global, trap: Trap, file: &[u8], line: u32) -> Result<Vec<u8>, AllocError>
-    ensures { IfOk result (λ text. text.items ≡ trap_line trap file.now line) }
+pub fn put_trap<D: Sink>(diag: &mut D, trap: Trap, file: &[u8], line: u32) -> Result<(), Failed>
+    ensures { Delivers D.puts D.faults diag.old diag.new (trap_line trap file.now line) result }
 {
-    let number = trap.number();
-    let word = trap.word();
-    let head = format!(in alloc; "trap {number} {word}")?;
-    at_line(alloc, head, file, line)
+    let mut number = Buffer::new();
+    let mut text = LineWriter::new(diag);
+    text.add(b"trap ", diag);
+    text.add(number.format(trap.number()).as_bytes(), diag);
+    text.add(b" ", diag);
+    text.add(trap.word().as_bytes(), diag);
+    end_at(text, file, line, diag)
 }
 
-fn at_line(alloc: Global, head: String, file: &[u8], line: u32) -> Result<Vec<u8>, AllocError>
-    ensures { IfOk result (λ text. text.items ≡ string_bytes head ++ line_at file.now line) }
+/// A line ends with the line of a file.
+fn end_at<D: Sink>(mut text: LineWriter, file: &[u8], line: u32, diag: &mut D) -> Result<(), Failed>
+    ensures { (begun : D) (head : List ℕ) → IsWriting D.puts D.faults begun head diag.old text → Delivers D.puts D.faults begun diag.new (head ++ at_line file.now line) result }
 {
-    let mut text = head.into_bytes();
-    text.extend_from_slice(b" at ")?;
-    text.extend_from_slice(file)?;
-    let number = format!(in alloc; ":{line}\n")?;
-    text.extend_from_slice(number.as_bytes())?;
-    Ok(text)
+    let mut number = Buffer::new();
+    text.add(b" at ", diag);
+    text.add(file, diag);
+    text.add(b":", diag);
+    text.add(number.format(line).as_bytes(), diag);
+    text.add(b"\n", diag);
+    text.end(diag)
 }
 
 /// The line of a STOP with a number.
-pub fn stop_text(alloc: Global, number: u16) -> Result<Vec<u8>, AllocError>
-    ensures { IfOk result (λ text. text.items ≡ stop_line number) }
+pub fn put_stop<D: Sink>(diag: &mut D, number: u16) -> Result<(), Failed>
+    ensures { Delivers D.puts D.faults diag.old diag.new (stop_line number) result }
 {
-    let text = format!(in alloc; "stop {number:o}\n")?;
-    Ok(text.into_bytes())
+    let mut digits = [0u8; ROOM];
+    let start = octal_digits(number, &mut digits);
+    let mut line = LineWriter::new(diag);
+    line.add(b"stop ", diag);
+    line.add(&digits[start..], diag);
+    line.add(b"\n", diag);
+    line.end(diag)
 }
 
 /// The line of a run that would go on after its limit of steps.
-pub fn limit_text(alloc: Global, limit: u64) -> Result<Vec<u8>, AllocError>
-    ensures { IfOk result (λ text. text.items ≡ limit_line limit) }
+pub fn put_limit<D: Sink>(diag: &mut D, limit: u64) -> Result<(), Failed>
+    ensures { Delivers D.puts D.faults diag.old diag.new (limit_line limit) result }
 {
-    let text = format!(in alloc; "step limit {limit}\n")?;
-    Ok(text.into_bytes())
+    let mut number = Buffer::new();
+    let mut line = LineWriter::new(diag);
+    line.add(b"step limit ", diag);
+    line.add(number.format(limit).as_bytes(), diag);
+    line.add(b"\n", diag);
+    line.end(diag)
 }

@@ -1,100 +1,99 @@
-// What a call has to show, before anything is put.
-ghost use Rattle.std.specs.Prelude.{◌≡◌, [], Bool, IfOk};
-ghost use Rattle.f66_tree.specs.World.{Shown};
-ghost use Rattle.machine.specs.Runs.{Tells};
-ghost use Rattle.eft_top.specs.Outcome.{HasFault, HasDeck, Runs};
-ghost use Rattle.eft_top.specs.Report.{IsReport, line_bytes};
+// What a call has to show on diag.
+ghost use Rattle.std.specs.Prelude.{◌≡◌};
+ghost use Rattle.eft_top.specs.Delivery.{Delivers};
+ghost use Rattle.eft_top.specs.Outcome.{HasFault};
+ghost use Rattle.eft_top.specs.Report.{IsReport, line_at, line_bytes, status_at};
 
 use crate::Status;
-use crate::lines::{fault_text, limit_text, stop_text, trap_text};
+use crate::lines::{put_fault, put_limit, put_stop, put_trap};
+use crate::puts::put_all;
 use front::name_of;
-use ground::{Fault, Text};
-use machine::{Ran, RunEnd};
-use std::alloc::{AllocError, Global};
+use ground::{Fault, List, Place, Text, Trap};
+use ports::{Failed, Sink};
+use runner::End;
 
-/// A line that was made, or one that the program has.
+/// A line for diag, which takes no memory to be put.
 #[derive(Drop)]
 pub enum Line {
-    Made(Vec<u8>),
+    /// One that the program has.
     Fixed(&'static str),
+    /// That of a fault in the file of a name.
+    Fault(Fault, Text),
+    /// That of a trap, with the names of the files.
+    Trap(Trap, Place, List<Text>),
+    /// That of a STOP with a number.
+    Stop(u16),
+    /// That of a run at its limit of steps.
+    Limit(u64),
 }
 
 impl Line {
-    pub fn as_bytes(&self) -> &[u8]
-        ensures { result.now ≡ line_bytes self.now }
+    /// Puts it.
+    pub fn put<D: Sink>(&self, diag: &mut D) -> Result<(), Failed>
+        ensures { Delivers D.puts D.faults diag.old diag.new (line_bytes self.now) result }
     {
         match self {
-            Line::Made(text) => text,
-            Line::Fixed(text) => text.as_bytes(),
+            Line::Fixed(text) => put_all(diag, text.as_bytes()),
+            Line::Fault(fault, name) => put_fault(diag, *fault, name.as_bytes()),
+            Line::Trap(trap, place, files) => {
+                put_trap(diag, *trap, name_of(files, place.file), place.line)
+            }
+            Line::Stop(number) => put_stop(diag, *number),
+            Line::Limit(limit) => put_limit(diag, *limit),
         }
     }
 }
 
-/// A status, what out gets, which is the records of a run or a deck, and the line for diag.
+/// A status, and the line for diag.
 #[derive(Drop)]
 pub struct Report {
     pub status: Status,
-    pub out: Vec<u8>,
     pub line: Line,
 }
 
 impl Report {
     /// A status whose line says all.
-    pub fn fixed(alloc: Global, status: Status, line: &'static str) -> Report
+    pub fn fixed(status: Status, line: &'static str) -> Report
         ensures status { result.status ≡ status }
-        ensures out { result.out.items ≡ [] }
         ensures line { line_bytes result.line ≡ line.entry.now }
     {
         Report {
             status,
-            out: Vec::new(alloc),
             line: Line::Fixed(line),
         }
     }
 
     /// A fault in the file of this name.
-    pub fn of_fault(alloc: Global, fault: Fault, file: &Text) -> Result<Report, AllocError>
-        ensures { IfOk result (λ report. IsReport report (HasFault fault file.now)) }
-    {
-        Ok(Report {
-            status: Status::SourceFault,
-            out: Vec::new(alloc),
-            line: Line::Made(fault_text(alloc, fault, file.as_bytes())?),
-        })
-    }
-
-    /// A deck.
-    pub fn of_deck(deck: Vec<u8>) -> Report
-        ensures { IsReport result (HasDeck deck.items) }
+    pub fn of_fault(fault: Fault, file: Text) -> Report
+        ensures { IsReport result (HasFault fault file) }
     {
         Report {
-            status: Status::Done,
-            out: deck,
-            line: Line::Fixed(""),
+            status: Status::SourceFault,
+            line: Line::Fault(fault, file),
         }
     }
 
-    /// A run with this limit of steps.
-    pub fn of_run(alloc: Global, files: &[Text], limit: u64, ran: Ran) -> Result<Report, AllocError>
-        ensures { IfOk result (λ report. (failed : Bool) (shown : Shown) → Tells failed ran shown → IsReport report (Runs files.now limit failed shown)) }
+    /// The end of a run with this limit of steps, where files have these names.
+    pub fn of_end(end: End, limit: u64, files: List<Text>) -> Report
+        ensures status { result.status ≡ status_at end }
+        ensures line { line_bytes result.line ≡ line_at files.items limit end }
     {
-        let Ran { out, end, .. } = ran;
-        let (status, line) = match end {
-            RunEnd::Done => (Status::Done, Line::Fixed("")),
-            RunEnd::Stopped(number) => (
-                Status::Stopped(number),
-                Line::Made(stop_text(alloc, number)?),
-            ),
-            RunEnd::Trapped(trap, place) => {
-                let file = name_of(files, place.file);
-                (
-                    Status::Trapped(trap),
-                    Line::Made(trap_text(alloc, trap, file, place.line)?),
-                )
-            }
-            RunEnd::InputFault => (Status::InputFault, Line::Fixed("input fault\n")),
-            RunEnd::GoesOn => (Status::StepLimit, Line::Made(limit_text(alloc, limit)?)),
-        };
-        Ok(Report { status, out, line })
+        match end {
+            End::Done => Report::fixed(Status::Done, ""),
+            End::Stopped(number) => Report {
+                status: Status::Stopped(number),
+                line: Line::Stop(number),
+            },
+            End::Trapped(trap, place) => Report {
+                status: Status::Trapped(trap),
+                line: Line::Trap(trap, place, files),
+            },
+            End::StepLimit => Report {
+                status: Status::StepLimit,
+                line: Line::Limit(limit),
+            },
+            End::InputFault => Report::fixed(Status::InputFault, "input fault\n"),
+            End::OutputFault => Report::fixed(Status::OutputFault, "output fault\n"),
+        }
     }
 }

@@ -25,8 +25,6 @@ pub enum Status {
     Memory,
     /// The program stopped with this number.
     Stopped(u16),
-    /// The input has more bytes than it may have.
-    InputTooLong,
     /// The run ended by a fault of its own.
     Trapped(Trap),
 }
@@ -46,7 +44,6 @@ impl Status {
             Status::StepLimit => 7,
             Status::Memory => 8,
             Status::Stopped(_) => 9,
-            Status::InputTooLong => 10,
             Status::Trapped(trap) => 10 + trap.number(),
         }
     }

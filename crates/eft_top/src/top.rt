@@ -8,17 +8,17 @@ ghost use Rattle.ground.specs.declared.trap.Trap.TheVariants.{EndOfInput};
 ghost use Rattle.eft_top.specs.Lines.{output_fault_line};
 ghost use Rattle.eft_top.specs.Words.{Cards, AskFor, texts};
 ghost use Rattle.eft_top.specs.Causes.{AnswersCall, IsOfText, WasToShow, NeedsNoInput, fixed_line};
-ghost use Rattle.eft_top.specs.Input.{HasGiven, HasRead};
+ghost use Rattle.eft_top.specs.Input.{HasGiven, HasGot, HasRead};
 
 use crate::Status;
 use crate::answer::answer_to;
-use crate::deliver::deliver;
 use front::one_verdict;
 use ports::{Failed, Library, Sink, Source};
 use std::alloc::Global;
 
-/// All that the program does. The words are those after the program's name; out gets the records of a run, or a deck, in one put, and
-/// diag at most one line. The input is read whole before a run begins. Want of memory may come at any time before the first put.
+/// All that the program does. The words are those after the program's name; out gets the records of a run, each in one put when it is
+/// complete, or a deck in one put, and diag at most one line. A run reads its input where it asks for a record. Want of memory comes
+/// before a run begins, or before a deck is put.
 pub fn eft<L: Library, S: Source, K: Sink, D: Sink>(
     alloc: Global,
     words: &Vec<String>,
@@ -37,14 +37,15 @@ pub fn eft<L: Library, S: Source, K: Sink, D: Sink>(
     ensures library_fault { result ≡ Status.LibraryFault → Rose (L.faults library.old) (L.faults library.new) }
     ensures output_fault { result ≡ Status.OutputFault → Rose (K.faults out.old) (K.faults out.new) ⊎ Rose (D.faults diag.old) (D.faults diag.new) }
 
-    // With any other status no put of this call failed, and with a text's status no fetch.
+    // With any other status no put of this call failed, and no read but with that of a read, and with a text's status no fetch.
     ensures all_put_out { result ≢ Status.OutputFault → K.faults out.new ≡ K.faults out.old }
     ensures all_put_diag { result ≢ Status.OutputFault → D.faults diag.new ≡ D.faults diag.old }
+    ensures all_read { result ≢ Status.OutputFault → result ≢ Status.InputFault → S.faults input.new ≡ S.faults input.old }
     ensures all_fetched { IsOfText result → L.faults library.new ≡ L.faults library.old }
 
     // What out and diag got with any other status, and nothing else.
     ensures line_shown { IfSome (fixed_line result) (λ line. K.puts out.old [] out.new × D.puts diag.old line diag.new) }
-    ensures failed { result ≡ Status.OutputFault → WasToShow (AskFor (texts words.now.items)) (L.files library.old) (HasGiven S.left S.faults input.old input.new)
+    ensures failed { result ≡ Status.OutputFault → WasToShow (AskFor (texts words.now.items)) (L.files library.old) (HasGot S.left input.old input.new)
         (λ bytes. PutsPrefix K.puts out.old bytes out.new) (λ bytes. PutsPrefix D.puts diag.old bytes diag.new) }
     ensures failed_diag { result ≡ Status.OutputFault → Rose (D.faults diag.old) (D.faults diag.new) ⊎ D.puts diag.old output_fault_line diag.new }
 
@@ -56,8 +57,8 @@ pub fn eft<L: Library, S: Source, K: Sink, D: Sink>(
 {
     // What a text comes to does not depend on how it is read.
     one_verdict();
-    let report = answer_to(alloc, words, library, input);
-    match deliver(&report.out, report.line.as_bytes(), out, diag) {
+    let report = answer_to(alloc, words, library, input, out);
+    match report.line.put(diag) {
         Ok(()) => report.status,
         Err(Failed) => Status::OutputFault,
     }

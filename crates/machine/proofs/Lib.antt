@@ -1,4 +1,4 @@
 -- The lemmas of machine.
 mod UnitRuns
-mod Overs
+mod LongInputs
 pub mod Streaming

@@ -15,4 +15,4 @@ pub record IsLoaded (made : Program) (steps : ℕ) (r : Runner) : Type 0 where
 -- its run is the units' own
 abbrev pub LoadedRuns : {S K : Type 0} → (S → Option (List ℕ)) → (K → List ℕ → K → Type 0) → (S → ℕ) → (K → ℕ) → S → S → K → K → Type 0
 LoadedRuns left puts faults failures i0 i1 o0 o1 =
-    (made : Program) (steps : ℕ) (old new : Runner) (end : End) → IsLoaded made steps old → IsRun left puts faults failures i0 i1 o0 o1 old new end → StreamsTo left puts faults failures i0 i1 o0 o1 made steps new.begun end
+    (made : Program) (steps : ℕ) (old new : Runner) (end : End) → IsLoaded made steps old → IsRun left puts faults failures i0 i1 o0 o1 old new end → StreamsTo left puts faults failures i0 i1 o0 o1 made steps new.begun new.executed end

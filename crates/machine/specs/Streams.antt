@@ -12,22 +12,24 @@ use Rattle.record_intake.specs.Intakes.{MayCome}
 use Rattle.record_flow.specs.Flows.{AreSteady}
 use Rattle.runner.specs.declared.run.End.{End as TheEnd}
 use Rattle.runner.specs.declared.run.End.TheVariants as ends
-use Rattle.machine.specs.Runs.{IsRunOf}
+use Rattle.machine.specs.Runs.{IsRunOf, Executes}
 
 -- The units come to this end over the records of the bytes that were got and of all that may come behind them: nothing, where the
--- source has told its end. What they write was put.
-pub record RunsWhole {S K : Type 0} (left : S → Option (List ℕ)) (puts : K → List ℕ → K → Type 0) (faults : S → ℕ) (failures : K → ℕ) (i0 i1 : S) (o0 o1 : K) (made : Program) (steps : ℕ) (end : End) (begun : ℕ) : Type 0 where
+-- source has told its end, as it has where one record more than there are was asked for. What they write was put.
+pub record RunsWhole {S K : Type 0} (left : S → Option (List ℕ)) (puts : K → List ℕ → K → Type 0) (faults : S → ℕ) (failures : K → ℕ) (i0 i1 : S) (o0 o1 : K) (made : Program) (steps : ℕ) (end : End) (begun executed : ℕ) : Type 0 where
   pub got : List ℕ
   pub written : List Record
   pub ended : Bool
   pub consumes : Consumes (left i0) (left i1) got
   pub at_end : ended ≡ true → IsAtEnd (left i1)
+  pub told : (place : Place) → end ≡ Ended (Trapped EndOfInput place) → ended ≡ true
   pub sent : puts o0 (output_bytes written) o1
   pub steady : AreSteady faults failures i0 i1 o0 o1
   pub runs : (failed : Bool) (later : List ℕ) → MayCome ended failed later → IsRunOf made (got_records failed (got ++ later)) steps (record { records = written; end = end; work = begun })
+  pub counts : (failed : Bool) (later : List ℕ) → MayCome ended failed later → Executes made (got_records failed (got ++ later)) steps (record { records = written; end = end; work = begun }) executed
 
 -- a read has failed where the units, over the records that were got by then, ask for one more
-pub record RunsCutOff {S K : Type 0} (left : S → Option (List ℕ)) (puts : K → List ℕ → K → Type 0) (faults : S → ℕ) (failures : K → ℕ) (i0 i1 : S) (o0 o1 : K) (made : Program) (steps begun : ℕ) : Type 0 where
+pub record RunsCutOff {S K : Type 0} (left : S → Option (List ℕ)) (puts : K → List ℕ → K → Type 0) (faults : S → ℕ) (failures : K → ℕ) (i0 i1 : S) (o0 o1 : K) (made : Program) (steps begun executed : ℕ) : Type 0 where
   pub got : List ℕ
   pub written : List Record
   pub place : Place
@@ -36,6 +38,7 @@ pub record RunsCutOff {S K : Type 0} (left : S → Option (List ℕ)) (puts : K 
   pub input : Rose (faults i0) (faults i1)
   pub out : failures o1 ≡ failures o0
   pub runs : IsRunOf made (got_records true got) steps (record { records = written; end = Ended (Trapped EndOfInput place); work = begun })
+  pub counts : Executes made (got_records true got) steps (record { records = written; end = Ended (Trapped EndOfInput place); work = begun }) executed
 
 -- a put has failed, of records with which those begin that the units write over what was got
 pub record RunsBrokenOff {S K : Type 0} (left : S → Option (List ℕ)) (puts : K → List ℕ → K → Type 0) (faults : S → ℕ) (failures : K → ℕ) (i0 i1 : S) (o0 o1 : K) (made : Program) (steps : ℕ) : Type 0 where
@@ -48,11 +51,11 @@ pub record RunsBrokenOff {S K : Type 0} (left : S → Option (List ℕ)) (puts :
   pub some : (shown : Shown) × IsRunOf made (input_records got) steps shown
   pub begins : (shown : Shown) → IsRunOf made (input_records got) steps shown → IsPrefix written shown.records
 
--- what came in and went out by this end, before which so many statements began
-abbrev pub StreamsTo : {S K : Type 0} → (S → Option (List ℕ)) → (K → List ℕ → K → Type 0) → (S → ℕ) → (K → ℕ) → S → S → K → K → Program → ℕ → ℕ → TheEnd → Type 0
-StreamsTo left puts faults failures i0 i1 o0 o1 made steps begun ends.Done = RunsWhole left puts faults failures i0 i1 o0 o1 made steps (Ended Done) begun
-StreamsTo left puts faults failures i0 i1 o0 o1 made steps begun (ends.Stopped n) = RunsWhole left puts faults failures i0 i1 o0 o1 made steps (Ended (Stopped n)) begun
-StreamsTo left puts faults failures i0 i1 o0 o1 made steps begun (ends.Trapped t p) = RunsWhole left puts faults failures i0 i1 o0 o1 made steps (Ended (Trapped t p)) begun
-StreamsTo left puts faults failures i0 i1 o0 o1 made steps begun ends.StepLimit = RunsWhole left puts faults failures i0 i1 o0 o1 made steps GoesOn begun
-StreamsTo left puts faults failures i0 i1 o0 o1 made steps begun ends.InputFault = RunsCutOff left puts faults failures i0 i1 o0 o1 made steps begun
-StreamsTo left puts faults failures i0 i1 o0 o1 made steps begun ends.OutputFault = RunsBrokenOff left puts faults failures i0 i1 o0 o1 made steps
+-- what came in and went out by this end, before which so many statements began and so many instructions were executed
+abbrev pub StreamsTo : {S K : Type 0} → (S → Option (List ℕ)) → (K → List ℕ → K → Type 0) → (S → ℕ) → (K → ℕ) → S → S → K → K → Program → ℕ → ℕ → ℕ → TheEnd → Type 0
+StreamsTo left puts faults failures i0 i1 o0 o1 made steps begun executed ends.Done = RunsWhole left puts faults failures i0 i1 o0 o1 made steps (Ended Done) begun executed
+StreamsTo left puts faults failures i0 i1 o0 o1 made steps begun executed (ends.Stopped n) = RunsWhole left puts faults failures i0 i1 o0 o1 made steps (Ended (Stopped n)) begun executed
+StreamsTo left puts faults failures i0 i1 o0 o1 made steps begun executed (ends.Trapped t p) = RunsWhole left puts faults failures i0 i1 o0 o1 made steps (Ended (Trapped t p)) begun executed
+StreamsTo left puts faults failures i0 i1 o0 o1 made steps begun executed ends.StepLimit = RunsWhole left puts faults failures i0 i1 o0 o1 made steps GoesOn begun executed
+StreamsTo left puts faults failures i0 i1 o0 o1 made steps begun executed ends.InputFault = RunsCutOff left puts faults failures i0 i1 o0 o1 made steps begun executed
+StreamsTo left puts faults failures i0 i1 o0 o1 made steps begun executed ends.OutputFault = RunsBrokenOff left puts faults failures i0 i1 o0 o1 made steps

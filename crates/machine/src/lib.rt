@@ -1,14 +1,9 @@
-//! Linked units of FORTRAN run: they become stack code, and a runner runs that over an input.
+//! Linked units of FORTRAN become stack code, with the memory of its run; what the run does over a source and a sink is what they do.
 #![tactic(auto)]
 
 mod code;
-mod cut;
-mod held;
-mod kept;
 mod laws;
 mod loading;
-mod run;
 
 pub use laws::loaded_runs;
 pub use loading::load;
-pub use run::{Ran, RunEnd, run_units};

@@ -1,20 +1,21 @@
 -- Why `answer_to` keeps its clauses.
-use Rattle.std.proofs.Common.{rules}
+use Rattle.std.proofs.Common.{rules, refl, subst, sym}
 use Rattle.eft_top.specs.Reading.{asked_command}
-use Rattle.eft_top.specs.Story.{BadWords, Asked, NoMemory}
+use Rattle.eft_top.specs.Story.{BadWords, Asked, NoMemory, HasPut}
 use Rattle.eft_top.specs.Words.{Cards, texts}
 use Rattle.eft_top.proofs.ReadWords.{one_command}
 use Rattle.eft_top.proofs.answer.answer_to.Goals as goal
 
 pub returns-in_default-clause-came : goal.returns-in_default-clause-came
-returns-in_default-clause-came g c = BadWords c.in_default.ensures (record { status = search rules; on_out = search rules; line = search rules })
+returns-in_default-clause-came g c = BadWords c.in_default.ensures (record { all = g.met.K.Sink.nothing c.args.out.now; steady = refl }) (record { status = search rules; line = search rules })
 
 pub returns-in-Ok-clause-came : goal.returns-in-Ok-clause-came
 returns-in-Ok-clause-came g c = Asked (asked_command c.in-Some.asked) c.in-Some.ensures c.in-Ok.ensures.came
 
 pub returns-in-Err-clause-came : goal.returns-in-Err-clause-came
 returns-in-Err-clause-came g c =
-    Asked (asked_command c.in-Some.asked) c.in-Some.ensures (NoMemory (record { status = search rules; on_out = search rules; line = search rules }))
+    let none = subst (λ out. HasPut g.K.Sink.puts g.K.Sink.faults c.args.out.now out _) (sym c.in-Err.ensures.unput) (record { all = g.met.K.Sink.nothing c.args.out.now; steady = refl }) in
+    Asked (asked_command c.in-Some.asked) c.in-Some.ensures (NoMemory none (record { status = search rules; line = search rules }))
 
 pub returns-in_default-clause-unasked : goal.returns-in_default-clause-unasked
 returns-in_default-clause-unasked g c language file asks = absurd (c.in_default.ensures (Cards language file) asks)

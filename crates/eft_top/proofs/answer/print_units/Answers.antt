@@ -11,10 +11,10 @@ use Rattle.eft_top.proofs.Decks.{deck_fits, all_labels_fit}
 use Rattle.eft_top.proofs.answer.print_units.Goals as goal
 
 pub write_deck-requires : goal.write_deck-requires
-write_deck-requires c = record { labels = subst (λ (us : List AUnit). All HasCardLabels us) (sym c.deref.ensures.value) (all_labels_fit c.args.units.now.items c.requires.sound) }
+write_deck-requires g c = record { labels = subst (λ (us : List AUnit). All HasCardLabels us) (sym c.deref.ensures.value) (all_labels_fit c.args.units.now.items c.requires.sound) }
 
 pub unreachable-requires : goal.unreachable-requires
-unreachable-requires c =
+unreachable-requires g c =
     let fault = c.in-Err-Fault.field-0-0 in
     let units = map routine_of c.deref.result.now in
     let refused : Refuses (fault_of_deck units) (refusals.Fault fault) = subst (λ r. Refuses (fault_of_deck units) r) c.in-Err-Fault.field-0-is c.in-Err-Fault.ensures.refused in
@@ -22,4 +22,4 @@ unreachable-requires c =
     none-some _ (sym same ∙ refused)
 
 pub returns-in-Ok : goal.returns-in-Ok
-returns-in-Ok c = search rules
+returns-in-Ok g c = search rules

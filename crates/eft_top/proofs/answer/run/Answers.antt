@@ -1,30 +1,43 @@
 -- Why `run` keeps its clauses.
-use Rattle.std.proofs.Common.{rules, ◌≡◌, sym, Bool, List, ℕ, subst}
+use Rattle.std.proofs.Common.{List, [], sym, subst, ◌∙◌}
 use Rattle.f66_tree.specs.declared.unit.Unit.{Unit as AUnit}
 use Rattle.linker.specs.Rules.{program_of}
+use Rattle.runner.specs.Runners.{MayGo}
 use Rattle.machine.specs.Runs.{IsSoundProgram, IsRunOf}
-use Rattle.eft_top.specs.Input.{Got, got_of, records_of}
-use Rattle.eft_top.specs.Outcome.{Runs}
-use Rattle.eft_top.specs.Report.{IsReport, ReportsIn}
-use Rattle.eft_top.proofs.Reports.{needs_input}
+use Rattle.eft_top.specs.Causes.{NeedsNoInput}
+use Rattle.eft_top.specs.Input.{HasGiven, HasGot}
+use Rattle.eft_top.specs.Outcome.{RunsOver}
+use Rattle.eft_top.specs.Story.{Shows, HasPut, HasBroken}
+use Rattle.eft_top.proofs.Reports.{run_shows, run_reads, all_read, needs_input}
 use Rattle.eft_top.proofs.answer.run.Goals as goal
 
-pub run_units-requires : goal.run_units-requires
-run_units-requires c = subst (λ (us : List AUnit). IsSoundProgram (program_of us c.args.finish)) (sym c.deref.ensures.value) c.requires.sound
+pub load-requires : goal.load-requires
+load-requires g c = subst (λ (us : List AUnit). IsSoundProgram (program_of us c.args.finish)) (sym c.deref.ensures.value) c.requires
+
+pub run-end-requires : goal.run-end-requires
+run-end-requires g c =
+    let loaded = c.in_ok-runner.ensures in
+    subst (MayGo c.in_ok-runner.runner) (sym loaded.fresh.none) loaded.fresh.ready
+
+pub returns-clause-read : goal.returns-clause-read
+returns-clause-read g c =
+    let streams = c.loaded_runs.ensures _ _ _ _ _ c.args.limit c.in_ok-runner.runner c.run-end.new.self c.run-end.result c.in_ok-runner.ensures c.run-end.ensures in
+    run_reads _ _ _ _ _ _ _ _ [] _ _ _ _ c.run-end.result streams
 
 pub returns-clause-needs : goal.returns-clause-needs
-returns-clause-needs c =
-    let ran = c.in_ok-ran.ensures in
-    needs_input c.args.got.failed ran.0.end c.in_ok-of_run.field-0.status (c.in_ok-of_run.ensures c.args.got.failed ran.0 ran.2).status
+returns-clause-needs g c none = needs_input c.run-end.result (subst NeedsNoInput c.of_end.ensures.status none)
 
-pub returns-clause-report : goal.returns-clause-report
-returns-clause-report c =
-    let ran = c.in_ok-ran.ensures in
-    let got : Got = got_of c.args.got in
-    let units : c.deref.result.now ≡ c.args.units.now.items = search rules in
-    let files : c.deref-2.result.now ≡ c.args.files.now.items = search rules in
-    subst (λ (long : Bool). ReportsIn long c.in_ok-of_run.field-0 c.args.files.now.items (program_of c.args.units.now.items c.args.finish) c.args.limit got) (sym c.requires.short) (
-      ran.0,
-      subst (λ (us : List AUnit). IsRunOf (program_of us c.args.finish) (records_of got) c.args.limit ran.0) units ran.1,
-      subst (λ (names : List (List ℕ)). IsReport c.in_ok-of_run.field-0 (Runs names c.args.limit c.args.got.failed ran.0)) files (c.in_ok-of_run.ensures c.args.got.failed ran.0 ran.2),
-    )
+pub returns-clause-all_read : goal.returns-clause-all_read
+returns-clause-all_read g c other =
+    let streams = c.loaded_runs.ensures _ _ _ _ _ c.args.limit c.in_ok-runner.runner c.run-end.new.self c.run-end.result c.in_ok-runner.ensures c.run-end.ensures in
+    all_read _ _ _ _ _ _ _ _ [] _ _ _ _ c.run-end.result streams (λ e. other (c.of_end.ensures.status ∙ e))
+
+pub returns-clause-shows : goal.returns-clause-shows
+returns-clause-shows g c =
+    let streams = c.loaded_runs.ensures _ _ _ _ _ c.args.limit c.in_ok-runner.runner c.run-end.new.self c.run-end.result c.in_ok-runner.ensures c.run-end.ensures in
+    subst (λ (us : List AUnit).
+    Shows (RunsOver c.args.files.items (λ records. IsRunOf (program_of us c.args.finish) records c.args.limit) c.args.limit)
+    (HasGiven g.S.Source.left g.S.Source.faults c.args.input.now c.run-end.new.input) (HasGot g.S.Source.left c.args.input.now c.run-end.new.input)
+    (HasPut g.K.Sink.puts g.K.Sink.faults c.args.out.now c.run-end.new.out) (HasBroken g.K.Sink.puts g.K.Sink.faults c.args.out.now c.run-end.new.out) c.of_end.result)
+    c.deref.ensures.value
+    (run_shows _ _ _ _ _ _ _ _ c.args.files.items _ c.args.limit _ _ c.run-end.result streams c.of_end.result c.of_end.ensures.status c.of_end.ensures.line)
