@@ -115,7 +115,11 @@ fn endless(rt: HostRuntime) -> Result<(), Fail> {
             (THREE, (0, 2, 0, 0), (6, "  1\n", broken)),
             (THREE, (0, 3, 0, 0), (6, "  1\n  2\n", broken)),
             (THREE, (0, 4, 0, 0), (16, ALL, ended)),
-            (&[b"  ", b"1", b"\n", b"  2\n"], (0, 0, 0, 0), (16, "  1\n  2\n", ended)),
+            (
+                &[b"  ", b"1", b"\n", b"  2\n"],
+                (0, 0, 0, 0),
+                (16, "  1\n  2\n", ended),
+            ),
         ],
     )
 }

@@ -8,7 +8,7 @@ use Rattle.ground.specs.declared.fault.Fault.{Fault}
 use Rattle.ground.specs.declared.place.Place.{Place}
 use Rattle.ground.specs.declared.token.Dialect.{Dialect}
 use Rattle.ground.specs.declared.trap.Trap.TheVariants.{EndOfInput}
-use Rattle.ports.specs.Records.{got_records, output_bytes}
+use Rattle.ports.specs.Records.{got_records, input_records, output_bytes}
 use Rattle.ports.specs.Puts.{PutsPrefix}
 use Rattle.f66_tree.specs.World.{Record, Shown, End, Ended, GoesOn, Done, Stopped, Trapped, IsPrefix}
 use Rattle.f66_program.specs.Linking.{Program}
@@ -26,73 +26,97 @@ use Rattle.f66_tree.specs.declared.unit.Unit.{Unit as AUnit}
 use Rattle.record_intake.specs.Intakes.{MayCome as MayCome1}
 use Rattle.runner.specs.declared.run.End.{End as TheEnd}
 use Rattle.runner.specs.declared.run.End.TheVariants as ends
-use Rattle.machine.specs.Runs.{IsRunOf}
+use Rattle.machine.specs.Runs.{Executes}
 use Rattle.machine.specs.Streams.{RunsWhole, RunsCutOff, RunsBrokenOff, StreamsTo}
-use Rattle.eft_top.specs.Words.{Command, Cards, Deck}
+use Rattle.eft_top.specs.Words.{Command, Cards, Listing, Deck}
 use Rattle.eft_top.specs.Causes.{NeedsNoInput}
 use Rattle.eft_top.specs.declared.status.Status.TheVariants as statuses
+use Rattle.eft_top.specs.declared.report.Counts.{Counts}
 use Rattle.eft_top.specs.declared.report.Report.{Report}
 use Rattle.eft_top.specs.Input.{Got, Unread, Nothing, Broken, HasGiven, HasGot, HasRead, is_unread}
-use Rattle.eft_top.specs.Outcome.{Outcome, HasFault, HasDeck, Runs, IsRun, RunsOver, ComesOf, DeckComesOf, IsOutcomeOf, IsOutcomeBy, end_status, end_line}
-use Rattle.eft_top.specs.Report.{ReportsRefusal, line_bytes, status_at, line_at}
-use Rattle.eft_top.specs.Story.{HasPut, HasBroken, Shows, AllPut, BrokenOff, Prints, CameOf, NotFetched, NoMemory, Came}
+use Rattle.eft_top.specs.Outcome.{Outcome, HasFault, HasText, Runs, IsRun, IsDeckRun, RunsOver, ComesOf, DeckComesOf, IsOutcomeOf, IsOutcomeBy, end_status, end_line, count_line, if_asked}
+use Rattle.eft_top.specs.Report.{ReportsRefusal, counts_at, counts_bytes, report_bytes, status_at, line_at}
+use Rattle.eft_top.specs.Story.{HasPut, HasBroken, Shows, AllPut, BrokenOff, IsUnitsRun, Prints, CameOf, NotFetched, NoMemory, Came}
 use Rattle.eft_top.proofs.Delivery.{longer}
 
 pub if_ok : {T E : Type 0} {P Q : T → Type 0} → ((t : T) → P t → Q t) → (r : Result T E) → IfOk r P → IfOk r Q
 if_ok by (Ok t) p = by t p
 if_ok by (Err e) p = tt
 
+-- ---- the counts ----
+
+-- where no put failed they come before the line of the end
+abbrev pub counts_before : List ℕ → TheEnd → List ℕ
+counts_before counted ends.OutputFault = []
+counts_before counted _ = counted
+
+pub counted_at : (counts : Option Counts) (counted : List ℕ) → counts_bytes counts ≡ counted → (end : TheEnd) → counts_at counts end ≡ counts_before counted end
+counted_at counts counted is ends.Done = is
+counted_at counts counted is (ends.Stopped n) = is
+counted_at counts counted is (ends.Trapped trap place) = is
+counted_at counts counted is ends.StepLimit = is
+counted_at counts counted is ends.InputFault = is
+counted_at counts counted is ends.OutputFault = refl
+
 -- ---- the run of linked units ----
 
-module _ {S K : Type 0} (left : S → Option (List ℕ)) (puts : K → List ℕ → K → Type 0) (faults : S → ℕ) (failures : K → ℕ) (i0 i1 : S) (o0 o1 : K) (files : List (List ℕ)) (made : Program) (limit begun executed : ℕ) where
+module _ {S K : Type 0} (left : S → Option (List ℕ)) (puts : K → List ℕ → K → Type 0) (faults : S → ℕ) (failures : K → ℕ) (i0 i1 : S) (o0 o1 : K) (files : List (List ℕ)) (made : Program) (limit : ℕ) (count : Bool) (begun executed : ℕ) where
   abbrev pub Over : (Got → Type 0) → Outcome → Type 0
-  Over given outcome = RunsOver files (λ records. IsRunOf made records limit) limit given outcome
+  Over given outcome = RunsOver files (IsUnitsRun made limit) limit count given outcome
 
   abbrev pub Shown1 : Report → Type 0
   Shown1 report = Shows Over (HasGiven left faults i0 i1) (HasGot left i0 i1) (HasPut puts failures o0 o1) (HasBroken puts failures o0 o1) report
 
-  whole : (end : End) → RunsWhole left puts faults failures i0 i1 o0 o1 made limit end begun executed → (report : Report) → Some report.status ≡ end_status false end → line_bytes report.line ≡ end_line files limit false end → Shown1 report
-  whole end h report status line = by h.ended h.at_end h.told h.runs
+  -- the line of the counts
+  abbrev pub Counted : List ℕ
+  Counted = count_line (if_asked count executed) begun
+
+  whole : (end : End) → RunsWhole left puts faults failures i0 i1 o0 o1 made limit end begun executed → (report : Report) → Some report.status ≡ end_status false end → report_bytes report ≡ Counted ++ end_line files limit false end → Shown1 report
+  whole end h report status line = by h.ended h.at_end h.told (λ failed later may. (h.runs failed later may, h.counts failed later may))
     where
       shown : Shown
       shown = record { records = h.written; end = end; work = begun }
 
-      by : (ended : Bool) → (ended ≡ true → IsAtEnd (left i1)) → ((place : Place) → end ≡ Ended (Trapped EndOfInput place) → ended ≡ true) → ((failed : Bool) (later : List ℕ) → MayCome1 ended failed later → IsRunOf made (got_records failed (h.got ++ later)) limit shown) → Shown1 report
+      by : (ended : Bool) → (ended ≡ true → IsAtEnd (left i1)) → ((place : Place) → end ≡ Ended (Trapped EndOfInput place) → ended ≡ true) → ((failed : Bool) (later : List ℕ) → MayCome1 ended failed later → IsUnitsRun made limit (got_records failed (h.got ++ later)) shown executed) → Shown1 report
       by true at_end told runs =
-          AllPut (Runs files limit false shown)
-          (record { bytes = h.got; behind = Nothing }, record { bytes = h.consumes; counts = h.steady.input; end = λ e. at_end refl }, shown, runs, tt, refl)
+          AllPut (Runs files limit false (if_asked count executed) shown)
+          (record { bytes = h.got; behind = Nothing }, record { bytes = h.consumes; counts = h.steady.input; end = λ e. at_end refl }, shown, executed, runs, tt, refl)
           (record { all = h.sent; steady = h.steady.out })
           (record { status = status; line = line })
       by false at_end told runs =
-          AllPut (Runs files limit false shown)
-          (record { bytes = h.got; behind = Unread }, record { bytes = h.consumes; counts = h.steady.input; end = λ e. cc }, shown, runs, (λ place is. let no : false ≡ true = told place is in cc), refl)
+          AllPut (Runs files limit false (if_asked count executed) shown)
+          (record { bytes = h.got; behind = Unread }, record { bytes = h.consumes; counts = h.steady.input; end = λ e. cc }, shown, executed, runs, (λ place is. let no : false ≡ true = told place is in cc), refl)
           (record { all = h.sent; steady = h.steady.out })
           (record { status = status; line = line })
 
-  cut_off : RunsCutOff left puts faults failures i0 i1 o0 o1 made limit begun executed → (report : Report) → report.status ≡ statuses.InputFault → line_bytes report.line ≡ line_at files limit ends.InputFault → Shown1 report
+  -- of one input alone
+  alone : (cut : Bool) (got : List ℕ) (shown : Shown) (number : ℕ) → IsUnitsRun made limit (got_records cut got) shown number → (failed : Bool) (later : List ℕ) → (failed ≡ cut) × (later ≡ []) → IsUnitsRun made limit (got_records failed (got ++ later)) shown number
+  alone cut got shown number runs failed later may =
+      subst (λ (f : Bool). IsUnitsRun made limit (got_records f (got ++ later)) shown number) (sym may.0)
+      (subst (λ (bytes : List ℕ). IsUnitsRun made limit (got_records cut bytes) shown number) (sym (ap (λ (l : List ℕ). got ++ l) may.1 ∙ append-nil got)) runs)
+
+  cut_off : RunsCutOff left puts faults failures i0 i1 o0 o1 made limit begun executed → (report : Report) → report.status ≡ statuses.InputFault → report_bytes report ≡ Counted ++ line_at files limit ends.InputFault → Shown1 report
   cut_off h report status line =
-      AllPut (Runs files limit true shown)
-      (record { bytes = h.got; behind = Broken }, record { bytes = h.consumes; counts = h.input; end = λ e. cc }, shown, runs, (h.place, refl), refl)
+      AllPut (Runs files limit true (if_asked count executed) shown)
+      (record { bytes = h.got; behind = Broken }, record { bytes = h.consumes; counts = h.input; end = λ e. cc }, shown, executed, alone true h.got shown executed (h.runs, h.counts), (h.place, refl), refl)
       (record { all = h.sent; steady = h.out })
       (record { status = ap Some status; line = line })
     where
       shown : Shown
       shown = record { records = h.written; end = Ended (Trapped EndOfInput h.place); work = begun }
 
-      runs : (failed : Bool) (later : List ℕ) → (failed ≡ true) × (later ≡ []) → IsRunOf made (got_records failed (h.got ++ later)) limit shown
-      runs failed later may =
-          subst (λ (cut : Bool). IsRunOf made (got_records cut (h.got ++ later)) limit shown) (sym may.0)
-          (subst (λ (bytes : List ℕ). IsRunOf made (got_records true bytes) limit shown) (sym (ap (λ (l : List ℕ). h.got ++ l) may.1 ∙ append-nil h.got)) h.runs)
-
-  broken_off : RunsBrokenOff left puts faults failures i0 i1 o0 o1 made limit → (report : Report) → report.status ≡ statuses.OutputFault → line_bytes report.line ≡ line_at files limit ends.OutputFault → Shown1 report
+  broken_off : RunsBrokenOff left puts faults failures i0 i1 o0 o1 made limit → (report : Report) → report.status ≡ statuses.OutputFault → report_bytes report ≡ line_at files limit ends.OutputFault → Shown1 report
   broken_off h report status line =
-      BrokenOff (Runs files limit false shown)
-      (record { bytes = h.got; behind = Nothing }, h.consumes, shown, runs, tt, refl)
+      BrokenOff (Runs files limit false (if_asked count counts.0) shown)
+      (record { bytes = h.got; behind = Nothing }, h.consumes, shown, counts.0, alone false h.got shown counts.0 (h.some.1, counts.1), tt, refl)
       (record { front = subst (λ (bytes : List ℕ). PutsPrefix puts o0 bytes o1) more (longer puts failures o0 o1 (output_bytes h.written) (output_bytes begins.rest) h.sent); cause = h.out })
       (record { status = status; line = line })
     where
       shown : Shown
       shown = h.some.0
+
+      counts : (number : ℕ) × Executes made (input_records h.got) limit shown number
+      counts = h.counts shown h.some.1
 
       begins : IsPrefix h.written shown.records
       begins = h.begins shown h.some.1
@@ -100,12 +124,7 @@ module _ {S K : Type 0} (left : S → Option (List ℕ)) (puts : K → List ℕ 
       more : output_bytes h.written ++ output_bytes begins.rest ≡ output_bytes shown.records
       more = sym (flat_map-append (λ record_bytes. record_bytes ++ 10 ∷ []) h.written begins.rest) ∙ ap output_bytes begins.is
 
-      runs : (failed : Bool) (later : List ℕ) → (failed ≡ false) × (later ≡ []) → IsRunOf made (got_records failed (h.got ++ later)) limit shown
-      runs failed later may =
-          subst (λ (cut : Bool). IsRunOf made (got_records cut (h.got ++ later)) limit shown) (sym may.0)
-          (subst (λ (bytes : List ℕ). IsRunOf made (got_records false bytes) limit shown) (sym (ap (λ (l : List ℕ). h.got ++ l) may.1 ∙ append-nil h.got)) h.some.1)
-
-  pub run_shows : (end : TheEnd) → StreamsTo left puts faults failures i0 i1 o0 o1 made limit begun executed end → (report : Report) → report.status ≡ status_at end → line_bytes report.line ≡ line_at files limit end → Shown1 report
+  pub run_shows : (end : TheEnd) → StreamsTo left puts faults failures i0 i1 o0 o1 made limit begun executed end → (report : Report) → report.status ≡ status_at end → report_bytes report ≡ counts_before Counted end ++ line_at files limit end → Shown1 report
   run_shows ends.Done h report status line = whole (Ended Done) h report (ap Some status) line
   run_shows (ends.Stopped n) h report status line = whole (Ended (Stopped n)) h report (ap Some status) line
   run_shows (ends.Trapped trap place) h report status line = whole (Ended (Trapped trap place)) h report (ap Some status) line
@@ -147,23 +166,24 @@ shows_so {given = given} {got = got} by (AllPut o comes sent shows) = AllPut o (
 shows_so {given = given} {got = got} by (BrokenOff o comes broke says) = BrokenOff o (by got o comes) broke says
 
 -- the run of a program of a meaning is one of the meaning
-is_run : (meaning : Meaning) (made : Program) (limit : ℕ) (input : List Record) → IsProgramOf meaning made → (shown : Shown) → IsRunOf made input limit shown → IsRun meaning limit input shown
-is_run meaning made limit input program shown runs =
+is_run : (meaning : Meaning) (made : Program) (limit : ℕ) (input : List Record) → IsProgramOf meaning made → (shown : Shown) (executed : ℕ) → IsUnitsRun made limit input shown executed → IsRun meaning limit input shown executed
+is_run meaning made limit input program shown executed runs =
     let linked = program.linked in
-    record { made = made; program = program; is = runs.shows linked.linkage linked.links linked.codes linked.of ∙ sym (ap (λ (run : Meaning). run input limit) linked.is) }
+    record { made = made; program = program; is = runs.0.shows linked.linkage linked.links linked.codes linked.of ∙ sym (ap (λ (run : Meaning). run input limit) linked.is); counted = runs.1 }
 
 -- so an accepted text comes to its run, and a deck to its own
-pub ran_text : (files : List (List ℕ)) (made : Program) (meaning : Meaning) (limit : ℕ) → IsProgramOf meaning made → (given : Got → Type 0) (o : Outcome) → RunsOver files (λ records. IsRunOf made records limit) limit given o → ComesOf (Accepts files meaning) limit given o
-ran_text files made meaning limit program given o over = (over.0, over.1, over.2, (λ failed later may. is_run meaning made limit _ program over.2 (over.3 failed later may)), over.4, over.5)
+pub ran_text : (files : List (List ℕ)) (made : Program) (meaning : Meaning) (limit : ℕ) (count : Bool) → IsProgramOf meaning made → (given : Got → Type 0) (o : Outcome) → RunsOver files (IsUnitsRun made limit) limit count given o → ComesOf (Accepts files meaning) limit count given o
+ran_text files made meaning limit count program given o over = (over.0, over.1, over.2, over.3, (λ failed later may. is_run meaning made limit _ program over.2 over.3 (over.4 failed later may)), over.5, over.6)
 
-pub ran_deck : (made : Program) (files : List (List ℕ)) (file : List ℕ) (limit : ℕ) → files ≡ file ∷ [] → (given : Got → Type 0) (o : Outcome) → RunsOver files (λ records. IsRunOf made records limit) limit given o → DeckComesOf file (Ok made) limit given o
-ran_deck made files file limit is given o over = subst (λ (names : List (List ℕ)). RunsOver names (λ records. IsRunOf made records limit) limit given o) is over
+pub ran_deck : (made : Program) (files : List (List ℕ)) (file : List ℕ) (limit : ℕ) → files ≡ file ∷ [] → (given : Got → Type 0) (o : Outcome) → RunsOver files (IsUnitsRun made limit) limit false given o → DeckComesOf file (Ok made) limit given o
+ran_deck made files file limit is given o over =
+    subst (λ (names : List (List ℕ)). RunsOver names (IsDeckRun made limit) limit false given o) is (over.0, over.1, over.2, over.3, (λ failed later may. (over.4 failed later may).0), over.5, over.6)
 
--- ---- a deck that is put ----
+-- ---- a text that is put ----
 
-pub prints_shows : (deck : List ℕ) (comes : (Got → Type 0) → Outcome → Type 0) → ((given : Got → Type 0) → comes given (HasDeck deck)) → (given got : Got → Type 0) (put broken : List ℕ → Type 0) (report : Report) → Prints deck put broken report → Shows comes given got put broken report
-prints_shows deck comes is given got put broken report (inl done) = AllPut (HasDeck deck) (is given) done.0 (record { status = ap Some done.1.status; line = done.1.line })
-prints_shows deck comes is given got put broken report (inr broke) = BrokenOff (HasDeck deck) (is got) broke.0 broke.1
+pub prints_shows : (deck : List ℕ) (comes : (Got → Type 0) → Outcome → Type 0) → ((given : Got → Type 0) → comes given (HasText deck)) → (given got : Got → Type 0) (put broken : List ℕ → Type 0) (report : Report) → Prints deck put broken report → Shows comes given got put broken report
+prints_shows deck comes is given got put broken report (inl done) = AllPut (HasText deck) (is given) done.0 (record { status = ap Some done.1.status; line = done.1.line })
+prints_shows deck comes is given got put broken report (inr broke) = BrokenOff (HasText deck) (is got) broke.0 broke.1
 
 -- ---- a refusal ----
 
@@ -183,13 +203,22 @@ refused_deck limit file files before now given got put broken (refusals.Fault fa
 refused_deck limit file files before now given got put broken refusals.Library report deck cause none shows = NotFetched cause none shows
 refused_deck limit file files before now given got put broken refusals.Memory report deck cause none shows = absurd shows
 
--- cards do not ask for reads
-unread_so : (d : Dialect) (file : List ℕ) (files : Option (List ℕ → Option (List ℕ))) (given got one other : Got → Type 0) (put broken : List ℕ → Type 0) (report : Report) → Shows (IsOutcomeBy (Cards d file) files) given got put broken report → Shows (IsOutcomeBy (Cards d file) files) one other put broken report
-unread_so d file files given got one other put broken report (AllPut o is sent shows) = AllPut o is sent shows
-unread_so d file files given got one other put broken report (BrokenOff o is broke says) = BrokenOff o is broke says
+-- ---- neither cards nor a listing ask for reads ----
 
-pub unread_came : (d : Dialect) (file : List ℕ) (files : Option (List ℕ → Option (List ℕ))) (before now : ℕ) (given got : Got → Type 0) (put broken : List ℕ → Type 0) (report : Report) →
+module _ (command : Command) (files : Option (List ℕ → Option (List ℕ))) (so : (given other : Got → Type 0) (o : Outcome) → IsOutcomeBy command files given o → IsOutcomeBy command files other o) (given got : Got → Type 0) (put broken : List ℕ → Type 0) (report : Report) where
+  unread_so : Shows (IsOutcomeBy command files) is_unread is_unread put broken report → Shows (IsOutcomeBy command files) given got put broken report
+  unread_so (AllPut o is sent shows) = AllPut o (so is_unread given o is) sent shows
+  unread_so (BrokenOff o is broke says) = BrokenOff o (so is_unread got o is) broke says
+
+  unread_too : (before now : ℕ) → CameOf command files before now is_unread is_unread put broken report → CameOf command files before now given got put broken report
+  unread_too before now (NotFetched rose none says) = NotFetched rose none says
+  unread_too before now (NoMemory none says) = NoMemory none says
+  unread_too before now (Came same shows) = Came same (unread_so shows)
+
+pub cards_unread : (d : Dialect) (file : List ℕ) (files : Option (List ℕ → Option (List ℕ))) (before now : ℕ) (given got : Got → Type 0) (put broken : List ℕ → Type 0) (report : Report) →
     CameOf (Cards d file) files before now is_unread is_unread put broken report → CameOf (Cards d file) files before now given got put broken report
-unread_came d file files before now given got put broken report (NotFetched rose none says) = NotFetched rose none says
-unread_came d file files before now given got put broken report (NoMemory none says) = NoMemory none says
-unread_came d file files before now given got put broken report (Came same shows) = Came same (unread_so d file files is_unread is_unread given got put broken report shows)
+cards_unread d file files before now given got put broken report came = unread_too (Cards d file) files (λ one other o is. is) given got put broken report before now came
+
+pub listing_unread : (d : Dialect) (file : List ℕ) (files : Option (List ℕ → Option (List ℕ))) (before now : ℕ) (given got : Got → Type 0) (put broken : List ℕ → Type 0) (report : Report) →
+    CameOf (Listing d file) files before now is_unread is_unread put broken report → CameOf (Listing d file) files before now given got put broken report
+listing_unread d file files before now given got put broken report came = unread_too (Listing d file) files (λ one other o is. is) given got put broken report before now came

@@ -8,20 +8,20 @@ use Rattle.ground.specs.declared.fault.Fault.{Fault}
 use Rattle.ground.specs.declared.place.Place.{Place}
 use Rattle.f66_tree.specs.World.{Record, Shown, End, Ended, GoesOn, Lost, Done, Stopped, Trapped, Wrong}
 use Rattle.macro_define.specs.Answers.{Known, Holds, answer}
+use Rattle.front.specs.Checked.{Meaning}
 use Rattle.front.specs.Verdict.{Verdict, Refuses, Accepts}
 use Rattle.front.specs.Laws.{OneVerdict}
-use Rattle.machine.specs.Runs.{IsRunOf}
 use Rattle.deck_file.specs.Loaded.{Loaded}
 use Rattle.deck_file.proofs.OneLoaded.{both_refused}
 use Rattle.eft_top.specs.declared.status.Status.{Status}
 use Rattle.eft_top.specs.declared.status.Status.TheVariants.{Done as IsDone, Usage, SourceFault, LibraryFault, InputFault, OutputFault, StepLimit, Memory, Stopped as IsStopped, Trapped as IsTrapped}
 use Rattle.eft_top.specs.declared.report.Report.{Report}
-use Rattle.eft_top.specs.Words.{Command, Run, Cards, Deck, AskNothing}
+use Rattle.eft_top.specs.Words.{Command, Run, Cards, Listing, Deck, AskNothing}
 use Rattle.eft_top.specs.Input.{Got, Behind, Unread, Nothing, Broken, is_broken}
-use Rattle.eft_top.specs.Outcome.{Outcome, HasFault, HasDeck, Runs, IsRun, RunsOver, Asks, IsPrinted, ComesOf, DeckComesOf, is_end_of_input, trap_status, IsOutcomeOf, IsOutcomeBy, status_of, end_status, out_of, diag_line}
+use Rattle.eft_top.specs.Outcome.{Outcome, HasFault, HasText, Runs, IsRun, IsDeck, IsListing, IsDeckRun, RunsOver, Asks, IsPrinted, ComesOf, DeckComesOf, is_end_of_input, trap_status, IsOutcomeOf, IsOutcomeBy, status_of, end_status, out_of, diag_line}
 use Rattle.eft_top.specs.Lines.{output_fault_line}
 use Rattle.eft_top.specs.Causes.{Comes, MayBe, Compels, IsOfText, IsShown, IfTold, AnswersCall, WasToShow, fixed_line}
-use Rattle.eft_top.specs.Report.{SaysAll, IsReport, line_bytes}
+use Rattle.eft_top.specs.Report.{SaysAll, IsReport, report_bytes}
 use Rattle.eft_top.specs.Story.{Shows, AllPut, BrokenOff, CameOf, NotFetched, NoMemory, Came, CameOfWords, BadWords, Asked}
 
 some_injective : {a b : Status} → Some a ≡ Some b → a ≡ b
@@ -43,8 +43,8 @@ end_of_text failed Lost s e = absurd (let f = e in cc)
 
 outcome_of_text : (o : Outcome) (s : Status) → Some s ≡ status_of o → IsOfText s
 outcome_of_text (HasFault fault file) s e = subst IsOfText (sym (some_injective e)) tt
-outcome_of_text (HasDeck deck) s e = subst IsOfText (sym (some_injective e)) tt
-outcome_of_text (Runs files limit failed run) s e = end_of_text failed run.end s e
+outcome_of_text (HasText deck) s e = subst IsOfText (sym (some_injective e)) tt
+outcome_of_text (Runs files limit failed count run) s e = end_of_text failed run.end s e
 
 -- ---- a fault comes alone ----
 
@@ -60,32 +60,35 @@ no_run_is_faulty failed (Ended Wrong) e = cc
 no_run_is_faulty failed GoesOn e = cc
 no_run_is_faulty failed Lost e = cc
 
-no_run_over_is_faulty : (files : List (List ℕ)) (P : List Record → Shown → Type 0) (limit : ℕ) (given : Got → Type 0) (o : Outcome) → RunsOver files P limit given o → status_of o ≡ Some SourceFault → ⊥
-no_run_over_is_faulty files P limit given o over e = no_run_is_faulty (is_broken over.0.behind) over.2.end (ap status_of (sym over.5) ∙ e)
+no_run_over_is_faulty : (files : List (List ℕ)) (P : List Record → Shown → ℕ → Type 0) (limit : ℕ) (count : Bool) (given : Got → Type 0) (o : Outcome) → RunsOver files P limit count given o → status_of o ≡ Some SourceFault → ⊥
+no_run_over_is_faulty files P limit count given o over e = no_run_is_faulty (is_broken over.0.behind) over.2.end (ap status_of (sym over.6) ∙ e)
 
-faulty_of : (verdict : Verdict) (limit : ℕ) (given : Got → Type 0) (one other : Outcome) → ComesOf verdict limit given one → ComesOf verdict limit given other → status_of other ≡ Some SourceFault → status_of one ≡ Some SourceFault
-faulty_of (Refuses fault file) limit given one other h k e = ap status_of h
-faulty_of (Accepts files meaning) limit given one other h k e = absurd (no_run_over_is_faulty files (IsRun meaning limit) limit given other k e)
+faulty_of : (verdict : Verdict) (limit : ℕ) (count : Bool) (given : Got → Type 0) (one other : Outcome) → ComesOf verdict limit count given one → ComesOf verdict limit count given other → status_of other ≡ Some SourceFault → status_of one ≡ Some SourceFault
+faulty_of (Refuses fault file) limit count given one other h k e = ap status_of h
+faulty_of (Accepts files meaning) limit count given one other h k e = absurd (no_run_over_is_faulty files (IsRun meaning limit) limit count given other k e)
 
-no_deck_is_faulty : (deck : List ℕ) (o : Outcome) → o ≡ HasDeck deck → status_of o ≡ Some SourceFault → ⊥
+no_deck_is_faulty : (deck : List ℕ) (o : Outcome) → o ≡ HasText deck → status_of o ≡ Some SourceFault → ⊥
 no_deck_is_faulty deck o is e = let f = ap status_of (sym is) ∙ e in cc
 
-faulty_print : (verdict : Verdict) (one other : Outcome) → IsPrinted verdict one → IsPrinted verdict other → status_of other ≡ Some SourceFault → status_of one ≡ Some SourceFault
-faulty_print (Refuses fault file) one other h k e = ap status_of h
-faulty_print (Accepts files meaning) one other h k e = absurd (no_deck_is_faulty k.0 other k.2 e)
+faulty_print : (IsText : Meaning → List ℕ → Type 0) (verdict : Verdict) (one other : Outcome) → IsPrinted IsText verdict one → IsPrinted IsText verdict other → status_of other ≡ Some SourceFault → status_of one ≡ Some SourceFault
+faulty_print IsText (Refuses fault file) one other h k e = ap status_of h
+faulty_print IsText (Accepts files meaning) one other h k e = absurd (no_deck_is_faulty k.0 other k.2 e)
 
 -- a deck that comes to a fault was refused
 faulty_deck : (file : List ℕ) (loaded : Loaded) (limit : ℕ) (given : Got → Type 0) (o : Outcome) → DeckComesOf file loaded limit given o → status_of o ≡ Some SourceFault → (fault : Fault) × (loaded ≡ Err fault)
 faulty_deck file (Err fault) limit given o h e = (fault, refl)
-faulty_deck file (Ok lines) limit given o h e = absurd (no_run_over_is_faulty (file ∷ []) (λ records. IsRunOf lines records limit) limit given o h e)
+faulty_deck file (Ok lines) limit given o h e = absurd (no_run_over_is_faulty (file ∷ []) (IsDeckRun lines limit) limit false given o h e)
 
 faulty_too : OneVerdict → (command : Command) (known : Known) (given : Got → Type 0) (one other : Outcome) → IsOutcomeOf command known given one → IsOutcomeOf command known given other → status_of other ≡ Some SourceFault → status_of one ≡ Some SourceFault
-faulty_too verdicts (Run limit language file) known given one other h k e =
+faulty_too verdicts (Run limit count language file) known given one other h k e =
     let same : k.0 ≡ h.0 = verdicts language file known k.0 h.0 k.1 h.1 in
-    faulty_of h.0 limit given one other h.2 (subst (λ v. ComesOf v limit given other) same k.2) e
+    faulty_of h.0 limit count given one other h.2 (subst (λ v. ComesOf v limit count given other) same k.2) e
 faulty_too verdicts (Cards language file) known given one other h k e =
     let same : k.0 ≡ h.0 = verdicts language file known k.0 h.0 k.1 h.1 in
-    faulty_print h.0 one other h.2 (subst (λ v. IsPrinted v other) same k.2) e
+    faulty_print IsDeck h.0 one other h.2 (subst (λ v. IsPrinted IsDeck v other) same k.2) e
+faulty_too verdicts (Listing language file) known given one other h k e =
+    let same : k.0 ≡ h.0 = verdicts language file known k.0 h.0 k.1 h.1 in
+    faulty_print IsListing h.0 one other h.2 (subst (λ v. IsPrinted IsListing v other) same k.2) e
 faulty_too verdicts (Deck limit file) known given one other h k e =
     let refused = faulty_deck file k.0 limit given other k.2 e in
     let too = both_refused (answer known file) k.0 h.0 refused.0 k.1 refused.1 h.1 in
@@ -177,7 +180,7 @@ module _ (verdicts : OneVerdict) (asks : Command → Type 0) (alone : (a b : Com
       by (Some held) came1 = status_comes command held status text came1
 
   module _ (out diag : List ℕ → Type 0) (sends : (bytes : List ℕ) → put bytes → out bytes) where
-    shown_by : (command : Command) → asks command → Shows (IsOutcomeBy command files) given got put broken report → IsOfText result → diag (line_bytes report.line) → IsShown asks files given result out diag
+    shown_by : (command : Command) → asks command → Shows (IsOutcomeBy command files) given got put broken report → IsOfText result → diag (report_bytes report) → IsShown asks files given result out diag
     shown_by command asked (AllPut o is sent shows) text d = record {
       outcome = o;
       is = (command, asked, is);
@@ -187,16 +190,16 @@ module _ (verdicts : OneVerdict) (asks : Command → Type 0) (alone : (a b : Com
     }
     shown_by command asked (BrokenOff o is broke says) text d = absurd (subst IsOfText (is_failed says.status) text)
 
-    shown_of : (command : Command) → asks command → CameOf command files before now given got put broken report → IsOfText result → diag (line_bytes report.line) → IsShown asks files given result out diag
+    shown_of : (command : Command) → asks command → CameOf command files before now given got put broken report → IsOfText result → diag (report_bytes report) → IsShown asks files given result out diag
     shown_of command asked (NotFetched rose none says) text d = absurd (no_text LibraryFault says.status (λ h. h) text)
     shown_of command asked (NoMemory none says) text d = absurd (no_text Memory says.status (λ h. h) text)
     shown_of command asked (Came same shows) text d = shown_by command asked shows text d
 
-    shown : CameOfWords asks files before now given got put broken report → IsOfText result → diag (line_bytes report.line) → IsShown asks files given result out diag
+    shown : CameOfWords asks files before now given got put broken report → IsOfText result → diag (report_bytes report) → IsShown asks files given result out diag
     shown (BadWords none nothing says) text d = absurd (no_text Usage says.status (λ h. h) text)
     shown (Asked command asked came) text d = shown_of command asked came text d
 
-    pub answered : CameOfWords asks files before now given got put broken report → (IsOfText result → diag (line_bytes report.line)) → AnswersCall asks files given result out diag
+    pub answered : CameOfWords asks files before now given got put broken report → (IsOfText result → diag (report_bytes report)) → AnswersCall asks files given result out diag
     answered came told = record {
       usage = usage_comes came;
       status = λ command asked status text. statuses_come command asked came status text;
@@ -244,59 +247,62 @@ end_of_end behind GoesOn asks e = cc
 end_of_end behind Lost asks e = cc
 
 -- a text that is printed has a fault, or the deck is done
-printed_status : (verdict : Verdict) (o : Outcome) → IsPrinted verdict o → (status_of o ≡ Some SourceFault) ⊎ (status_of o ≡ Some IsDone)
-printed_status (Refuses fault file) o h = inl (ap status_of h)
-printed_status (Accepts files meaning) o h = inr (ap status_of h.2)
+printed_status : (IsText : Meaning → List ℕ → Type 0) (verdict : Verdict) (o : Outcome) → IsPrinted IsText verdict o → (status_of o ≡ Some SourceFault) ⊎ (status_of o ≡ Some IsDone)
+printed_status IsText (Refuses fault file) o h = inl (ap status_of h)
+printed_status IsText (Accepts files meaning) o h = inr (ap status_of h.2)
 
 module _ (files : Option (List ℕ → Option (List ℕ))) (given : Got → Type 0) (o : Outcome) where
-  failed_of_run : (names : List (List ℕ)) (P : List Record → Shown → Type 0) (limit : ℕ) → RunsOver names P limit given o → status_of o ≡ Some InputFault → (got : Got) × given got × (got.behind ≡ Broken)
-  failed_of_run names P limit over e = (over.0, over.1, broken_of over.0.behind (failed_of_end (is_broken over.0.behind) over.2.end (ap status_of (sym over.5) ∙ e)))
+  failed_of_run : (names : List (List ℕ)) (P : List Record → Shown → ℕ → Type 0) (limit : ℕ) (count : Bool) → RunsOver names P limit count given o → status_of o ≡ Some InputFault → (got : Got) × given got × (got.behind ≡ Broken)
+  failed_of_run names P limit count over e = (over.0, over.1, broken_of over.0.behind (failed_of_end (is_broken over.0.behind) over.2.end (ap status_of (sym over.6) ∙ e)))
 
-  read_of_run : (names : List (List ℕ)) (P : List Record → Shown → Type 0) (limit : ℕ) → RunsOver names P limit given o → status_of o ≡ Some (IsTrapped EndOfInput) → (got : Got) × given got × (got.behind ≡ Nothing)
-  read_of_run names P limit over e = (over.0, over.1, end_of_end over.0.behind over.2.end over.4 (ap status_of (sym over.5) ∙ e))
+  read_of_run : (names : List (List ℕ)) (P : List Record → Shown → ℕ → Type 0) (limit : ℕ) (count : Bool) → RunsOver names P limit count given o → status_of o ≡ Some (IsTrapped EndOfInput) → (got : Got) × given got × (got.behind ≡ Nothing)
+  read_of_run names P limit count over e = (over.0, over.1, end_of_end over.0.behind over.2.end over.5 (ap status_of (sym over.6) ∙ e))
 
-  failed_of_verdict : (verdict : Verdict) (limit : ℕ) → ComesOf verdict limit given o → status_of o ≡ Some InputFault → (got : Got) × given got × (got.behind ≡ Broken)
-  failed_of_verdict (Refuses fault file) limit h e = absurd (let f = ap status_of (sym h) ∙ e in cc)
-  failed_of_verdict (Accepts names meaning) limit h e = failed_of_run names (IsRun meaning limit) limit h e
+  failed_of_verdict : (verdict : Verdict) (limit : ℕ) (count : Bool) → ComesOf verdict limit count given o → status_of o ≡ Some InputFault → (got : Got) × given got × (got.behind ≡ Broken)
+  failed_of_verdict (Refuses fault file) limit count h e = absurd (let f = ap status_of (sym h) ∙ e in cc)
+  failed_of_verdict (Accepts names meaning) limit count h e = failed_of_run names (IsRun meaning limit) limit count h e
 
-  read_of_verdict : (verdict : Verdict) (limit : ℕ) → ComesOf verdict limit given o → status_of o ≡ Some (IsTrapped EndOfInput) → (got : Got) × given got × (got.behind ≡ Nothing)
-  read_of_verdict (Refuses fault file) limit h e = absurd (let f = ap status_of (sym h) ∙ e in cc)
-  read_of_verdict (Accepts names meaning) limit h e = read_of_run names (IsRun meaning limit) limit h e
+  read_of_verdict : (verdict : Verdict) (limit : ℕ) (count : Bool) → ComesOf verdict limit count given o → status_of o ≡ Some (IsTrapped EndOfInput) → (got : Got) × given got × (got.behind ≡ Nothing)
+  read_of_verdict (Refuses fault file) limit count h e = absurd (let f = ap status_of (sym h) ∙ e in cc)
+  read_of_verdict (Accepts names meaning) limit count h e = read_of_run names (IsRun meaning limit) limit count h e
 
   failed_of_deck : (file : List ℕ) (loaded : Loaded) (limit : ℕ) → DeckComesOf file loaded limit given o → status_of o ≡ Some InputFault → (got : Got) × given got × (got.behind ≡ Broken)
   failed_of_deck file (Err fault) limit h e = absurd (let f = ap status_of (sym h) ∙ e in cc)
-  failed_of_deck file (Ok lines) limit h e = failed_of_run (file ∷ []) (λ records. IsRunOf lines records limit) limit h e
+  failed_of_deck file (Ok lines) limit h e = failed_of_run (file ∷ []) (IsDeckRun lines limit) limit false h e
 
   read_of_deck : (file : List ℕ) (loaded : Loaded) (limit : ℕ) → DeckComesOf file loaded limit given o → status_of o ≡ Some (IsTrapped EndOfInput) → (got : Got) × given got × (got.behind ≡ Nothing)
   read_of_deck file (Err fault) limit h e = absurd (let f = ap status_of (sym h) ∙ e in cc)
-  read_of_deck file (Ok lines) limit h e = read_of_run (file ∷ []) (λ records. IsRunOf lines records limit) limit h e
+  read_of_deck file (Ok lines) limit h e = read_of_run (file ∷ []) (IsDeckRun lines limit) limit false h e
 
   failed_of_outcome : (command : Command) → IsOutcomeBy command files given o → status_of o ≡ Some InputFault → (got : Got) × given got × (got.behind ≡ Broken)
-  failed_of_outcome (Run limit language file) h e = failed_of_verdict h.2.0 limit h.2.2 e
-  failed_of_outcome (Cards language file) h e = elim (printed_status h.2.0 o h.2.2) [ inl f ↦ absurd (let g = sym f ∙ e in cc) | inr f ↦ absurd (let g = sym f ∙ e in cc) ]
+  failed_of_outcome (Run limit count language file) h e = failed_of_verdict h.2.0 limit count h.2.2 e
+  failed_of_outcome (Cards language file) h e = elim (printed_status IsDeck h.2.0 o h.2.2) [ inl f ↦ absurd (let g = sym f ∙ e in cc) | inr f ↦ absurd (let g = sym f ∙ e in cc) ]
+  failed_of_outcome (Listing language file) h e = elim (printed_status IsListing h.2.0 o h.2.2) [ inl f ↦ absurd (let g = sym f ∙ e in cc) | inr f ↦ absurd (let g = sym f ∙ e in cc) ]
   failed_of_outcome (Deck limit file) h e = failed_of_deck file h.2.0 limit h.2.2 e
 
   read_of_outcome : (command : Command) → IsOutcomeBy command files given o → status_of o ≡ Some (IsTrapped EndOfInput) → (got : Got) × given got × (got.behind ≡ Nothing)
-  read_of_outcome (Run limit language file) h e = read_of_verdict h.2.0 limit h.2.2 e
-  read_of_outcome (Cards language file) h e = elim (printed_status h.2.0 o h.2.2) [ inl f ↦ absurd (let g = sym f ∙ e in cc) | inr f ↦ absurd (let g = sym f ∙ e in cc) ]
+  read_of_outcome (Run limit count language file) h e = read_of_verdict h.2.0 limit count h.2.2 e
+  read_of_outcome (Cards language file) h e = elim (printed_status IsDeck h.2.0 o h.2.2) [ inl f ↦ absurd (let g = sym f ∙ e in cc) | inr f ↦ absurd (let g = sym f ∙ e in cc) ]
+  read_of_outcome (Listing language file) h e = elim (printed_status IsListing h.2.0 o h.2.2) [ inl f ↦ absurd (let g = sym f ∙ e in cc) | inr f ↦ absurd (let g = sym f ∙ e in cc) ]
   read_of_outcome (Deck limit file) h e = read_of_deck file h.2.0 limit h.2.2 e
 
 -- what was got may be told by less
 module _ (one other : Got → Type 0) (so : (got : Got) → one got → other got) where
-  run_too : (names : List (List ℕ)) (P : List Record → Shown → Type 0) (limit : ℕ) (o : Outcome) → RunsOver names P limit one o → RunsOver names P limit other o
-  run_too names P limit o over = (over.0, so over.0 over.1, over.2, over.3, over.4, over.5)
+  run_too : (names : List (List ℕ)) (P : List Record → Shown → ℕ → Type 0) (limit : ℕ) (count : Bool) (o : Outcome) → RunsOver names P limit count one o → RunsOver names P limit count other o
+  run_too names P limit count o over = (over.0, so over.0 over.1, over.2, over.3, over.4, over.5, over.6)
 
-  verdict_too : (verdict : Verdict) (limit : ℕ) (o : Outcome) → ComesOf verdict limit one o → ComesOf verdict limit other o
-  verdict_too (Refuses fault file) limit o h = h
-  verdict_too (Accepts names meaning) limit o h = run_too names (IsRun meaning limit) limit o h
+  verdict_too : (verdict : Verdict) (limit : ℕ) (count : Bool) (o : Outcome) → ComesOf verdict limit count one o → ComesOf verdict limit count other o
+  verdict_too (Refuses fault file) limit count o h = h
+  verdict_too (Accepts names meaning) limit count o h = run_too names (IsRun meaning limit) limit count o h
 
   deck_too : (file : List ℕ) (loaded : Loaded) (limit : ℕ) (o : Outcome) → DeckComesOf file loaded limit one o → DeckComesOf file loaded limit other o
   deck_too file (Err fault) limit o h = h
-  deck_too file (Ok lines) limit o h = run_too (file ∷ []) (λ records. IsRunOf lines records limit) limit o h
+  deck_too file (Ok lines) limit o h = run_too (file ∷ []) (IsDeckRun lines limit) limit false o h
 
   outcome_too : (command : Command) (files : Option (List ℕ → Option (List ℕ))) (o : Outcome) → IsOutcomeBy command files one o → IsOutcomeBy command files other o
-  outcome_too (Run limit language file) files o h = (h.0, h.1, (h.2.0, h.2.1, verdict_too h.2.0 limit o h.2.2))
+  outcome_too (Run limit count language file) files o h = (h.0, h.1, (h.2.0, h.2.1, verdict_too h.2.0 limit count o h.2.2))
   outcome_too (Cards language file) files o h = h
+  outcome_too (Listing language file) files o h = h
   outcome_too (Deck limit file) files o h = (h.0, h.1, (h.2.0, h.2.1, deck_too file h.2.0 limit o h.2.2))
 
 -- a status of a text has no line that says all
@@ -372,21 +378,21 @@ module _ (asks : Command → Type 0) (files : Option (List ℕ → Option (List 
   all_put (Asked command asked came) other = put_of command came other
 
   -- and with that status some were broken off, and the line says so
-  broken_by : (command : Command) → Some1 command → report.status ≡ OutputFault → (bytes : List ℕ) × broken bytes × (line_bytes report.line ≡ output_fault_line)
+  broken_by : (command : Command) → Some1 command → report.status ≡ OutputFault → (bytes : List ℕ) × broken bytes × (report_bytes report ≡ output_fault_line)
   broken_by command (AllPut o is sent shows) e = absurd (subst IsOfText e (outcome_of_text o report.status shows.status))
   broken_by command (BrokenOff o is broke says) e = (out_of o, broke, says.line)
 
-  broken_of_command : (command : Command) → CameOf command files before now given got put broken report → report.status ≡ OutputFault → (bytes : List ℕ) × broken bytes × (line_bytes report.line ≡ output_fault_line)
+  broken_of_command : (command : Command) → CameOf command files before now given got put broken report → report.status ≡ OutputFault → (bytes : List ℕ) × broken bytes × (report_bytes report ≡ output_fault_line)
   broken_of_command command (NotFetched rose none says) e = absurd (let f = sym says.status ∙ e in cc)
   broken_of_command command (NoMemory none says) e = absurd (let f = sym says.status ∙ e in cc)
   broken_of_command command (Came same shows) e = broken_by command shows e
 
-  pub put_failed : CameOfWords asks files before now given got put broken report → report.status ≡ OutputFault → (bytes : List ℕ) × broken bytes × (line_bytes report.line ≡ output_fault_line)
+  pub put_failed : CameOfWords asks files before now given got put broken report → report.status ≡ OutputFault → (bytes : List ℕ) × broken bytes × (report_bytes report ≡ output_fault_line)
   put_failed (BadWords none nothing says) e = absurd (let f = sym says.status ∙ e in cc)
   put_failed (Asked command asked came) e = broken_of_command command came e
 
   -- a status whose line says all
-  module _ (out diag : List ℕ → Type 0) (sends : (bytes : List ℕ) → put bytes → out bytes) (d : diag (line_bytes report.line)) where
+  module _ (out diag : List ℕ → Type 0) (sends : (bytes : List ℕ) → put bytes → out bytes) (d : diag (report_bytes report)) where
     said : (status : Status) (text : List ℕ) → fixed_line status ≡ Some text → SaysAll report status text → put [] → IfSome (fixed_line report.status) (λ line. out [] × diag line)
     said status text is says none =
         subst (λ (some : Status). IfSome (fixed_line some) (λ line. out [] × diag line)) (sym says.status)
@@ -409,14 +415,14 @@ module _ (asks : Command → Type 0) (files : Option (List ℕ → Option (List 
     line_shown (Asked command asked came) = said_of command came
 
   -- what was to be shown where a put failed: on diag of a line that is not empty, or on out
-  module _ (out diag : List ℕ → Type 0) (so : (some : Got) → given some → got some) (sends : (bytes : List ℕ) → put bytes → out bytes) (breaks : (bytes : List ℕ) → broken bytes → out bytes) (failed : (line_bytes report.line ≢ []) ⊎ (report.status ≡ OutputFault)) (d : diag (line_bytes report.line)) where
-    on_diag : (report.status ≡ OutputFault → ⊥) → ((line_bytes report.line ≢ []) × diag (line_bytes report.line)) ⊎ diag output_fault_line
+  module _ (out diag : List ℕ → Type 0) (so : (some : Got) → given some → got some) (sends : (bytes : List ℕ) → put bytes → out bytes) (breaks : (bytes : List ℕ) → broken bytes → out bytes) (failed : (report_bytes report ≢ []) ⊎ (report.status ≡ OutputFault)) (d : diag (report_bytes report)) where
+    on_diag : (report.status ≡ OutputFault → ⊥) → ((report_bytes report ≢ []) × diag (report_bytes report)) ⊎ diag output_fault_line
     on_diag other = elim failed [ inl some ↦ inl (some, d) | inr e ↦ absurd (other e) ]
 
     planned_by : (command : Command) → asks command → Some1 command → WasToShow asks files got out diag
     planned_by command asked (AllPut o is sent shows) = record {
       bytes = out_of o;
-      line = line_bytes report.line;
+      line = report_bytes report;
       planned = inr (o, (command, asked, outcome_too given got so command files o is), refl, shows.line);
       on_out = sends (out_of o) sent;
       on_diag = on_diag (λ e. subst IsOfText e (outcome_of_text o report.status shows.status));
@@ -430,10 +436,10 @@ module _ (asks : Command → Type 0) (files : Option (List ℕ → Option (List 
     }
 
     planned_of : (command : Command) → asks command → CameOf command files before now given got put broken report → WasToShow asks files got out diag
-    planned_of command asked (NotFetched rose none says) = record { bytes = []; line = line_bytes report.line; planned = inl (refl, inr (inl says.line)); on_out = sends [] none; on_diag = on_diag (λ e. let f = sym says.status ∙ e in cc) }
-    planned_of command asked (NoMemory none says) = record { bytes = []; line = line_bytes report.line; planned = inl (refl, inr (inr (inl says.line))); on_out = sends [] none; on_diag = on_diag (λ e. let f = sym says.status ∙ e in cc) }
+    planned_of command asked (NotFetched rose none says) = record { bytes = []; line = report_bytes report; planned = inl (refl, inr (inl says.line)); on_out = sends [] none; on_diag = on_diag (λ e. let f = sym says.status ∙ e in cc) }
+    planned_of command asked (NoMemory none says) = record { bytes = []; line = report_bytes report; planned = inl (refl, inr (inr (inl says.line))); on_out = sends [] none; on_diag = on_diag (λ e. let f = sym says.status ∙ e in cc) }
     planned_of command asked (Came same shows) = planned_by command asked shows
 
     pub planned : CameOfWords asks files before now given got put broken report → WasToShow asks files got out diag
-    planned (BadWords none nothing says) = record { bytes = []; line = line_bytes report.line; planned = inl (refl, inl says.line); on_out = sends [] nothing; on_diag = on_diag (λ e. let f = sym says.status ∙ e in cc) }
+    planned (BadWords none nothing says) = record { bytes = []; line = report_bytes report; planned = inl (refl, inl says.line); on_out = sends [] nothing; on_diag = on_diag (λ e. let f = sym says.status ∙ e in cc) }
     planned (Asked command asked came) = planned_of command asked came

@@ -34,6 +34,10 @@ stop_line n = codes "stop " ++ (digits 8 false n ++ 10 ∷ [])
 abbrev pub limit_line : ℕ → List ℕ
 limit_line n = codes "step limit " ++ (decimal n ++ 10 ∷ [])
 
+-- how many statements began, and how many instructions were executed
+abbrev pub counts_line : ℕ → ℕ → List ℕ
+counts_line begun executed = codes "statements " ++ (decimal begun ++ (codes " instructions " ++ (decimal executed ++ 10 ∷ [])))
+
 -- the lines that say all
 abbrev pub usage_line : List ℕ
 usage_line = codes "usage: eft cards|run|deck|listing|mill\n"

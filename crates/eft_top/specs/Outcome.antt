@@ -1,5 +1,5 @@
--- What comes of a command: a fault of its text, its deck, or a run over the records that it asked for.
-use Rattle.std.specs.Prelude.{◌≡◌, ◌≢◌, ℕ, Bool, true, false, ◌&&◌, List, [], ◌∷◌, Ok, Err, Some, None, if◌then◌else◌}
+-- What comes of a command: a fault of its text, its deck or its listing, or a run over the records that it asked for.
+use Rattle.std.specs.Prelude.{◌≡◌, ◌≢◌, ℕ, Bool, true, false, ◌&&◌, List, [], ◌∷◌, ◌++◌, Ok, Err, Some, None, if◌then◌else◌}
 use Rattle.std.specs.declared.option.Option.{Option}
 use Rattle.ground.specs.declared.fault.Fault.{Fault}
 use Rattle.ground.specs.declared.place.Place.{Place}
@@ -13,29 +13,32 @@ use Rattle.front.specs.Checked.{Meaning}
 use Rattle.deck.specs.Decks.{deck_of}
 use Rattle.front.specs.Verdict.{Verdict, Refuses, Accepts, Becomes, file_name}
 use Rattle.front.specs.Programs.{IsProgramOf}
-use Rattle.machine.specs.Runs.{IsRunOf}
+use Rattle.machine.specs.Runs.{IsRunOf, Executes}
+use Rattle.machine.specs.Listings.{IsListingOf}
 use Rattle.deck_file.specs.Loaded.{Loaded, IsLoaded}
 use Rattle.eft_top.specs.declared.status.Status.{Status}
 use Rattle.eft_top.specs.declared.status.Status.TheVariants.{SourceFault, Done as IsDone, Stopped as IsStopped, Trapped as IsTrapped, StepLimit, InputFault}
-use Rattle.eft_top.specs.Lines.{fault_line, trap_line, stop_line, limit_line, input_fault_line}
+use Rattle.eft_top.specs.Lines.{fault_line, trap_line, stop_line, limit_line, counts_line, input_fault_line}
 use Rattle.eft_top.specs.Input.{Got, Behind, Unread, Nothing, Broken, is_broken, OfEach}
-use Rattle.eft_top.specs.Words.{Command, Run, Cards, Deck}
+use Rattle.eft_top.specs.Words.{Command, Run, Cards, Listing, Deck}
 
--- a fault in the file of a name; a deck; or what a run shows of which at most so many statements begin, with the names of the files, and
--- whether a read of its input has failed
+-- a fault in the file of a name; a text that is put, a deck or a listing; or what a run shows of which at most so many statements begin,
+-- with the names of the files, whether a read of its input has failed, and the number of instructions where the counts are asked for
 pub data Outcome : Type 0 where
   HasFault : Fault → List ℕ → Outcome
-  HasDeck : List ℕ → Outcome
-  Runs : List (List ℕ) → ℕ → Bool → Shown → Outcome
+  HasText : List ℕ → Outcome
+  Runs : List (List ℕ) → ℕ → Bool → Option ℕ → Shown → Outcome
 
 -- A run with a limit over an input: it shows what a program of the meaning does within the limit, a program of sound FORTRAN
 -- that agrees with the meaning whatever the input holds. So where it has ended, the meaning has the same records and the same
 -- end; where it goes on, that program goes on past so many statements, and its records begin those of the meaning; and
--- whatever the meaning does with a work w where 32 * (w + 1) is within the limit, the run has done.
-pub record IsRun (meaning : Meaning) (limit : ℕ) (input : List Record) (shown : Shown) : Type 0 where
+-- whatever the meaning does with a work w where 32 * (w + 1) is within the limit, the run has done. The instructions are those that
+-- code of this program executes.
+pub record IsRun (meaning : Meaning) (limit : ℕ) (input : List Record) (shown : Shown) (executed : ℕ) : Type 0 where
   pub made : Program
   pub program : IsProgramOf meaning made
   pub is : shown ≡ program.run input limit
+  pub counted : Executes made input limit shown executed
 
 -- A deck of a text is the cards of a program of its meaning: of units of sound FORTRAN that are linked and agree with the meaning, and
 -- each of whose headers and statements fits its cards.
@@ -44,10 +47,16 @@ pub record IsDeck (meaning : Meaning) (deck : List ℕ) : Type 0 where
   pub program : IsProgramOf meaning made
   pub is : deck ≡ deck_of made.units
 
--- a refused text comes to its fault, an accepted one to a deck
-abbrev pub IsPrinted : Verdict → Outcome → Type 0
-IsPrinted (Refuses fault file) outcome = outcome ≡ HasFault fault file
-IsPrinted (Accepts files meaning) outcome = (deck : List ℕ) × IsDeck meaning deck × (outcome ≡ HasDeck deck)
+-- A listing of a text is that of valid stack code whose runs are those of a program of its meaning, in records, end and count.
+pub record IsListing (meaning : Meaning) (text : List ℕ) : Type 0 where
+  pub made : Program
+  pub program : IsProgramOf meaning made
+  pub listed : IsListingOf made text
+
+-- a refused text comes to its fault, an accepted one to a text that is put
+abbrev pub IsPrinted : (Meaning → List ℕ → Type 0) → Verdict → Outcome → Type 0
+IsPrinted IsText (Refuses fault file) outcome = outcome ≡ HasFault fault file
+IsPrinted IsText (Accepts files meaning) outcome = (text : List ℕ) × IsText meaning text × (outcome ≡ HasText text)
 
 -- A run asks for one record more than there are where a read has failed, and never where nothing is known of what is behind.
 abbrev pub Asks : Behind → End → Type 0
@@ -55,26 +64,36 @@ Asks Unread end = (place : Place) → end ≢ Ended (Trapped EndOfInput place)
 Asks Nothing end = Unit {0}
 Asks Broken end = (place : Place) × (end ≡ Ended (Trapped EndOfInput place))
 
--- What comes of a run: of what reads may have given, something was got, and P holds of what the run shows over the records of each input
--- that begins so.
-abbrev pub RunsOver : List (List ℕ) → (List Record → Shown → Type 0) → ℕ → (Got → Type 0) → Outcome → Type 0
-RunsOver files P limit given outcome =
-    (got : Got) × given got × (shown : Shown) × OfEach got (λ records. P records shown) × Asks got.behind shown.end × (outcome ≡ Runs files limit (is_broken got.behind) shown)
+abbrev pub if_asked : Bool → ℕ → Option ℕ
+if_asked true executed = Some executed
+if_asked false executed = None
+
+-- What comes of a run: of what reads may have given, something was got, and P holds of what the run shows, and of its instructions, over the
+-- records of each input that begins so.
+abbrev pub RunsOver : List (List ℕ) → (List Record → Shown → ℕ → Type 0) → ℕ → Bool → (Got → Type 0) → Outcome → Type 0
+RunsOver files P limit count given outcome =
+    (got : Got) × given got × (shown : Shown) × (executed : ℕ) × OfEach got (λ records. P records shown executed) × Asks got.behind shown.end
+    × (outcome ≡ Runs files limit (is_broken got.behind) (if_asked count executed) shown)
 
 -- a refused text comes to its fault, an accepted one to a run
-abbrev pub ComesOf : Verdict → ℕ → (Got → Type 0) → Outcome → Type 0
-ComesOf (Refuses fault file) limit given outcome = outcome ≡ HasFault fault file
-ComesOf (Accepts files meaning) limit given outcome = RunsOver files (IsRun meaning limit) limit given outcome
+abbrev pub ComesOf : Verdict → ℕ → Bool → (Got → Type 0) → Outcome → Type 0
+ComesOf (Refuses fault file) limit count given outcome = outcome ≡ HasFault fault file
+ComesOf (Accepts files meaning) limit count given outcome = RunsOver files (IsRun meaning limit) limit count given outcome
+
+-- what the units of a deck show over records; no number of instructions is shown
+abbrev pub IsDeckRun : Program → ℕ → List Record → Shown → ℕ → Type 0
+IsDeckRun made limit records shown executed = IsRunOf made records limit shown
 
 -- a refused deck comes to its fault, another one to the run of its units; all its places are in its file
 abbrev pub DeckComesOf : List ℕ → Loaded → ℕ → (Got → Type 0) → Outcome → Type 0
 DeckComesOf file (Err fault) limit given outcome = outcome ≡ HasFault fault file
-DeckComesOf file (Ok made) limit given outcome = RunsOver (file ∷ []) (λ records. IsRunOf made records limit) limit given outcome
+DeckComesOf file (Ok made) limit given outcome = RunsOver (file ∷ []) (IsDeckRun made limit) limit false given outcome
 
 -- what may come of a command, by what is known of the library and what reads may have given
 abbrev pub IsOutcomeOf : Command → Known → (Got → Type 0) → Outcome → Type 0
-IsOutcomeOf (Run limit language file) known given outcome = (verdict : Verdict) × Becomes language file known verdict × ComesOf verdict limit given outcome
-IsOutcomeOf (Cards language file) known given outcome = (verdict : Verdict) × Becomes language file known verdict × IsPrinted verdict outcome
+IsOutcomeOf (Run limit count language file) known given outcome = (verdict : Verdict) × Becomes language file known verdict × ComesOf verdict limit count given outcome
+IsOutcomeOf (Cards language file) known given outcome = (verdict : Verdict) × Becomes language file known verdict × IsPrinted IsDeck verdict outcome
+IsOutcomeOf (Listing language file) known given outcome = (verdict : Verdict) × Becomes language file known verdict × IsPrinted IsListing verdict outcome
 IsOutcomeOf (Deck limit file) known given outcome = (loaded : Loaded) × IsLoaded (answer known file) loaded × DeckComesOf file loaded limit given outcome
 
 -- the same by what the library tells, or, where it tells nothing, by some texts that fetches may have given
@@ -111,18 +130,23 @@ end_line files limit failed (Ended (Trapped trap place)) = trap_end_line files f
 end_line files limit failed GoesOn = limit_line limit
 end_line files limit failed _ = []
 
--- the status, the bytes on out and the line on diag
+-- the line of the counts, where they are asked for
+abbrev pub count_line : Option ℕ → ℕ → List ℕ
+count_line (Some executed) begun = counts_line begun executed
+count_line None begun = []
+
+-- the status, the bytes on out and the lines on diag
 abbrev pub status_of : Outcome → Option Status
 status_of (HasFault fault file) = Some SourceFault
-status_of (HasDeck deck) = Some IsDone
-status_of (Runs files limit failed run) = end_status failed run.end
+status_of (HasText text) = Some IsDone
+status_of (Runs files limit failed count run) = end_status failed run.end
 
 abbrev pub out_of : Outcome → List ℕ
 out_of (HasFault fault file) = []
-out_of (HasDeck deck) = deck
-out_of (Runs files limit failed run) = output_bytes run.records
+out_of (HasText text) = text
+out_of (Runs files limit failed count run) = output_bytes run.records
 
 abbrev pub diag_line : Outcome → List ℕ
 diag_line (HasFault fault file) = fault_line fault file
-diag_line (HasDeck deck) = []
-diag_line (Runs files limit failed run) = end_line files limit failed run.end
+diag_line (HasText text) = []
+diag_line (Runs files limit failed count run) = count_line count run.work ++ end_line files limit failed run.end

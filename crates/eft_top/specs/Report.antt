@@ -1,5 +1,6 @@
 -- What a report shows on diag.
-use Rattle.std.specs.Prelude.{◌≡◌, ℕ, List, [], Some}
+use Rattle.std.specs.Prelude.{◌≡◌, ℕ, List, [], ◌++◌, Some, None}
+use Rattle.std.specs.declared.option.Option.{Option}
 use Rattle.macro_define.specs.declared.refusal.TextRefusal.{TextRefusal}
 use Rattle.macro_define.specs.declared.refusal.TextRefusal.TheVariants as refusals
 use Rattle.front.specs.Verdict.{file_name}
@@ -7,9 +8,10 @@ use Rattle.runner.specs.declared.run.End.{End as TheEnd}
 use Rattle.runner.specs.declared.run.End.TheVariants as ends
 use Rattle.eft_top.specs.declared.status.Status.{Status}
 use Rattle.eft_top.specs.declared.status.Status.TheVariants as statuses
-use Rattle.eft_top.specs.Lines.{fault_line, trap_line, stop_line, limit_line, library_fault_line, input_fault_line, output_fault_line}
+use Rattle.eft_top.specs.Lines.{fault_line, trap_line, stop_line, limit_line, counts_line, library_fault_line, input_fault_line, output_fault_line}
 use Rattle.eft_top.specs.declared.report.Line.{Line}
 use Rattle.eft_top.specs.declared.report.Line.TheVariants as lines
+use Rattle.eft_top.specs.declared.report.Counts.{Counts}
 use Rattle.eft_top.specs.declared.report.Report.{Report}
 use Rattle.eft_top.specs.Outcome.{Outcome, HasFault, status_of, diag_line}
 
@@ -20,15 +22,23 @@ line_bytes (lines.Trap trap place files) = trap_line trap (file_name files.items
 line_bytes (lines.Stop number) = stop_line number
 line_bytes (lines.Limit limit) = limit_line limit
 
+abbrev pub counts_bytes : Option Counts → List ℕ
+counts_bytes None = []
+counts_bytes (Some counts) = counts_line counts.begun counts.executed
+
+-- the line of the counts, and then that of the status
+abbrev pub report_bytes : Report → List ℕ
+report_bytes report = counts_bytes report.counts ++ line_bytes report.line
+
 -- it has a status whose line says all
 pub record SaysAll (report : Report) (some : Status) (text : List ℕ) : Type 0 where
   pub status : report.status ≡ some
-  pub line : line_bytes report.line ≡ text
+  pub line : report_bytes report ≡ text
 
 -- it shows this outcome
 pub record IsReport (report : Report) (outcome : Outcome) : Type 0 where
   pub status : Some report.status ≡ status_of outcome
-  pub line : line_bytes report.line ≡ diag_line outcome
+  pub line : report_bytes report ≡ diag_line outcome
 
 -- it shows what a text was refused for
 abbrev pub ReportsRefusal : TextRefusal → Report → Type 0
@@ -52,3 +62,8 @@ line_at files limit (ends.Trapped trap place) = trap_line trap (file_name files 
 line_at files limit ends.StepLimit = limit_line limit
 line_at files limit ends.InputFault = input_fault_line
 line_at files limit ends.OutputFault = output_fault_line
+
+-- where a put has failed the counts are not shown
+abbrev pub counts_at : Option Counts → TheEnd → List ℕ
+counts_at counts ends.OutputFault = []
+counts_at counts _ = counts_bytes counts

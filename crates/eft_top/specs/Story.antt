@@ -1,8 +1,11 @@
--- What came of a call before its line was put.
+-- What came of a call before its lines were put.
 use Rattle.std.specs.Prelude.{◌≡◌, ◌⊎◌, ℕ, List, []}
 use Rattle.std.specs.declared.option.Option.{Option}
 use Rattle.ports.specs.Causes.{Rose}
 use Rattle.ports.specs.Puts.{PutsPrefix}
+use Rattle.f66_tree.specs.World.{Record, Shown}
+use Rattle.f66_program.specs.Linking.{Program}
+use Rattle.machine.specs.Runs.{IsRunOf, Executes}
 use Rattle.eft_top.specs.declared.status.Status.TheVariants.{Done, Usage, LibraryFault, OutputFault, Memory}
 use Rattle.eft_top.specs.declared.report.Report.{Report}
 use Rattle.eft_top.specs.Lines.{usage_line, library_fault_line, output_fault_line, memory_line}
@@ -25,6 +28,10 @@ pub record HasBroken {K : Type 0} (puts : K → List ℕ → K → Type 0) (faul
 pub data Shows (comes : (Got → Type 0) → Outcome → Type 0) (given got : Got → Type 0) (put broken : List ℕ → Type 0) (report : Report) : Type 0 where
   AllPut : (outcome : Outcome) → comes given outcome → put (out_of outcome) → IsReport report outcome → Shows comes given got put broken report
   BrokenOff : (outcome : Outcome) → comes got outcome → broken (out_of outcome) → SaysAll report OutputFault output_fault_line → Shows comes given got put broken report
+
+-- what linked units show over records, and the instructions of their code
+abbrev pub IsUnitsRun : Program → ℕ → List Record → Shown → ℕ → Type 0
+IsUnitsRun made limit records shown executed = IsRunOf made records limit shown × Executes made records limit shown executed
 
 -- a text was put, and the report says that all is done; or it was broken off
 abbrev pub Prints : List ℕ → (List ℕ → Type 0) → (List ℕ → Type 0) → Report → Type 0

@@ -1,7 +1,7 @@
 // The lines that diag gets. They take no memory: after a run none may be wanted.
 ghost use Rattle.std.specs.Prelude.{◌++◌, ℕ, List};
 ghost use Rattle.eft_top.specs.Delivery.{Delivers, IsWriting};
-ghost use Rattle.eft_top.specs.Lines.{at_line, fault_line, limit_line, limit_part, stop_line, trap_line};
+ghost use Rattle.eft_top.specs.Lines.{at_line, counts_line, fault_line, limit_line, limit_part, stop_line, trap_line};
 
 use crate::octal::{ROOM, octal_digits};
 use crate::puts::LineWriter;
@@ -81,6 +81,20 @@ pub fn put_limit<D: Sink>(diag: &mut D, limit: u64) -> Result<(), Failed>
     let mut line = LineWriter::new(diag);
     line.add(b"step limit ", diag);
     line.add(number.format(limit).as_bytes(), diag);
+    line.add(b"\n", diag);
+    line.end(diag)
+}
+
+/// The line of how many statements began and how many instructions were executed.
+pub fn put_counts<D: Sink>(diag: &mut D, begun: u64, executed: u64) -> Result<(), Failed>
+    ensures { Delivers D.puts D.faults diag.old diag.new (counts_line begun executed) result }
+{
+    let mut number = Buffer::new();
+    let mut line = LineWriter::new(diag);
+    line.add(b"statements ", diag);
+    line.add(number.format(begun).as_bytes(), diag);
+    line.add(b" instructions ", diag);
+    line.add(number.format(executed).as_bytes(), diag);
     line.add(b"\n", diag);
     line.end(diag)
 }

@@ -6,7 +6,7 @@ ghost use Rattle.ports.specs.Causes.{Rose};
 ghost use Rattle.ports.specs.Puts.{PutsPrefix};
 ghost use Rattle.ground.specs.declared.trap.Trap.TheVariants.{EndOfInput};
 ghost use Rattle.eft_top.specs.Lines.{output_fault_line};
-ghost use Rattle.eft_top.specs.Words.{Cards, AskFor, texts};
+ghost use Rattle.eft_top.specs.Words.{Cards, Listing, AskFor, texts};
 ghost use Rattle.eft_top.specs.Causes.{AnswersCall, IsOfText, WasToShow, NeedsNoInput, fixed_line};
 ghost use Rattle.eft_top.specs.Input.{HasGiven, HasGot, HasRead};
 
@@ -17,8 +17,8 @@ use ports::{Failed, Library, Sink, Source};
 use std::alloc::Global;
 
 /// All that the program does. The words are those after the program's name; out gets the records of a run, each in one put when it is
-/// complete, or a deck in one put, and diag at most one line. A run reads its input where it asks for a record. Want of memory comes
-/// before a run begins, or before a deck is put.
+/// complete, or a deck or a listing in one put, and diag the line of the counts where it is asked for and at most one line more. A run
+/// reads its input where it asks for a record. Want of memory comes before a run begins, or before a deck or a listing is put.
 pub fn eft<L: Library, S: Source, K: Sink, D: Sink>(
     alloc: Global,
     words: &Vec<String>,
@@ -54,11 +54,12 @@ pub fn eft<L: Library, S: Source, K: Sink, D: Sink>(
     ensures input { HasRead (S.left input.old) (S.left input.new) }
     ensures unread { NeedsNoInput result → input.new ≡ input.old }
     ensures unasked { (language : Dialect) (file : List ℕ) → AskFor (texts words.now.items) (Cards language file) → input.new ≡ input.old }
+    ensures unlisted { (language : Dialect) (file : List ℕ) → AskFor (texts words.now.items) (Listing language file) → input.new ≡ input.old }
 {
     // What a text comes to does not depend on how it is read.
     one_verdict();
     let report = answer_to(alloc, words, library, input, out);
-    match report.line.put(diag) {
+    match report.put(diag) {
         Ok(()) => report.status,
         Err(Failed) => Status::OutputFault,
     }

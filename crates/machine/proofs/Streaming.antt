@@ -11,7 +11,7 @@ use Rattle.runner.specs.declared.run.End.{End as TheEnd}
 use Rattle.runner.specs.declared.run.End.TheVariants as ends
 use Rattle.runner.specs.declared.runner.Runner.{Runner}
 use Rattle.stack_code.specs.StackMachine.{Runs}
-use Rattle.runner.specs.Running.{program, RunsTo}
+use Rattle.runner.specs.Running.{program, bounded, RunsTo}
 use Rattle.record_intake.specs.Intakes.{MayCome}
 use Rattle.runner.specs.Endings.{IsWhole, IsCutOff, IsBrokenOff, IsEnd}
 use Rattle.runner.specs.Runners.{IsFresh, IsRun, IsRunFrom, IsFirst}
@@ -90,6 +90,7 @@ module _ {S K : Type 0} (left : S → Option (List ℕ)) (puts : K → List ℕ 
       out = h.out;
       some = codes.some (input_records h.got) steps;
       begins = λ shown is. let run = codes.all (input_records h.got) steps shown is in h.begins shown run.0 run.1;
+      counts = λ shown is. let run = codes.all (input_records h.got) steps shown is in (bounded run.0, record { code = code; codes = codes; count = run.0; runs = run.1; is = refl });
     }
 
     streams : (e : TheEnd) → IsEnd left puts faults failures i0 i1 o0 o1 code steps rest executed e → StreamsTo left puts faults failures i0 i1 o0 o1 made steps begun executed e

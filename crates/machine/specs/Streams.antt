@@ -50,6 +50,7 @@ pub record RunsBrokenOff {S K : Type 0} (left : S → Option (List ℕ)) (puts :
   pub out : Rose (failures o0) (failures o1)
   pub some : (shown : Shown) × IsRunOf made (input_records got) steps shown
   pub begins : (shown : Shown) → IsRunOf made (input_records got) steps shown → IsPrefix written shown.records
+  pub counts : (shown : Shown) → IsRunOf made (input_records got) steps shown → (executed : ℕ) × Executes made (input_records got) steps shown executed
 
 -- what came in and went out by this end, before which so many statements began and so many instructions were executed
 abbrev pub StreamsTo : {S K : Type 0} → (S → Option (List ℕ)) → (K → List ℕ → K → Type 0) → (S → ℕ) → (K → ℕ) → S → S → K → K → Program → ℕ → ℕ → ℕ → TheEnd → Type 0

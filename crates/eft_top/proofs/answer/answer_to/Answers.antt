@@ -2,7 +2,7 @@
 use Rattle.std.proofs.Common.{rules, refl, subst, sym}
 use Rattle.eft_top.specs.Reading.{asked_command}
 use Rattle.eft_top.specs.Story.{BadWords, Asked, NoMemory, HasPut}
-use Rattle.eft_top.specs.Words.{Cards, texts}
+use Rattle.eft_top.specs.Words.{Cards, Listing, texts}
 use Rattle.eft_top.proofs.ReadWords.{one_command}
 use Rattle.eft_top.proofs.answer.answer_to.Goals as goal
 
@@ -27,3 +27,14 @@ returns-in-Ok-clause-unasked g c language file asks =
 pub returns-in-Err-clause-unasked : goal.returns-in-Err-clause-unasked
 returns-in-Err-clause-unasked g c language file asks =
     c.in-Err.ensures.unasked language file (one_command (texts c.args.words.now.items) (asked_command c.in-Some.asked) (Cards language file) c.in-Some.ensures asks)
+
+pub returns-in_default-clause-unlisted : goal.returns-in_default-clause-unlisted
+returns-in_default-clause-unlisted g c language file asks = absurd (c.in_default.ensures (Listing language file) asks)
+
+pub returns-in-Ok-clause-unlisted : goal.returns-in-Ok-clause-unlisted
+returns-in-Ok-clause-unlisted g c language file asks =
+    c.in-Ok.ensures.unlisted language file (one_command (texts c.args.words.now.items) (asked_command c.in-Some.asked) (Listing language file) c.in-Some.ensures asks)
+
+pub returns-in-Err-clause-unlisted : goal.returns-in-Err-clause-unlisted
+returns-in-Err-clause-unlisted g c language file asks =
+    c.in-Err.ensures.unlisted language file (one_command (texts c.args.words.now.items) (asked_command c.in-Some.asked) (Listing language file) c.in-Some.ensures asks)

@@ -18,7 +18,7 @@ returns-in-Ok-clause-came g c =
     let files = c.in-Ok.field-0.files.items in
     let made = program_of c.in-Ok.field-0.made.units.items c.in-Ok.field-0.made.finish in
     if_ok (λ report shows.
-    Came c.in-Ok.ensures.cause (shows_so (λ given o over. (text.known, text.of, (Accepts files text.gives.0, text.gives.1, ran_text files made text.gives.0 c.args.limit text.gives.2 given o over))) shows))
+    Came c.in-Ok.ensures.cause (shows_so (λ given o over. (text.known, text.of, (Accepts files text.gives.0, text.gives.1, ran_text files made text.gives.0 c.args.limit c.args.count text.gives.2 given o over))) shows))
     c.run.result
     c.run.ensures.shows
 
@@ -28,7 +28,7 @@ returns-in-Ok-clause-unread g c = if_ok (λ report needs none. absurd (needs non
 pub returns-in-Err-clause-came : goal.returns-in-Err-clause-came
 returns-in-Err-clause-came g c =
     if_ok (λ report shows.
-    refused_came (Run c.args.limit c.args.language c.args.file.now) c.args.language c.args.file.now _ _ _ _ _ _ _ c.in-Err.refusal report (λ fault name known becomes. (Refuses fault name, becomes, refl)) c.in-Err.ensures.text c.in-Err.ensures.cause
+    refused_came (Run c.args.limit c.args.count c.args.language c.args.file.now) c.args.language c.args.file.now _ _ _ _ _ _ _ c.in-Err.refusal report (λ fault name known becomes. (Refuses fault name, becomes, refl)) c.in-Err.ensures.text c.in-Err.ensures.cause
     (record { all = g.met.K.Sink.nothing c.args.out.now; steady = refl }) shows)
     c.refused.result
     c.refused.ensures
