@@ -3,4 +3,6 @@
 
 mod laws;
 
-pub use laws::{cards_pass_no_limit, printed_are_few, small_texts_pass_no_limit};
+pub use laws::{
+    cards_pass_no_limit, printed_are_few, printed_are_short, serving_units_pass_no_limit,
+};

@@ -1,0 +1,2 @@
+-- The definitions that the contracts of rat_shapes cite.
+pub mod Shapes
