@@ -1,5 +1,5 @@
 -- What holds of the expressions of commands, and of their plain statements, tells what holds of the statements that they become.
-use Rattle.std.proofs.Common.{◌≡◌, ℕ, ◌+◌, Bool, true, false, List, [], ◌∷◌, Option, Some, None}
+use Rattle.std.proofs.Common.{ℕ, ◌+◌, Bool, true, false, List, [], ◌∷◌, Option, Some, None}
 use Rattle.std.specs.List.{AllByRecursion}
 use Rattle.ground.specs.declared.place.Place.{Place}
 use Rattle.f66_tree.specs.declared.declaration.TypeWord.TheVariants.{Integer}

@@ -1,9 +1,9 @@
 -- How deep the parentheses of what a part gives are: those of its expressions, and of its plain statements.
-use Rattle.std.specs.Prelude.{ℕ, zero, suc, ◌+◌, max, List, [], ◌∷◌, Option, Some, None}
+use Rattle.std.specs.Prelude.{ℕ, suc, ◌+◌, max, List, Option, Some, None}
 use Rattle.grammar.specs.declared.language.Symbol.{Symbol}
 use Rattle.grammar.specs.declared.language.Symbol.TheVariants.{Terminal, Nonterminal}
 use Rattle.f66_tree.specs.Fields.{NoField}
-use Rattle.f66_tree.specs.Syntax.{Formula, Act}
+use Rattle.f66_tree.specs.Syntax.{Formula}
 use Rattle.f66_tree.specs.Views.{chained}
 use Rattle.rat_tree.specs.Syntax.{Command, Empty, Block, If, IfElse, While, For, Repeat, RepeatUntil, Do, Switch, Break, Next, Return, Plain, Labelled, Commands, NoCommand, AndCommand, Clauses, NoClause, AndClause, RatRoutine}
 use Rattle.rat_parse_table.specs.declared.table.Terminal.{Terminal as ATerminal}

@@ -1,20 +1,20 @@
 -- What the building functions make is no deeper than what they make it of, but for parentheses of its own.
-use Rattle.std.proofs.Common.{◌≡◌, ◌≤◌, ℕ, suc, ◌+◌, arith, Bool, true, false, List, [], ◌∷◌, Option, Some, None, refl}
+use Rattle.std.proofs.Common.{◌≡◌, ◌≤◌, ℕ, suc, arith, Bool, true, false, List, [], ◌∷◌, Option, Some, None, refl}
 use Rattle.std.specs.Prelude.{max, codes, ◌==◌, if◌then◌else◌}
 use Rattle.ground.specs.declared.place.Place.{Place}
 use Rattle.f66_tree.specs.declared.expression.Operator.{Operator}
 use Rattle.f66_tree.specs.declared.editing.EditKind.TheVariants as edits
-use Rattle.f66_tree.specs.Fields.{Fields, NoField, Single, Blanks, Takes}
+use Rattle.f66_tree.specs.Fields.{Fields, Single, Blanks, Takes}
 use Rattle.f66_tree.specs.Syntax.{Text, Formula, Pair, Plus, Minus, Par, Entries, Read, Write}
 use Rattle.rat_tree.specs.Syntax.{Command, Next, Break, Plain, Labelled, Commands}
 use Rattle.rat_parse_values.specs.Kinds as part
 use Rattle.rat_parse_values.specs.Values.{Val}
 use Rattle.rat_parse_values.specs.Values as val
 use Rattle.rat_parse_values.specs.Parts.{is_word, is_minus, sign_in, name_in, with_entry}
-use Rattle.rat_parse_expressions.specs.Phrases.{joined, signed, applied, applied_if, looped, lengthened, pended, begun, lettered, width, worded, counted_field}
+use Rattle.rat_parse_expressions.specs.Phrases.{joined, signed, applied, applied_if, looped, lengthened, pended, begun, width, worded, counted_field}
 use Rattle.rat_parse_plain.specs.Plain.{counted, transfer}
 use Rattle.rat_parse_control.specs.Statements.{conditional, repetition, with_own_label, labelled_value, left, declares, typed_unit}
-use Rattle.deck_laws.specs.Nesting.{deepest, nesting, entry_nesting, entries_nesting, fields_nesting, act_nesting}
+use Rattle.deck_laws.specs.Nesting.{deepest, nesting, entries_nesting, fields_nesting, act_nesting}
 use Rattle.rat_shapes.proofs.Depths.{if_any, depth_of, depth_in, subscripts_depth, depth, around_subscripts, around_fields}
 use Rattle.rat_shapes.proofs.Parts.{chained_deep, listed_deep, with_entry_deep, declareds_deep}
 

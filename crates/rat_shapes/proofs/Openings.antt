@@ -3,7 +3,7 @@
 --
 -- Each production but those of the rest of an implied DO closes what it opens. The meter never counts more than 100 where a token
 -- is taken, and so its count there is not cut off at the greatest number of a machine.
-use Rattle.std.proofs.Common.{◌≡◌, ◌≤◌, ℕ, ◌+◌, arith, Bool, true, false, List, [], ◌∷◌, Option, Some, None, refl, sym, ap, ◌∙◌, subst}
+use Rattle.std.proofs.Common.{◌≡◌, ◌≤◌, ℕ, ◌+◌, arith, Bool, true, false, List, [], ◌∷◌, Option, Some, None, refl, sym, ◌∙◌, subst}
 use Rattle.std.proofs.lemmas.Bool.Decides.{nat_tests}
 use Rattle.std.specs.Prelude.{◌*◌, ◌&&◌, nat_lt, nat_eq, if◌then◌else◌}
 use Rattle.ground.specs.declared.token.Token.{Token}

@@ -1,7 +1,6 @@
 -- What is read off a part is no deeper than the part.
-use Rattle.std.proofs.Common.{◌≡◌, ◌≤◌, ℕ, suc, ◌+◌, arith, List, [], ◌∷◌, refl}
+use Rattle.std.proofs.Common.{◌≡◌, ◌≤◌, suc, arith, List, [], ◌∷◌, refl}
 use Rattle.std.specs.Prelude.{max}
-use Rattle.f66_tree.specs.Fields.{Fields}
 use Rattle.f66_tree.specs.Syntax.{Formula, Entry}
 use Rattle.f66_tree.specs.Views.{chained, listed}
 use Rattle.rat_tree.specs.Syntax.{RatRoutine}

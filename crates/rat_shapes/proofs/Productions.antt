@@ -1,9 +1,9 @@
 -- What each production of Ratfor makes of its parts is no deeper than 100 parentheses less those that are open before it, where
 -- each part is no deeper than that at its own beginning.
-use Rattle.std.proofs.Common.{◌≤◌, ℕ, ◌+◌, arith, List, [], ◌∷◌, Option, Some, None}
+use Rattle.std.proofs.Common.{◌≤◌, ℕ, ◌+◌, arith, List, [], ◌∷◌, Some, None}
 use Rattle.std.specs.Prelude.{◌-◌, max}
 use Rattle.grammar.specs.declared.language.Symbol.{Symbol}
-use Rattle.grammar.specs.declared.language.Symbol.TheVariants.{Terminal, Nonterminal}
+use Rattle.grammar.specs.declared.language.Symbol.TheVariants.{Nonterminal}
 use Rattle.grammar.specs.Stack.{piled}
 use Rattle.rat_parse_table.specs.declared.table.Terminal.{Terminal as ATerminal}
 use Rattle.rat_parse_table.specs.declared.table.Nonterminal.{Nonterminal as ANonterminal}
@@ -14,12 +14,12 @@ use Rattle.rat_parse_values.specs.Values.{Val, last_of, others, at}
 use Rattle.rat_parse_values.specs.Parts.{place_in, name_in, number_in, count_in, count_or_one, integer_in, as_exprs, as_joins, as_declareds, as_areas, as_presets, as_entries, as_fields, as_statements, as_clauses, as_units, as_par, as_formula, as_command}
 use Rattle.f66_tree.specs.Fields.{NoField}
 use Rattle.f66_tree.specs.Syntax.{Int}
-use Rattle.f66_tree.specs.Views.{chained, listed}
+use Rattle.f66_tree.specs.Views.{listed}
 use Rattle.rat_parse_expressions.specs.Phrases.{joined}
 use Rattle.rat_parse_control.specs.Statements.{labelled_value}
 use Rattle.rat_parse.specs.Build.{build}
 use Rattle.rat_room.proofs.TreeWeights.{Each}
-use Rattle.deck_laws.specs.Nesting.{deepest, nesting}
+use Rattle.deck_laws.specs.Nesting.{nesting}
 use Rattle.rat_shapes.proofs.Depths.{any_depth, depth, depth_at}
 use Rattle.rat_shapes.proofs.Parts as parts
 use Rattle.rat_shapes.proofs.Made as made

@@ -1,5 +1,5 @@
 -- Each unit of an accepted program becomes statements with at most 102 open parentheses.
-use Rattle.std.proofs.Common.{◌≤◌, ℕ, arith, List, [], ◌∷◌, Option, Some, None}
+use Rattle.std.proofs.Common.{◌≤◌, arith, List, [], ◌∷◌, Option, Some, None}
 use Rattle.std.specs.List.{AllByRecursion}
 use Rattle.f66_tree.specs.Syntax.{Formula, Formulas, NoFormula, AndFormula, Act}
 use Rattle.rat_tree.specs.Syntax.{Command, Empty, Block, If, IfElse, While, For, Repeat, RepeatUntil, Do, Switch, Break, Next, Return, Plain, Labelled, Commands, NoCommand, AndCommand, Clauses, NoClause, AndClause, RatRoutine}

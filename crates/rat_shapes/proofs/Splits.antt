@@ -1,5 +1,5 @@
 -- A clause before others, and a field before others, is no deeper than each of them.
-use Rattle.std.proofs.Common.{◌≤◌, ℕ, zero, suc, arith, List, [], ◌∷◌, Option, Some, None}
+use Rattle.std.proofs.Common.{◌≤◌, ℕ, arith, List, Option, Some, None}
 use Rattle.std.specs.Prelude.{max}
 use Rattle.f66_tree.specs.Fields.{Fields, NoField}
 use Rattle.f66_tree.specs.Syntax.{Text, Formula}
@@ -17,7 +17,7 @@ use Rattle.rat_parse.specs.Build.{build}
 use Rattle.rat_room.proofs.TreeWeights.{Each}
 use Rattle.rat_room.proofs.NineParts.{part_at}
 use Rattle.deck_laws.specs.Nesting.{fields_nesting}
-use Rattle.rat_shapes.proofs.Depths.{depth_among, depth, around_fields}
+use Rattle.rat_shapes.proofs.Depths.{depth_among, depth}
 use Rattle.rat_shapes.proofs.Made.{worded_deep, counted_field_deep}
 
 abbrev pub IsSplit : Val → Type 0

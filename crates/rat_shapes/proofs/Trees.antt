@@ -1,5 +1,5 @@
 -- What a tree gives is no deeper than 100 parentheses less those that are open before it, where no limit is passed.
-use Rattle.std.proofs.Common.{◌≡◌, ◌≤◌, ℕ, ◌+◌, arith, List, [], ◌∷◌, refl, sym, subst}
+use Rattle.std.proofs.Common.{◌≤◌, ℕ, ◌+◌, arith, List, [], ◌∷◌, refl, sym, subst}
 use Rattle.std.specs.Prelude.{◌-◌}
 use Rattle.ground.specs.declared.token.Token.{Token}
 use Rattle.grammar.specs.declared.language.Symbol.{Symbol}
@@ -26,7 +26,7 @@ use Rattle.rat_room.proofs.UnitTexts.{Past}
 use Rattle.deck_laws.specs.Nesting.{deepest}
 use Rattle.rat_shapes.proofs.Depths.{depth_of_unit, depth_at}
 use Rattle.rat_shapes.proofs.Splits.{IsSplit, keeps}
-use Rattle.rat_shapes.proofs.Openings.{IsQuiet, open_after, opens, closes, all_open, all_close, deepens, token_low, tree_kept, inside_kept}
+use Rattle.rat_shapes.proofs.Openings.{IsQuiet, open_after, all_open, all_close, deepens, token_low, tree_kept, inside_kept}
 use Rattle.rat_shapes.proofs.Productions.{Within, made_deep}
 
 -- a token has no depth, but that a parenthesis opens

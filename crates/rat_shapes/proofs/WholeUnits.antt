@@ -1,5 +1,5 @@
 -- Each unit of an accepted program becomes whole statements.
-use Rattle.std.proofs.Common.{◌≡◌, List, [], ◌∷◌, refl, subst}
+use Rattle.std.proofs.Common.{List, [], ◌∷◌, refl, subst}
 use Rattle.std.specs.List.{AllByRecursion}
 use Rattle.ground.specs.declared.token.Token.{Token}
 use Rattle.grammar.specs.Grammar.{Tree, Trees, leaf, node, none, some, Parse, value_of, values_of}

@@ -1,13 +1,12 @@
 -- What each production of Ratfor makes of whole parts is whole: a computed GO TO has a label, and in a format only I, L, A and groups
 -- have counts, and A has a width of one.
-use Rattle.std.proofs.Common.{◌≡◌, ◌<◌, ◌≤◌, ℕ, ◌+◌, arith, Bool, true, false, List, [], ◌∷◌, length, Option, Some, None, refl}
+use Rattle.std.proofs.Common.{ℕ, arith, Bool, true, false, List, [], ◌∷◌, Option, Some, None, refl}
 use Rattle.std.specs.Prelude.{codes, ◌==◌, if◌then◌else◌}
 use Rattle.ground.specs.declared.place.Place.{Place}
-use Rattle.ground.specs.declared.token.Token.{Token}
 use Rattle.f66_tree.specs.declared.editing.EditKind.TheVariants as edits
-use Rattle.f66_tree.specs.Fields.{Fields, NoField, Single, Group, Takes, Blanks}
-use Rattle.f66_tree.specs.Syntax.{Text, Formula, Formulas, NoFormula, AndFormula, Act, Read, Write, Par, Entries}
-use Rattle.rat_tree.specs.Syntax.{Command, Next, Break, Plain, Labelled, Commands, NoCommand, AndCommand, Clauses, NoClause, AndClause, RatRoutine}
+use Rattle.f66_tree.specs.Fields.{Fields, Single, Takes, Blanks}
+use Rattle.f66_tree.specs.Syntax.{Text, Formula, Formulas, NoFormula, AndFormula, Read, Write, Par, Entries}
+use Rattle.rat_tree.specs.Syntax.{Command, Next, Break, Plain, Labelled, Commands, Clauses, RatRoutine}
 use Rattle.rat_parse_table.specs.declared.table.Production.{Production}
 use Rattle.rat_parse_table.specs.declared.table.Production.TheVariants as productions
 use Rattle.rat_parse_values.specs.Kinds as part
@@ -16,8 +15,8 @@ use Rattle.rat_parse_values.specs.Values as val
 use Rattle.rat_parse_values.specs.Parts.{place_in, name_in, number_in, count_in, count_or_one, is_word, as_exprs, as_fields, as_formula, as_par, as_entries, as_act, as_command, as_statements, as_clauses, as_units, formula_part, act_part, with_field, with_clause, with_routine}
 use Rattle.f66_tree.specs.Views.{chained, listed}
 use Rattle.rat_parse_expressions.specs.Phrases as operators
-use Rattle.rat_parse_plain.specs.Plain.{counted, transfer}
-use Rattle.rat_parse_control.specs.Statements.{conditional, repetition, with_own_label, labelled_value, left, typed_unit}
+use Rattle.rat_parse_plain.specs.Plain.{counted}
+use Rattle.rat_parse_control.specs.Statements.{conditional, repetition, with_own_label, labelled_value, typed_unit}
 use Rattle.rat_parse.specs.Build.{build}
 use Rattle.rat_room.proofs.TreeWeights.{Each}
 use Rattle.rat_room.proofs.NineParts.{part_at}
