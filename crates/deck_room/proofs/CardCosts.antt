@@ -13,7 +13,7 @@ use Rattle.f66_tree.specs.Syntax.{Text, Formula, Int, Truth, Letter, Ref, Group,
 use Rattle.stmt_text.specs.Texts.{operator_text, truth_text, formula_text, type_text, commas, declared_text, areas_text, statement_text, header_text}
 use Rattle.stmt_text.proofs.TextLengths.{length-decimal}
 use Rattle.card_writer.specs.Cards.{columns, cards}
-use Rattle.stmt_reader.specs.Faults.{too_long, formula_has, declared_has, area_has, name_has, act_has}
+use Rattle.stmt_reader.specs.Faults.{too_long, formula_has, declared_has, area_has, act_has}
 use Rattle.deck.specs.Decks.{statement_cards, header_cards, end_line, unit_cards, deck_of}
 use Rattle.deck.specs.LongTexts.{fault_of_text, fault_of_line, fault_of_header, first_fault, fault_of_unit, fault_of_deck}
 use Rattle.deck.specs.ReadableStatements.{IsReadableDeclared, IsReadableArea, AreSome, IsReadableBranch, assignment, jump, computed, sign, bare_call, call, read, write, continuation, stop, stop_number, return, IsReadableAct, branch, conditional, loop, format, typed, dimension, common, equivalence, preset}
@@ -22,7 +22,7 @@ use Rattle.deck_laws.specs.Fitting.{HasShortNames, IsFittingLine, IsFittingUnit}
 use Rattle.deck_laws.specs.Headers.{IsReadableHeader}
 use Rattle.deck_laws.proofs.WritableLines.{breaks_few, none_both, fits_by}
 use Rattle.rat_room.proofs.Weights.{total}
-use Rattle.deck_room.proofs.Costs.{test_cost, when_cost, declared_worth, sizes_worth, block_worth, area_worth, act_cost, line_cost, header_cost, unit_cost}
+use Rattle.deck_room.proofs.Costs.{test_cost, when_cost, declared_worth, area_worth, act_cost, line_cost, header_cost, unit_cost}
 
 -- ---- texts ----
 

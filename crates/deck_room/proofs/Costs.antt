@@ -3,7 +3,7 @@
 --
 -- No text passes twenty cards, which have 1,460 bytes. A statement that may cost less is one that a text makes of fewer than three
 -- tokens, each of which pays for 500 bytes: a jump, a call without arguments, a name that is declared, the test of a case.
-use Rattle.std.specs.Prelude.{ℕ, ◌+◌, ◌*◌, List, [], ◌∷◌, length, Option, Some, None}
+use Rattle.std.specs.Prelude.{ℕ, ◌+◌, List, [], ◌∷◌, Option, Some, None}
 use Rattle.f66_tree.specs.Syntax.{Text, Header, MainUnit, SubUnit, FuncUnit, DataUnit, Formula, Int, Truth, Letter, Ref, Group, Pair, Formulas, NoFormula, AndFormula, Par, Declared, Area, Act, Goto, When, Invoke, Continue, Stop, Return, Typed, Dimension, Common, Line, Routine}
 use Rattle.rat_tree.specs.Syntax.{Command, Empty, Block, If, IfElse, While, For, Repeat, RepeatUntil, Do, Switch, Break, Next, Plain, Labelled, Commands, NoCommand, AndCommand, Clauses, NoClause, AndClause, RatRoutine}
 use Rattle.rat_tree.specs.Syntax as ratfor_tree

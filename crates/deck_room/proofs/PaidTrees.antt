@@ -1,5 +1,5 @@
 -- What a text becomes costs no more than its tokens pay for.
-use Rattle.std.proofs.Common.{◌≡◌, ◌≤◌, ℕ, ◌+◌, ◌*◌, arith, List, [], ◌∷◌, length, refl, sym, ap, subst}
+use Rattle.std.proofs.Common.{◌≤◌, ◌+◌, ◌*◌, arith, List, [], ◌∷◌, length, refl, sym, ap, subst}
 use Rattle.ground.specs.declared.token.Token.{Token}
 use Rattle.grammar.specs.declared.language.Symbol.{Symbol}
 use Rattle.grammar.specs.declared.language.Symbol.TheVariants.{Nonterminal}
@@ -11,11 +11,10 @@ use Rattle.rat_parse_table.specs.declared.table.Terminal.{Terminal as ATerminal}
 use Rattle.rat_parse_table.specs.declared.table.Nonterminal.{Nonterminal as ANonterminal}
 use Rattle.rat_parse_table.specs.declared.table.Production.{Production}
 use Rattle.rat_parse_table.specs.declared.table.Production.TheVariants as productions
-use Rattle.rat_parse_table.specs.Table.{symbols, nonterminal_of}
+use Rattle.rat_parse_table.specs.Table.{symbols}
 use Rattle.rat_parse_table.specs.Limits.{meter}
 use Rattle.rat_parse_values.specs.Values.{Val, program, tok}
 use Rattle.rat_parse_values.specs.Parts.{as_program}
-use Rattle.rat_parse.specs.Build.{build}
 use Rattle.rat_parse.specs.Ratfor.{grammar}
 use Rattle.rat_room.proofs.Weights.{total}
 use Rattle.rat_room.proofs.TreeWeights.{Each, offered_by}

@@ -7,7 +7,7 @@ use Rattle.grammar.specs.declared.language.Symbol.TheVariants.{Terminal, Nonterm
 use Rattle.grammar.specs.Stack.{piled}
 use Rattle.f66_tree.specs.declared.expression.Operator.{Operator}
 use Rattle.f66_tree.specs.declared.declaration.TypeWord.{TypeWord}
-use Rattle.f66_tree.specs.Syntax.{Text, Header, FuncUnit, Formula, Pair, Plus, Minus, Act, Read, Write, Par, Entries}
+use Rattle.f66_tree.specs.Syntax.{Text, Header, FuncUnit, Formula, Pair, Plus, Minus, Read, Write, Par, Entries}
 use Rattle.f66_tree.specs.Views.{chained, listed}
 use Rattle.rat_tree.specs.Syntax.{Command, Next, Break, Plain, Labelled, Commands, Clauses, NoClause, RatRoutine}
 use Rattle.rat_parse_table.specs.declared.table.Terminal.{Terminal as ATerminal}
@@ -20,10 +20,10 @@ use Rattle.rat_parse_values.specs.Kinds.{ExpressionVal, DeclarationVal, Paramete
 use Rattle.rat_parse_values.specs.Kinds as part
 use Rattle.rat_parse_values.specs.Values.{Val, last_of, others, at}
 use Rattle.rat_parse_values.specs.Values as val
-use Rattle.rat_parse_values.specs.Parts.{place_in, name_in, number_in, count_or_one, is_word, is_minus, sign_in, integer_in, type_word, as_exprs, as_joins, as_names, as_pars, as_declareds, as_areas, as_entries, as_statements, as_clauses, as_units, as_par, as_formula, as_act, as_command, as_header, name_if_any, act_part, formula_part, with_declared, with_area, with_clause, with_routine}
+use Rattle.rat_parse_values.specs.Parts.{place_in, name_in, number_in, count_or_one, is_word, is_minus, sign_in, type_word, as_exprs, as_joins, as_names, as_pars, as_declareds, as_areas, as_entries, as_statements, as_clauses, as_units, as_par, as_formula, as_act, as_command, as_header, name_if_any, act_part, formula_part, with_declared, with_area, with_clause, with_routine}
 use Rattle.rat_parse_expressions.specs.Phrases.{joined, signed, applied}
 use Rattle.rat_parse_plain.specs.Plain.{transfer}
-use Rattle.rat_parse_control.specs.Statements.{conditional, repetition, with_own_label, labelled_value, left, declares, typed, typed_unit}
+use Rattle.rat_parse_control.specs.Statements.{conditional, repetition, with_own_label, labelled_value, left, typed, typed_unit}
 use Rattle.rat_parse.specs.Build.{build}
 use Rattle.rat_room.proofs.Weights.{total}
 use Rattle.rat_room.proofs.TreeWeights.{Each}

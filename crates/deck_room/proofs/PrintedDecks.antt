@@ -2,7 +2,7 @@
 --
 -- Each unit by itself becomes few statements, so that its deck alone passes no limit, and the unit fits its cards. Then the deck of all
 -- units costs what their statements do, for which the tokens of the text pay.
-use Rattle.std.proofs.Common.{◌≡◌, ◌≤◌, ◌<◌, ℕ, ◌+◌, ◌*◌, arith, List, [], ◌∷◌, length, length-append, map, None, sym, subst}
+use Rattle.std.proofs.Common.{◌≡◌, ◌≤◌, ℕ, ◌+◌, ◌*◌, arith, List, [], ◌∷◌, length, length-append, map, None, refl}
 use Rattle.std.specs.List.{All, AllByRecursion}
 use Rattle.std.proofs.lemmas.List.{length-map}
 use Rattle.std.proofs.lemmas.List.Elements.{All-head, All-tail}
@@ -23,15 +23,14 @@ use Rattle.rat_room.proofs.Weights.{total}
 use Rattle.rat_shapes.specs.Shapes.{AllBecome, IsLow}
 use Rattle.rat_shapes.proofs.ShallowUnits as shallow
 use Rattle.rat_shapes.proofs.WholeUnits as whole
-use Rattle.deck.specs.Decks.{deck_of}
 use Rattle.deck.specs.LongTexts.{fault_of_unit, first_fault, fault_of_deck}
-use Rattle.deck.specs.Written.{statements_of, written_header, written_line, written_unit}
+use Rattle.deck.specs.Written.{written_header, written_line, written_unit}
 use Rattle.deck_laws.specs.Fitting.{IsShallow, IsFittingUnit}
 use Rattle.deck_laws.specs.Whole.{IsWhole, IsShallowUnit, IsSoundDeck}
 use Rattle.deck_laws.proofs.CardBytes.{small_is_sound}
 use Rattle.deck_laws.proofs.SoundDecks.{deck_fits}
 use Rattle.deck_laws.proofs.WritableLines.{none_both}
-use Rattle.deck_room.specs.Printed.{printed, ArePrinted, MayBePrinted, PrintedAreShort, PrintedPassesNoLimit, OnePassesNoLimit}
+use Rattle.deck_room.specs.Printed.{printed, ArePrinted, PrintedAreShort, PrintedPassesNoLimit, OnePassesNoLimit}
 use Rattle.deck_room.proofs.Costs.{routine_cost, unit_cost}
 use Rattle.deck_room.proofs.CodeCosts.{unit_costs}
 use Rattle.deck_room.proofs.CardCosts.{deck_costs}

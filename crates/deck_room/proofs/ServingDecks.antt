@@ -1,8 +1,8 @@
 -- Units in memory that serve for those of a text are printed as units of the text are.
-use Rattle.std.proofs.Common.{◌≡◌, List, [], ◌∷◌, map, refl, ◌∙◌}
+use Rattle.std.proofs.Common.{◌≡◌, List, [], ◌∷◌, map, refl}
 use Rattle.std.specs.List.{AllByRecursion}
 use Rattle.ground.specs.declared.place.Place.{Place}
-use Rattle.std.proofs.Common.{arith, length}
+use Rattle.std.proofs.Common.{arith}
 use Rattle.std.proofs.lemmas.List.{length-map}
 use Rattle.f66_tree.specs.declared.unit.Unit.{Unit as AUnit}
 use Rattle.f66_tree.specs.Syntax.{Routine}
