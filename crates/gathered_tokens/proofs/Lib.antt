@@ -1,0 +1,2 @@
+-- The lemmas of gathered_tokens.
+pub mod Counted

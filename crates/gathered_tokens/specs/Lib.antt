@@ -1,0 +1,2 @@
+-- The definitions that the contracts of gathered_tokens cite.
+pub mod Few
