@@ -7,5 +7,5 @@ mod laws;
 mod linking;
 
 pub use ending::end_of;
-pub use laws::accepted_has_none;
+pub use laws::{accepted_has_none, one_first_fault};
 pub use linking::{linked_deck, linked_units};
