@@ -1,27 +1,36 @@
 #!/bin/sh
 # How fast texts become decks, and decks are read: `eft cards ratfor`, and `eft deck --steps 1` on the deck that it writes, over a
-# large text and one of a tenth. No main of 4 MiB is accepted, since a unit has at most 20,000 tokens. So `statements` is the largest main
-# of short assignments, with 35 KiB, and `formats` the largest of FORMATs whose quoted texts are one token each, with 1.8 MiB.
+# large text and one of a tenth, each of many units. `lines` are short assignments, 23,000 lines in 450 units; `formats` are FORMATs whose
+# quoted texts are one token each, with 4 MiB.
 # Wanted are at most eleven times the time for ten times the text, both without an empty run, and at most 40 times the text as memory,
 # without that of an empty run. f2c and ftnchek are compared with where they are there.
 . "$(dirname "$0")/common.sh"
 wants "$eft"
 rounds=20
 
-# A main of so many assignments of 10 tokens with the end of the line, behind a short one.
-statements() { # COUNT
-    echo 'k = 0'
-    yes 'k = k + 1 - n + n' | head -n "$1"
-    echo end
+# A main and so many subroutines, each of 51 lines, of which 47 are assignments.
+lines() { # UNITS
+    awk -v n="$1" 'BEGIN {
+        print "k = 0\nend"
+        for (i = 1; i <= n; i++) {
+            printf "subroutine s%d(n)\nk = n\n", i
+            for (j = 1; j <= 47; j++) print "k = k + 1 - n"
+            print "return\nend"
+        }
+    }'
 }
 
-# A main of so many FORMATs of 14 tokens with the end of the line, which take twenty cards each.
-formats() { # COUNT
+# A main and so many subroutines of 107 FORMATs, each of which takes twenty cards.
+formats() { # UNITS
     awk -v n="$1" 'BEGIN {
         for (i = 1; i <= 255; i++) text = text "x"
         text = "\047" text "\047"
-        for (i = 1; i <= n; i++) printf "%d format(%s,%s,%s,%s,%s)\n", i, text, text, text, text, text
-        print "end"
+        print "k = 0\nend"
+        for (i = 1; i <= n; i++) {
+            printf "subroutine s%d\n", i
+            for (j = 1; j <= 107; j++) printf "%d format(%s,%s,%s,%s,%s)\n", j, text, text, text, text, text
+            print "return\nend"
+        }
     }'
 }
 
@@ -69,25 +78,25 @@ measured() { # SHAPE LARGE SMALL
     $shape "$2" >"$work/large.r"
     $shape "$3" >"$work/small.r"
     for size in large small; do
-        "$eft" cards ratfor "$work/$size.r" >"$work/$size.f" || { echo "bench/cards.sh: $size $shape have no deck" >&2; exit 1; }
+        "$eft" cards ratfor "$work/$size.r" >"$work/$size.f" || { echo "bench/cards.sh: $size units of $shape have no deck" >&2; exit 1; }
     done
     large=$(($(command_time /dev/null "$eft" cards ratfor "$work/large.r") - empty_cards))
     small=$(($(command_time /dev/null "$eft" cards ratfor "$work/small.r") - empty_cards))
-    compare "cards of $2 $shape and $3" "$large" "$small" 11
-    echo "cards of $2 $shape: $(($(wc -l <"$work/large.r") * 1000000000 / large)) lines a second"
+    compare "cards of $2 units of $shape and $3" "$large" "$small" 11
+    echo "cards of $2 units of $shape: $(($(wc -l <"$work/large.r") * 1000000000 / large)) lines a second"
     large=$(($(command_time /dev/null "$eft" deck --steps 1 "$work/large.f") - empty_deck))
     small=$(($(command_time /dev/null "$eft" deck --steps 1 "$work/small.f") - empty_deck))
-    compare "the deck of $2 $shape and $3" "$large" "$small" 11
-    echo "the deck of $2 $shape: $(($(wc -l <"$work/large.f") * 1000000000 / large)) cards a second"
+    compare "the deck of $2 units of $shape and $3" "$large" "$small" 11
+    echo "the deck of $2 units of $shape: $(($(wc -l <"$work/large.f") * 1000000000 / large)) cards a second"
     bytes=$(wc -c <"$work/large.r")
-    awk -v what="$2 $shape" -v took="$(($(memory "$eft" cards ratfor "$work/large.r") - empty_memory))" -v bytes="$bytes" 'BEGIN {
+    awk -v what="$2 units of $shape" -v took="$(($(memory "$eft" cards ratfor "$work/large.r") - empty_memory))" -v bytes="$bytes" 'BEGIN {
         printf "cards of %s: %d KiB of memory for %d of text, %.1f times (at most 40 wanted)\n", what, took, bytes / 1024, took * 1024 / bytes
         exit took * 1024 > 40 * bytes
     }' || status=1
-    beside f2c "<$work/large.f" "cards of $2 $shape" "$eft" cards ratfor "$work/large.r"
-    beside ftnchek "$work/large.f" "the deck of $2 $shape" "$eft" deck --steps 1 "$work/large.f"
+    beside f2c "<$work/large.f" "cards of $2 units of $shape" "$eft" cards ratfor "$work/large.r"
+    beside ftnchek "$work/large.f" "the deck of $2 units of $shape" "$eft" deck --steps 1 "$work/large.f"
 }
 
-measured statements 1990 199
-measured formats 1420 142
+measured lines 450 45
+measured formats 30 3
 exit $status
