@@ -1,0 +1,23 @@
+-- The lemmas of rat_grammar.
+mod LineLemmas
+mod Examples
+mod TokenLemmas
+mod Readings
+mod Steps
+mod Taken
+mod ExpressionsRead
+mod ExpressionsFound
+mod PlainRead
+mod StatementLemmas
+mod StatementsRead
+mod UnitsFound
+mod UnitsRead
+mod AllSteps
+pub mod Published
+mod ListsFound
+mod WordsFound
+mod DeclarationsFound
+mod FormatsFound
+mod EntriesFound
+mod PlainFound
+mod StatementsFound
