@@ -21,3 +21,4 @@ mod FormatsFound
 mod EntriesFound
 mod PlainFound
 mod StatementsFound
+mod AnswersPublished

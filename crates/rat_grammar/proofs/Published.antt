@@ -8,6 +8,7 @@ use Rattle.rat_tree.specs.Syntax.{RatProgram}
 use Rattle.rat_parse_table.specs.declared.table.Nonterminal.TheVariants as n
 use Rattle.rat_parse_values.specs.Values.{formula, program}
 use Rattle.rat_parse.specs.Ratfor.{grammar}
+use Rattle.rat_parse.proofs.OneTreeLemmas.{each_has_one}
 use Rattle.rat_grammar.specs.Tokens.{Tokens}
 use Rattle.rat_grammar.specs.Expressions.{Expr}
 use Rattle.rat_grammar.specs.Programs as u
@@ -21,7 +22,7 @@ use Rattle.rat_grammar.proofs.UnitsFound.{found_program}
 same_formula : (f g : Formula) → formula f ≡ formula g → f ≡ g
 same_formula f g e = cc
 
-same_program : (r s : RatProgram) → program r ≡ program s → r ≡ s
+pub same_program : (r s : RatProgram) → program r ≡ program s → r ≡ s
 same_program r s e = cc
 
 expression_read : (a b : Tokens) (f : Formula) → Found (Nonterminal n.Expr) a b (formula f) → Expr a b f
@@ -32,13 +33,13 @@ expression_read a b f c =
 pub expressions : ExpressionsArePublished
 expressions = record { read = expression_read; found = λ a b f h c. found_expr c (or_done h) }
 
-as_program : (ts : Tokens) (r : RatProgram) → (reading n.Program).Says ts [] r → u.Program ts r
+pub as_program : (ts : Tokens) (r : RatProgram) → (reading n.Program).Says ts [] r → u.Program ts r
 as_program ts r q = subst (λ v. u.Program ts (record { routines = r.routines; finish = v })) (sym q.5) (u.program q.2 q.3 q.4)
 
-program_read : (ts : List Token) (r : RatProgram) → IsProgram grammar ts (program r) → u.Program ts r
+pub program_read : (ts : List Token) (r : RatProgram) → IsProgram grammar ts (program r) → u.Program ts r
 program_read ts r h =
     let k : Reads (reading n.Program) ts [] _ = reads_whole steps h.0 in
     subst (λ s. u.Program ts s) (same_program k.0 r (sym k.1 ∙ h.1)) (as_program ts k.0 k.2)
 
 pub programs : ProgramsArePublished
-programs = record { read = program_read; found = λ ts r q. found_program q }
+programs = record { read = program_read; found = λ ts r q. found_program q; one = λ ts r s q k. (each_has_one ts).tree r s (found_program q) (found_program k) }

@@ -32,7 +32,8 @@ pub record ExpressionsArePublished : Type 0 where
   pub read : (a b : Tokens) (f : Formula) → Found (Nonterminal nonterminals.Expr) a b (formula f) → Expr a b f
   pub found : (a b : Tokens) (f : Formula) → IsSome b → Expr a b f → Found (Nonterminal nonterminals.Expr) a b (formula f)
 
--- Of whole texts the program is the one that the table gives.
+-- The program of a text is the one that the table gives, and there is no other.
 pub record ProgramsArePublished : Type 0 where
   pub read : (ts : List Token) (r : RatProgram) → IsProgram grammar ts (program r) → Program ts r
   pub found : (ts : List Token) (r : RatProgram) → Program ts r → IsProgram grammar ts (program r)
+  pub one : (ts : List Token) (r s : RatProgram) → Program ts r → Program ts s → r ≡ s

@@ -7,3 +7,4 @@ pub mod Plain
 pub mod Statements
 pub mod Programs
 pub mod Laws
+pub mod Answers
