@@ -46,8 +46,10 @@ value_of ts c h = let r : Reads (reading n.Program) ts _ _ = reads_whole steps h
 
 accepted_too : (ts : List Token) (r : RatProgram) → IsAccepted ts r → limits.IsAccepted grammar meter ts (program r)
 accepted_too ts r h = record {
-  value = λ c. (λ q. let s : (s : RatProgram) × (program s ≡ c) × Program ts s = value_of ts c q in ap (λ z. program z) (h.only s.0 s.2) ∙ s.1,
-    λ e. subst (λ z. IsProgram grammar ts z) e (found_program h.is));
+  value = λ c. (
+    λ q. let s : (s : RatProgram) × (program s ≡ c) × Program ts s = value_of ts c q in ap (λ z. program z) (h.only s.0 s.2) ∙ s.1,
+    λ e. subst (λ z. IsProgram grammar ts z) e (found_program h.is),
+  );
   within = h.within;
 }
 

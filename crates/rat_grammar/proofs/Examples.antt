@@ -61,7 +61,7 @@ signs_and_levels : e.Expr (sign 1 signs.Minus ∷ w 1 (codes "a") ∷ sign 1 sig
     (Pair operators.Add (Minus a) (Pair operators.Mul (Int (pos 2)) a))
 signs_and_levels =
     expr_of (e.added (e.minus one (e.factor (factor_of (e.name (name refl))))) one
-      (e.times (e.factor (e.prime (e.number one))) one (factor_of (e.name (name refl)))))
+    (e.times (e.factor (e.prime (e.number one))) one (factor_of (e.name (name refl)))))
 
 -- a - a - a groups to the left
 to_the_left : e.Expr (w 1 (codes "a") ∷ sign 1 signs.Minus ∷ w 1 (codes "a") ∷ sign 1 signs.Minus ∷ w 1 (codes "A") ∷ []) []
@@ -74,7 +74,7 @@ powers : e.Factor (w 1 (codes "k") ∷ sign 1 signs.Open ∷ w 1 (codes "a") ∷
     (Pair operators.Power (f66.Item (codes "K") (AndFormula a (AndFormula (Int (pos 1)) NoFormula))) (Int (pos 2)))
 powers =
     e.power (e.ref (e.applied (name refl) one (e.comma (expr_of (sum_of (factor_of (e.name (name refl))))) one (e.last (expr_of (sum_of (e.prime (e.number one)))))) one)) one
-      (e.number one)
+    (e.number one)
 
 -- ---- statements ----
 
@@ -111,7 +111,7 @@ dangling_tree = record {
 nearest : u.Program dangling dangling_tree
 nearest = u.program (Several.more (u.main Lines.none (no_line_at _ _ refl)
     (s.Statements.more (s.bare Lines.none (s.if_ (word refl) condition
-      (s.bare (Lines.line one Lines.none) (s.if_else (word refl) condition (s.bare Lines.none (assigned (Stop.line one))) Lines.none (word refl) (s.bare Lines.none (assigned (Stop.line one)))))
-      (follows_no _ Lines.none (no_line_at _ _ refl) (λ c q. no_word q))))
-      s.Statements.none)
+    (s.bare (Lines.line one Lines.none) (s.if_else (word refl) condition (s.bare Lines.none (assigned (Stop.line one))) Lines.none (word refl) (s.bare Lines.none (assigned (Stop.line one)))))
+    (follows_no _ Lines.none (no_line_at _ _ refl) (λ c q. no_word q))))
+    s.Statements.none)
     Lines.none (word refl) (Stop.line one)) Several.none) Lines.none one
