@@ -1,6 +1,6 @@
 -- What is answered by the table's grammar is what is answered by the published one.
-use Rattle.std.proofs.Common.{◌≡◌, ◌∙◌, ◌⊎◌, inl, inr, ℕ, suc, ◌++◌, List, refl, ap, sym, subst}
-use Rattle.std.specs.Prelude.{take, Some, Result, Ok, Err}
+use Rattle.std.proofs.Common.{◌≡◌, ◌∙◌, inl, inr, ℕ, suc, ◌++◌, List, refl, ap, sym, subst}
+use Rattle.std.specs.Prelude.{take, Result, Ok, Err}
 use Rattle.ground.specs.declared.token.Token.{Token}
 use Rattle.ground.specs.declared.fault.Fault.{Fault}
 use Rattle.ground.specs.declared.fault.Refusal.{Refusal}
@@ -17,7 +17,7 @@ use Rattle.rat_parse_table.specs.Limits.{meter}
 use Rattle.rat_parse_values.specs.Values.{Val, program}
 use Rattle.rat_parse.specs.Ratfor.{grammar, whole}
 use Rattle.rat_grammar.specs.Programs.{Program}
-use Rattle.rat_grammar.specs.Answers.{Begins, IsAccepted, SyntaxAt, LimitAt, FaultAt, IsFirstFault, Answers, AnswersArePublished}
+use Rattle.rat_grammar.specs.Answers.{Begins, IsAccepted, FaultAt, Answers, AnswersArePublished}
 use Rattle.rat_grammar.proofs.Readings.{reading}
 use Rattle.rat_grammar.proofs.Steps.{Reads, reads_whole}
 use Rattle.rat_grammar.proofs.AllSteps.{steps}

@@ -1,6 +1,6 @@
 -- Small texts and their trees.
-use Rattle.std.proofs.Common.{◌≡◌, Bool, true, false, refl, sym, subst}
-use Rattle.std.specs.Prelude.{ℕ, pos, List, [], ◌∷◌, Some, None, codes}
+use Rattle.std.proofs.Common.{◌≡◌, ◌∙◌, ◌⊎◌, inl, inr, Bool, true, false, refl, sym, subst, ap}
+use Rattle.std.specs.Prelude.{ℕ, pos, [], ◌∷◌, Some, None, codes}
 use Rattle.ground.specs.declared.place.Place.{Place}
 use Rattle.ground.specs.declared.token.Token.{Token}
 use Rattle.ground.specs.declared.token.TokenKind.{TokenKind}
@@ -12,17 +12,18 @@ use Rattle.f66_tree.specs.declared.expression.Operator.TheVariants as operators
 use Rattle.f66_tree.specs.declared.editing.EditKind.TheVariants as edits
 use Rattle.f66_tree.specs.Fields as fields
 use Rattle.f66_tree.specs.Syntax as f66
-use Rattle.f66_tree.specs.Syntax.{Text, Formula, Int, Pair, Minus, Act, Assign, Constant, NoFormula, AndFormula}
+use Rattle.f66_tree.specs.Syntax.{Text, Formula, Int, Pair, Minus, Assign, Constant, NoFormula, AndFormula}
 use Rattle.rat_tree.specs.Syntax as tree
 use Rattle.rat_tree.specs.Syntax.{Command, NoCommand, AndCommand}
-use Rattle.rat_grammar.specs.Tokens.{Tokens, token, one, word, name, Lines, Stop, Several, Listed}
+use Rattle.rat_grammar.specs.Tokens.{Tokens, token, One, one, capitals, Word, word, name, Lines, Stop, Several}
 use Rattle.rat_grammar.specs.Expressions as e
 use Rattle.rat_grammar.specs.Formats as f
 use Rattle.rat_grammar.specs.Declarations as d
 use Rattle.rat_grammar.specs.Plain as pl
 use Rattle.rat_grammar.specs.Statements as s
 use Rattle.rat_grammar.specs.Programs as u
-use Rattle.rat_grammar.proofs.LineLemmas.{no_line_at, follows_no}
+use Rattle.rat_grammar.proofs.TokenLemmas.{untrue, same, same_self}
+use Rattle.rat_grammar.proofs.LineLemmas.{no_line_at, follows_no, kind_at}
 
 abbrev here : ℕ → Place
 here n = record { file = 0; line = n }
@@ -88,6 +89,10 @@ assigned st = s.plain (pl.simple (pl.assignment (e.name (name refl)) one (expr_o
 condition : {n : ℕ} {ts : Tokens} → e.Condition (sign n signs.Open ∷ w n (codes "a") ∷ sign n signs.Close ∷ ts) ts a
 condition = e.condition one (expr_of (sum_of (factor_of (e.name (name refl))))) one
 
+-- another word
+no_word : {x : Text} {n : ℕ} {v : Text} {ts c : Tokens} → same x (capitals v) ≡ false → Word x (w n v ∷ ts) c → ⊥
+no_word {x} {v = v} g (word h) = untrue (sym g ∙ ap (same x) h ∙ same_self x)
+
 abbrev if_a : ℕ → Tokens → Tokens
 if_a n ts = w n (codes "if") ∷ sign n signs.Open ∷ w n (codes "a") ∷ sign n signs.Close ∷ ts
 
@@ -112,6 +117,234 @@ nearest : u.Program dangling dangling_tree
 nearest = u.program (Several.more (u.main Lines.none (no_line_at _ _ refl)
     (s.Statements.more (s.bare Lines.none (s.if_ (word refl) condition
     (s.bare (Lines.line one Lines.none) (s.if_else (word refl) condition (s.bare Lines.none (assigned (Stop.line one))) Lines.none (word refl) (s.bare Lines.none (assigned (Stop.line one)))))
-    (follows_no _ Lines.none (no_line_at _ _ refl) (λ c q. no_word q))))
+    (follows_no _ Lines.none (no_line_at _ _ refl) (λ c q. no_word refl q))))
     s.Statements.none)
     Lines.none (word refl) (Stop.line one)) Several.none) Lines.none one
+
+-- An if with braces, and its else:  if (a) { a = 1 } else { }
+braced : s.Body (if_a 1 (sign 1 signs.OpenBrace ∷ a_is 1 1 (sign 1 signs.CloseBrace ∷ w 1 (codes "else") ∷ sign 1 signs.OpenBrace ∷ sign 1 signs.CloseBrace ∷ []))) []
+    (tree.IfElse (here 1) a (tree.Block (here 1) (AndCommand (sets 1 1) NoCommand)) (tree.Block (here 1) NoCommand))
+braced = s.if_else (word refl) condition
+    (s.bare Lines.none (s.block one (s.Statements.more (s.bare Lines.none (assigned (Stop.brace one))) s.Statements.none) Lines.none one)) Lines.none (word refl)
+    (s.bare Lines.none (s.block one s.Statements.none Lines.none one))
+
+-- repeat a = 1; and an until on the next line, whose place is kept
+until : s.Body (w 1 (codes "repeat") ∷ a_is 1 1 (line 1 ∷ line 2 ∷ w 3 (codes "Until") ∷ sign 3 signs.Open ∷ w 3 (codes "a") ∷ sign 3 signs.Close ∷ line 3 ∷ [])) []
+    (tree.RepeatUntil (here 1) (sets 1 1) a (here 3))
+until = s.repeat_until (word refl) (s.bare Lines.none (assigned (Stop.line one))) (Lines.line one Lines.none) (word refl) condition (Stop.line one)
+
+-- repeat with no until: what follows is another statement
+turns : s.Body (w 1 (codes "repeat") ∷ a_is 1 1 (line 1 ∷ line 2 ∷ a_is 3 2 [])) (line 2 ∷ a_is 3 2 []) (tree.Repeat (here 1) (sets 1 1))
+turns = s.repeat (word refl) (s.bare Lines.none (assigned (Stop.line one)))
+    (follows_no _ (Lines.line one Lines.none) (no_line_at _ _ refl) (λ c q. no_word refl q))
+
+-- for (;;) 10 next 2
+bare_for : s.Body (w 1 (codes "for") ∷ sign 1 signs.Open ∷ at 1 kinds.Semicolon ∷ at 1 kinds.Semicolon ∷ sign 1 signs.Close ∷ number 2 10 ∷ w 2 (codes "next") ∷ number 2 2 ∷ line 2 ∷ []) []
+    (tree.For (here 1) None None None (tree.Labelled 10 (here 2) (tree.Next (here 2) 2)))
+bare_for = s.for (word refl) one s.AnySimple.none one s.AnyExpr.none one s.AnySimple.none one
+    (s.marked Lines.none (d.natural one) (s.next (word refl) (s.Times.number (d.natural one)) (Stop.line one)))
+
+-- for (a = 1; a; call a) break
+whole_for : s.Body (w 1 (codes "for") ∷ sign 1 signs.Open ∷ a_is 1 1 (at 1 kinds.Semicolon ∷ w 1 (codes "a") ∷ at 1 kinds.Semicolon ∷ w 1 (codes "call") ∷ w 1 (codes "a") ∷ sign 1 signs.Close ∷ w 1 (codes "break") ∷ line 1 ∷ [])) []
+    (tree.For (here 1) (Some (Assign a (Int (pos 1)))) (Some a) (Some (f66.Invoke (codes "A") NoFormula)) (tree.Break (here 1) 1))
+whole_for = s.for (word refl) one (s.AnySimple.some (pl.assignment (e.name (name refl)) one (expr_of (sum_of (e.prime (e.number one)))))) one
+    (s.AnyExpr.some (expr_of (sum_of (factor_of (e.name (name refl)))))) one (s.AnySimple.some (pl.call (word refl) (name refl))) one
+    (s.bare Lines.none (s.break_ (word refl) s.Times.once (Stop.line one)))
+
+-- do a = 1, a return (a)
+counted : s.Body (w 1 (codes "do") ∷ w 1 (codes "a") ∷ sign 1 signs.Assign ∷ number 1 1 ∷ sign 1 signs.Comma ∷ w 1 (codes "a") ∷ w 1 (codes "return") ∷ sign 1 signs.Open ∷ w 1 (codes "a") ∷ sign 1 signs.Close ∷ at 1 kinds.Semicolon ∷ []) []
+    (tree.Do (here 1) (codes "A") (Constant (pos 1)) (f66.Named (codes "A")) (Constant (pos 1)) (tree.Return (here 1) (Some a)))
+counted = s.do_ (word refl) (name refl) one (d.short (d.number one) one (d.name (name refl))) (s.bare Lines.none (s.return_ (word refl) (s.AnyCondition.some condition) (Stop.semicolon one)))
+
+-- switch (a) { case 1, 2: a = 1; default: }
+chosen : s.Body (w 1 (codes "switch") ∷ sign 1 signs.Open ∷ w 1 (codes "a") ∷ sign 1 signs.Close ∷ sign 1 signs.OpenBrace ∷ line 1 ∷ w 2 (codes "case") ∷ number 2 1 ∷ sign 2 signs.Comma ∷ number 2 2 ∷ sign 2 signs.Colon
+    ∷ a_is 2 1 (line 2 ∷ w 3 (codes "default") ∷ sign 3 signs.Colon ∷ line 3 ∷ sign 4 signs.CloseBrace ∷ [])) []
+    (tree.Switch (here 1) a (tree.AndClause (AndFormula (Int (pos 1)) (AndFormula (Int (pos 2)) NoFormula)) false (AndCommand (sets 2 1) NoCommand) (here 2)
+    (tree.AndClause NoFormula true NoCommand (here 3) tree.NoClause)))
+chosen = s.switch (word refl) condition Lines.none one
+    (s.case (Lines.line one Lines.none) (word refl) (e.comma (expr_of (sum_of (e.prime (e.number one)))) one (e.last (expr_of (sum_of (e.prime (e.number one)))))) one
+    (s.Statements.more (s.bare Lines.none (assigned (Stop.line one))) s.Statements.none)
+    (s.default Lines.none (word refl) one s.Statements.none s.no_clause))
+    (Lines.line one Lines.none) one
+
+-- format(2i5 / 'ab', 3(x)): the comma beside the slash is missing
+fields_of : f.Fields (number 1 2 ∷ w 1 (codes "i5") ∷ sign 1 signs.Slash ∷ at 1 (kinds.Quoted (codes "ab")) ∷ sign 1 signs.Comma ∷ number 1 3 ∷ sign 1 signs.Open ∷ w 1 (codes "x") ∷ sign 1 signs.Close ∷ sign 1 signs.Close ∷ [])
+    (sign 1 signs.Close ∷ [])
+    (fields.Single 2 (fields.Takes edits.Whole 5) (fields.Single 1 fields.Slash (fields.Single 1 (fields.Chars (codes "ab")) (fields.Group 3 (fields.Single 1 (fields.Blanks 1) fields.NoField) fields.NoField))))
+fields_of = f.some (f.before_slash (f.counted_word (f.count one) (f.FieldWord.word refl refl)) one
+    (f.behind_slash one (f.comma (f.text one) one (f.last (f.counted_group (f.count one) one (f.some (f.last (f.Field.word (f.FieldWord.word refl refl)))) one)))))
+
+-- ---- what is no expression ----
+
+-- a sign between two operands, but for `**`
+abbrev joins : TokenKind → Bool
+joins (kinds.Sign signs.Plus) = true
+joins (kinds.Sign signs.Minus) = true
+joins (kinds.Sign signs.Star) = true
+joins (kinds.Sign signs.Slash) = true
+joins (kinds.Sign signs.And) = true
+joins (kinds.Sign signs.Or) = true
+joins _ = false
+
+abbrev NoJoint : Tokens → Type 0
+NoJoint [] = Unit {0}
+NoJoint (y ∷ ts) = joins y.kind ≡ false
+
+no_joint : (x : ASign) {m k : Tokens} → One (kinds.Sign x) m k → joins (kinds.Sign x) ≡ true → NoJoint m → ⊥
+no_joint x one h g = untrue (sym g ∙ h)
+
+-- Where each factor ends before no such sign, and the text begins with no sign, a sum is one factor.
+module _ (x : Tokens) (ends : (m : Tokens) (g : Formula) → e.Factor x m g → NoJoint m) (no_sign : (m : Tokens) (y : ASign) → One (kinds.Sign y) x m → ⊥) where
+  only_factor : {m : Tokens} {g : Formula} → e.Term x m g → e.Factor x m g
+  only_factor (e.factor q) = q
+  only_factor (e.times q j r) = absurd (no_joint signs.Star j refl (ends _ _ (only_factor q)))
+  only_factor (e.over q j r) = absurd (no_joint signs.Slash j refl (ends _ _ (only_factor q)))
+
+  only_term : {m : Tokens} {g : Formula} → e.Sum x m g → e.Factor x m g
+  only_term (e.term q) = only_factor q
+  only_term (e.plus j q) = absurd (no_sign _ signs.Plus j)
+  only_term (e.minus j q) = absurd (no_sign _ signs.Minus j)
+  only_term (e.added q j r) = absurd (no_joint signs.Plus j refl (ends _ _ (only_term q)))
+  only_term (e.subtracted q j r) = absurd (no_joint signs.Minus j refl (ends _ _ (only_term q)))
+
+-- Where each relation ends before no such sign, an expression is one relation.
+module _ (x : Tokens) (End : Tokens → Type 0) (ends : (m : Tokens) (g : Formula) → e.Rel x m g → End m) (joint : (m : Tokens) → End m → NoJoint m)
+    (no_sign : (m : Tokens) (y : ASign) → One (kinds.Sign y) x m → ⊥) where
+  neg_end : {m : Tokens} {g : Formula} → e.Neg x m g → End m
+  neg_end (e.rel q) = ends _ _ q
+  neg_end (e.not j q) = absurd (no_sign _ signs.Not j)
+
+  conj_end : {m : Tokens} {g : Formula} → e.Conj x m g → End m
+  conj_end (e.neg q) = neg_end q
+  conj_end (e.and q j r) = absurd (no_joint signs.And j refl (joint _ (conj_end q)))
+
+  expr_end : {m : Tokens} {g : Formula} → e.Expr x m g → End m
+  expr_end (e.conj q) = conj_end q
+  expr_end (e.or q j r) = absurd (no_joint signs.Or j refl (joint _ (expr_end q)))
+
+abbrev opens : ASign → Bool
+opens signs.Open = true
+opens _ = false
+
+abbrev opens_kind : TokenKind → Bool
+opens_kind (kinds.Sign x) = opens x
+opens_kind _ = false
+
+-- a name before a sign that opens nothing is a prime, and nothing more is
+prime_end : {x : ASign} {ts m : Tokens} {g : Formula} → opens x ≡ false → e.Prime (w 1 (codes "a") ∷ sign 1 x ∷ ts) m g → m ≡ sign 1 x ∷ ts
+prime_end h (e.number j) = elim j [ ]
+prime_end h (e.truth j) = elim j [ ]
+prime_end h (e.falsehood j) = elim j [ ]
+prime_end h (e.ref (e.name (name k))) = refl
+prime_end h (e.ref (e.applied (name k) j fs c)) = absurd (untrue (sym h ∙ ap opens_kind (kind_at j)))
+prime_end h (e.group j q c) = elim j [ ]
+
+abbrev a_before : ASign → Tokens → Tokens
+a_before x ts = w 1 (codes "a") ∷ sign 1 x ∷ ts
+
+word_is_no_sign : {ts : Tokens} (m : Tokens) (y : ASign) → One (kinds.Sign y) (w 1 (codes "a") ∷ ts) m → ⊥
+word_is_no_sign m y j = elim j [ ]
+
+abbrev stop : Tokens
+stop = at 1 kinds.Semicolon ∷ []
+
+abbrev is_semicolon : TokenKind → Bool
+is_semicolon kinds.Semicolon = true
+is_semicolon _ = false
+
+abbrev at_stop : Tokens → Bool
+at_stop [] = false
+at_stop (y ∷ ts) = is_semicolon y.kind
+
+not_power : {ts c : Tokens} {o : Operator} → e.Relation (sign 1 signs.Power ∷ ts) c o → ⊥
+not_power (e.lt j) = elim j [ ]
+not_power (e.le j) = elim j [ ]
+not_power (e.eq j) = elim j [ ]
+not_power (e.ne j) = elim j [ ]
+not_power (e.ge j) = elim j [ ]
+not_power (e.gt j) = elim j [ ]
+
+-- ---- a ** a ** a is no expression ----
+
+abbrev power_end : Tokens
+power_end = sign 1 signs.Power ∷ w 1 (codes "a") ∷ stop
+
+abbrev powers_text : Tokens
+powers_text = a_before signs.Power (a_before signs.Power (w 1 (codes "a") ∷ stop))
+
+-- before the first `**`, or before the second
+abbrev PowerEnd : Tokens → Type 0
+PowerEnd m = (m ≡ sign 1 signs.Power ∷ a_before signs.Power (w 1 (codes "a") ∷ stop)) ⊎ (m ≡ power_end)
+
+second_power : {c m : Tokens} {g : Formula} → One (kinds.Sign signs.Power) (sign 1 signs.Power ∷ a_before signs.Power (w 1 (codes "a") ∷ stop)) c → e.Prime c m g → m ≡ power_end
+second_power one q = prime_end refl q
+
+power_factor : (m : Tokens) (g : Formula) → e.Factor powers_text m g → PowerEnd m
+power_factor m g (e.prime q) = inl (prime_end refl q)
+power_factor m g (e.power {c = c} q j r) = inr (second_power (subst (λ k. One (kinds.Sign signs.Power) k c) (prime_end refl q) j) r)
+
+power_joint : (m : Tokens) → PowerEnd m → NoJoint m
+power_joint m (inl h) = subst NoJoint (sym h) refl
+power_joint m (inr h) = subst NoJoint (sym h) refl
+
+power_sum : {m : Tokens} {g : Formula} → e.Sum powers_text m g → PowerEnd m
+power_sum q = power_factor _ _ (only_term powers_text (λ m g k. power_joint m (power_factor m g k)) word_is_no_sign q)
+
+no_relation : {m c : Tokens} {o : Operator} → PowerEnd m → e.Relation m c o → ⊥
+no_relation {c = c} {o = o} (inl h) r = not_power (subst (λ k. e.Relation k c o) h r)
+no_relation {c = c} {o = o} (inr h) r = not_power (subst (λ k. e.Relation k c o) h r)
+
+power_relation : (m : Tokens) (g : Formula) → e.Rel powers_text m g → PowerEnd m
+power_relation m g (e.sum q) = power_sum q
+power_relation m g (e.compared q o r) = absurd (no_relation (power_sum q) o)
+
+no_stop : PowerEnd stop → ⊥
+no_stop (inl h) = untrue (sym (ap at_stop h))
+no_stop (inr h) = untrue (sym (ap at_stop h))
+
+not_two_powers : (g : Formula) → e.Expr powers_text stop g → ⊥
+not_two_powers g q = no_stop (expr_end powers_text PowerEnd power_relation power_joint word_is_no_sign q)
+
+-- ---- a < a < a is no expression ----
+
+abbrev less_end : Tokens
+less_end = sign 1 signs.Lt ∷ w 1 (codes "a") ∷ stop
+
+abbrev less_text : Tokens
+less_text = a_before signs.Lt (a_before signs.Lt (w 1 (codes "a") ∷ stop))
+
+abbrev LessEnd : Tokens → Type 0
+LessEnd m = (m ≡ sign 1 signs.Lt ∷ a_before signs.Lt (w 1 (codes "a") ∷ stop)) ⊎ (m ≡ less_end)
+
+less_factor : {ts : Tokens} (m : Tokens) (g : Formula) → e.Factor (a_before signs.Lt ts) m g → m ≡ sign 1 signs.Lt ∷ ts
+less_factor m g (e.prime q) = prime_end refl q
+less_factor m g (e.power {c = c} q j r) = absurd (no_power (subst (λ k. One (kinds.Sign signs.Power) k c) (prime_end refl q) j))
+  where
+    no_power : {ts c : Tokens} → One (kinds.Sign signs.Power) (sign 1 signs.Lt ∷ ts) c → ⊥
+    no_power j = elim j [ ]
+
+less_sum : {ts m : Tokens} {g : Formula} → e.Sum (a_before signs.Lt ts) m g → m ≡ sign 1 signs.Lt ∷ ts
+less_sum {ts} q = less_factor _ _ (only_term (a_before signs.Lt ts) (λ m g k. subst NoJoint (sym (less_factor m g k)) refl) word_is_no_sign q)
+
+second_less : {c m : Tokens} {o : Operator} {g : Formula} → e.Relation (sign 1 signs.Lt ∷ a_before signs.Lt (w 1 (codes "a") ∷ stop)) c o → e.Sum c m g → m ≡ less_end
+second_less (e.lt one) q = less_sum q
+second_less (e.le j) q = elim j [ ]
+second_less (e.eq j) q = elim j [ ]
+second_less (e.ne j) q = elim j [ ]
+second_less (e.ge j) q = elim j [ ]
+second_less (e.gt j) q = elim j [ ]
+
+less_relation : (m : Tokens) (g : Formula) → e.Rel less_text m g → LessEnd m
+less_relation m g (e.sum q) = inl (less_sum q)
+less_relation m g (e.compared {c = c} {o = x} q o r) = inr (second_less (subst (λ k. e.Relation k c x) (less_sum q) o) r)
+
+less_joint : (m : Tokens) → LessEnd m → NoJoint m
+less_joint m (inl h) = subst NoJoint (sym h) refl
+less_joint m (inr h) = subst NoJoint (sym h) refl
+
+less_no_stop : LessEnd stop → ⊥
+less_no_stop (inl h) = untrue (sym (ap at_stop h))
+less_no_stop (inr h) = untrue (sym (ap at_stop h))
+
+not_two_relations : (g : Formula) → e.Expr less_text stop g → ⊥
+not_two_relations g q = less_no_stop (expr_end less_text LessEnd less_relation less_joint word_is_no_sign q)

@@ -1,6 +1,6 @@
 -- What a token is by what the table sees of it, and back.
 use Rattle.std.proofs.Common.{◌≡◌, ◌∙◌, ℕ, ℤ, Bool, true, false, ◌&&◌, ◌==◌, List, [], ◌∷◌, Option, None, Some, ◌⊎◌, inl, inr, refl, sym, subst, ap, if◌then◌else◌}
-use Rattle.std.proofs.lemmas.Bool.{eqb-true}
+use Rattle.std.proofs.lemmas.Bool.{eqb-true, eq-eqb}
 use Rattle.std.specs.Prelude.{codes}
 use Rattle.std.specs.Char.{to_ascii_uppercase}
 use Rattle.ground.specs.declared.place.Place.{Place}
@@ -211,6 +211,14 @@ spelled_same [] [] = refl
 spelled_same [] (c ∷ cs) = refl
 spelled_same (s ∷ ss) [] = refl
 spelled_same (s ∷ ss) (c ∷ cs) = ap (λ b. (s == to_ascii_uppercase c) && b) (spelled_same ss cs)
+
+and_both : (a b : Bool) → a ≡ true → b ≡ true → a && b ≡ true
+and_both true b h g = g
+and_both false b h g = absurd (untrue h)
+
+pub same_self : (s : Text) → same s s ≡ true
+same_self [] = refl
+same_self (s ∷ ss) = and_both (s == s) (same ss ss) (eq-eqb s s refl) (same_self ss)
 
 left : (a b : Bool) → a && b ≡ true → a ≡ true
 left true b h = refl
