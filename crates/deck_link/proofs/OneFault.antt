@@ -3,7 +3,6 @@ use Rattle.std.proofs.Common.{◌≡◌, ℕ, zero, suc, List, [], ◌∷◌, Op
 use Rattle.std.specs.Prelude.{◌==◌, find}
 use Rattle.std.specs.List.{slice_get}
 use Rattle.ground.specs.declared.fault.Fault.{Fault}
-use Rattle.ground.specs.declared.place.Place.{Place}
 use Rattle.rule_table.specs.declared.rule.Rule.{Rule}
 use Rattle.rule_table.specs.declared.rule.Rule.TheVariants.{Syntax, NameTooLong, OutOfProfileType, TypeClash, WrongCount, DuplicateName, BadLabel, BadBreak, DuplicateCase, BadConstant, DoNesting, BadFormat, NotAssignable, LargeArray, LongText, Unbuilt}
 use Rattle.rule_table.specs.FaultRules.{rule_number, rules, fault_of}
@@ -14,6 +13,7 @@ use Rattle.f66_soundness.proofs.KindLemmas.{some_same}
 use Rattle.f66_check.specs.Answers.{place_at}
 use Rattle.f66_check.specs.UnitChecks.{breaks_unit}
 use Rattle.f66_program.specs.Association.{HasUnits}
+use Rattle.f66_program.specs.Linking.{Program}
 use Rattle.f66_program.proofs.CountLemmas.{one_count}
 use Rattle.storage_assoc.specs.Associating.{IsLimitFault}
 use Rattle.one_fault.proofs.SameFaults.{one_number, same_fault}
@@ -22,9 +22,8 @@ use Rattle.one_fault.proofs.LinkFaults.{one_link_fault}
 use Rattle.associated_units.specs.Fit.{IsFit}
 use Rattle.deck_reader.specs.Units.{Units}
 use Rattle.deck_link.specs.Units.{IsClean, IsRuleFault, IsUnitFault, IsFirstUnitFault}
-use Rattle.deck_link.specs.Linking.{AreClean, IsDeckFault, IsFirstFaultOf}
+use Rattle.deck_link.specs.Linking.{AreClean, IsFirstFaultOf}
 use Rattle.deck_link.specs.Laws.{AcceptedHasNone, OneFirstFault}
-use Rattle.f66_program.specs.Linking.{Program}
 
 -- ---- the rules of one unit ----
 

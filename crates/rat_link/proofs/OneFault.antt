@@ -1,12 +1,11 @@
 -- A program of Ratfor has at most one first fault, and none where it is accepted.
-use Rattle.std.proofs.Common.{◌≡◌, ◌<◌, ◌≤◌, inl, inr, ℕ, zero, suc, ℤ, List, length, take, map, Some, refl, sym, ap, ◌∙◌, subst, arith}
-use Rattle.std.specs.Prelude.{option_map}
-use Rattle.std.specs.List.{All, Contains, slice_get}
-use Rattle.std.proofs.lemmas.List.{take_all, take-take}
+use Rattle.std.proofs.Common.{◌≡◌, inl, inr, suc, List, length, take, map, sym, ap, ◌∙◌, subst, arith}
+use Rattle.std.specs.List.{All, slice_get}
+use Rattle.std.proofs.lemmas.List.{take_all}
 use Rattle.std.proofs.lemmas.List.Elements.{All-map}
 use Rattle.std.proofs.lemmas.Option.{none-some, slice_get_within, get_or_from_slice_get}
 use Rattle.ground.specs.declared.fault.Fault.{Fault}
-use Rattle.f66_tree.specs.Syntax.{Line, Routine}
+use Rattle.f66_tree.specs.Syntax.{Routine}
 use Rattle.f66_soundness.proofs.KindLemmas.{some_same}
 use Rattle.f66_program.specs.Association.{IsBadUnit}
 use Rattle.f66_program.specs.Linking.{Program, first_of, place_of_part}

@@ -7,7 +7,7 @@ use Rattle.rat_tree.specs.Syntax.{Clauses, NoClause}
 use Rattle.rat_parse_table.specs.declared.table.Production.{Production}
 use Rattle.rat_parse_table.specs.declared.table.Production.TheVariants as productions
 use Rattle.rat_parse_values.specs.Kinds as part
-use Rattle.rat_parse_values.specs.Values.{Val, last_of, others, at}
+use Rattle.rat_parse_values.specs.Values.{Val, at}
 use Rattle.rat_parse_values.specs.Values as val
 use Rattle.rat_parse_values.specs.Parts.{name_in, number_in, count_in, as_exprs, with_field, with_clause}
 use Rattle.rat_parse_expressions.specs.Phrases as operators

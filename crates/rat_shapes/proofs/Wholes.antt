@@ -10,7 +10,7 @@ use Rattle.rat_tree.specs.Syntax.{Command, Next, Break, Plain, Labelled, Command
 use Rattle.rat_parse_table.specs.declared.table.Production.{Production}
 use Rattle.rat_parse_table.specs.declared.table.Production.TheVariants as productions
 use Rattle.rat_parse_values.specs.Kinds as part
-use Rattle.rat_parse_values.specs.Values.{Val, last_of, others, at}
+use Rattle.rat_parse_values.specs.Values.{Val, at}
 use Rattle.rat_parse_values.specs.Values as val
 use Rattle.rat_parse_values.specs.Parts.{place_in, name_in, number_in, count_in, count_or_one, is_word, as_exprs, as_fields, as_formula, as_par, as_entries, as_act, as_command, as_statements, as_clauses, as_units, formula_part, act_part, with_field, with_clause, with_routine}
 use Rattle.f66_tree.specs.Views.{chained, listed}
