@@ -16,7 +16,7 @@ use Rattle.rat_parse_table.specs.declared.table.Nonterminal.TheVariants as nonte
 use Rattle.rat_parse_table.specs.declared.table.Production.{Production}
 use Rattle.rat_parse_table.specs.declared.table.Production.TheVariants as productions
 use Rattle.rat_parse_table.specs.Table.{symbols, nonterminal_of}
-use Rattle.rat_parse_values.specs.Kinds.{ExpressionVal, DeclarationVal, ParameterVal, StatementVal, UnitVal}
+use Rattle.rat_parse_values.specs.Kinds.{DeclarationVal, StatementVal, UnitVal}
 use Rattle.rat_parse_values.specs.Kinds as part
 use Rattle.rat_parse_values.specs.Values.{Val, last_of, others, at}
 use Rattle.rat_parse_values.specs.Values as val
