@@ -1,5 +1,5 @@
 -- Lists of areas agree in memory as they do by the definition.
-use Rattle.std.proofs.Common.{◌≡◌, ◌<◌, ◌≤◌, ◌+◌, cond, length, map, take, get_or, ℕ, nat_eq, Bool, true, false, not, ◌||◌, ◌&&◌, List, [], ◌∷◌, ◌++◌, find, Option, Some, None, unwrap_or, refl, sym, ap, subst, ◌∙◌, arith, if◌then◌else◌}
+use Rattle.std.proofs.Common.{◌≡◌, ◌<◌, ◌≤◌, ◌+◌, cond, length, map, take, get_or, ℕ, nat_eq, Bool, true, false, not, ◌||◌, ◌&&◌, List, [], ◌∷◌, ◌++◌, find, Option, Some, None, refl, sym, ap, subst, ◌∙◌, arith, if◌then◌else◌}
 use Rattle.std.specs.List.{list_any}
 use Rattle.std.specs.Option.{option_or}
 use Rattle.std.proofs.lemmas.List.Folds.{find-append}
@@ -14,7 +14,7 @@ use Rattle.efl_scope.specs.DataTypes.{DataType, is_sound, is_large, is_faulty, s
 use Rattle.efl_scope.specs.Scopes.{declared_in, naming}
 use Rattle.efl_scope.specs.ScopeRules.{is_of, has_area, area_list, lists_agree}
 use Rattle.efl_scope.specs.AreaViews.{sort_agrees, sorts_agree, sorts_of, agreeing_in, AreAgreements}
-use Rattle.efl_scoped.specs.Numbers.{Table, Grows, AreDistinct, AreAbove, number}
+use Rattle.efl_scoped.specs.Numbers.{Table, Grows, AreDistinct, AreAbove}
 use Rattle.efl_scoped.specs.Told.{TellsSort, TellList, TellAreas, TellEach, TellsFirst, TellFirsts, kinds_in, sorts_in, first_if}
 use Rattle.efl_scoped.proofs.WordLemmas.{grows_same}
 use Rattle.efl_scoped.proofs.SortLemmas.{list_later}

@@ -1,5 +1,5 @@
 -- Places that are counted up to a limit.
-use Rattle.std.proofs.Common.{◌≡◌, ◌≤◌, ℕ, zero, suc, ◌+◌, ◌*◌, min, sym, ap, ◌∙◌, arith}
+use Rattle.std.proofs.Common.{◌≡◌, ◌≤◌, ℕ, zero, suc, ◌+◌, ◌*◌, sym, ap, ◌∙◌, arith}
 use Rattle.efl_scoped.specs.Told.{capped}
 
 pub capped_sum : (a b : ℕ) → capped (capped a + b) ≡ capped (a + b)

@@ -1,10 +1,10 @@
 -- Types that share a number are the same, and those that are the same share it.
-use Rattle.std.proofs.Common.{◌≡◌, ◌≢◌, ◌≤◌, ◌<◌, ◌+◌, ℕ, ℤ, zero, suc, pos, unsigned_abs, int_lt, int_le, nat_eq, nat_le, nat_lt, Bool, true, false, not, ◌&&◌, ◌||◌, List, [], ◌∷◌, ◌++◌, length, flat_map, Option, Some, None, unwrap_or, refl, sym, ap, subst, ◌∙◌, arith, if◌then◌else◌}
+use Rattle.std.proofs.Common.{◌≡◌, ◌≤◌, ◌<◌, ◌+◌, ℕ, ℤ, suc, pos, unsigned_abs, int_le, nat_le, Bool, true, false, not, ◌&&◌, List, [], ◌∷◌, ◌++◌, length, flat_map, Option, Some, None, unwrap_or, refl, sym, ap, subst, ◌∙◌, arith}
 use Rattle.std.specs.List.{list_all}
 use Rattle.std.specs.Option.{option_map, option_and_then}
 use Rattle.ground.specs.declared.value.Kind.TheVariants.{Integer, Logical}
 use Rattle.efl_tree.specs.declared.declaration.EflBound.{EflBound}
-use Rattle.efl_scope.specs.DataTypes.{DataType, Scalar, Structured, Array, NoType, Members, NoMember, AndMember, low_of, is_closed, is_from, is_sound, are_sound, is_large, same_kind, same_upper, same_bounds, same_type, same_members}
+use Rattle.efl_scope.specs.DataTypes.{DataType, Scalar, Structured, Array, NoType, Members, NoMember, AndMember, low_of, is_closed, is_from, is_sound, are_sound, is_large, same_upper, same_bounds, same_type, same_members}
 use Rattle.efl_scoped.specs.Numbers.{Table, AreDistinct, AreAbove, along, number, numbers, sign_of, value_words, bound_words}
 use Rattle.efl_scoped.proofs.MemberLemmas.{both_left, both_right}
 

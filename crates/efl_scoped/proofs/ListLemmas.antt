@@ -1,16 +1,16 @@
 -- The lists of areas, as declarations come.
-use Rattle.std.proofs.Common.{◌≡◌, Vec, Global, Bool, true, false, cond, ◌||◌, ℕ, List, [], ◌∷◌, ◌++◌, map, length, Option, Some, None, is_some, unwrap_or, refl, sym, ap, subst, ◌∙◌, append_assoc, if◌then◌else◌}
+use Rattle.std.proofs.Common.{◌≡◌, Vec, Global, Bool, true, false, cond, ◌||◌, ℕ, List, [], ◌∷◌, ◌++◌, map, Option, Some, None, is_some, unwrap_or, refl, sym, ap, subst, ◌∙◌, append_assoc, if◌then◌else◌}
 use Rattle.std.specs.List.{list_any}
 use Rattle.std.specs.Option.{option_map, option_or}
 use Rattle.std.specs.Str.{bytes_eq}
 use Rattle.std.proofs.lemmas.List.{append-nil}
 use Rattle.std.proofs.lemmas.Slice.Eq.{bytes_eq-Decides}
 use Rattle.rule_table.specs.Words.{is_some_and}
-use Rattle.efl_tree.specs.Syntax.{Text, EflVar, EflType, Shape, EflGroups, EflPreset, EflDeclKind, Implicit, Initial, Variables, Area, Structure, EflDecl}
+use Rattle.efl_tree.specs.Syntax.{Text, EflVar, EflType, EflGroups, EflPreset, EflDeclKind, Implicit, Initial, Variables, Area, Structure, EflDecl}
 use Rattle.efl_scope.specs.declared.areas.Sort.{Sort}
 use Rattle.efl_scope.specs.declared.areas.AreaLists.{AreaLists}
 use Rattle.efl_scope.specs.DataTypes.{DataType}
-use Rattle.efl_scope.specs.Scopes.{Blocks, data_type, behind, behind_groups, behind_declaration, declared_by, declared_in, naming, of_bounds, shape}
+use Rattle.efl_scope.specs.Scopes.{Blocks, data_type, behind_groups, behind_declaration, declared_by, declared_in, naming, of_bounds, shape}
 use Rattle.efl_scope.specs.ScopeRules.{is_of, area_of}
 use Rattle.efl_scope.specs.AreaViews.{sorts_of}
 use Rattle.efl_scope.proofs.NameLemmas.{or_assoc, or_false}

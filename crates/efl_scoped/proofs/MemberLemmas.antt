@@ -1,10 +1,10 @@
 -- What is told of types and members, as members come.
-use Rattle.std.proofs.Common.{◌≡◌, ◌≢◌, ◌≤◌, ◌<◌, ◌+◌, ◌*◌, ◌==◌, ℕ, nat_lt, nat_le, Bool, true, false, not, ◌&&◌, List, [], ◌∷◌, length, flat_map, Option, Some, None, refl, sym, ap, subst, ◌∙◌, arith}
+use Rattle.std.proofs.Common.{◌≡◌, ◌≢◌, ◌+◌, ◌*◌, ◌==◌, ℕ, nat_lt, nat_le, Bool, true, false, not, ◌&&◌, List, [], ◌∷◌, length, flat_map, Option, Some, None, refl, sym, ap, subst, ◌∙◌, arith}
 use Rattle.std.specs.List.{list_all}
 use Rattle.std.specs.Option.{option_and_then, option_map}
 use Rattle.efl_tree.specs.Syntax.{Text, EflVar}
 use Rattle.efl_tree.specs.declared.declaration.EflBound.{EflBound}
-use Rattle.efl_scope.specs.DataTypes.{DataType, Structured, Array, Members, NoMember, AndMember, is_sound, are_sound, is_closed, is_large, places, all_places, elements}
+use Rattle.efl_scope.specs.DataTypes.{DataType, Array, Members, AndMember, is_sound, are_sound, is_closed, is_large, places, elements}
 use Rattle.efl_scope.specs.Scopes.{members_of, of_bounds, bounded}
 use Rattle.efl_scoped.specs.declared.summaries.Summary.{Summary}
 use Rattle.efl_scoped.specs.Numbers.{Table, Grows, along, number, numbers, number_from, bound_words}
@@ -12,7 +12,6 @@ use Rattle.efl_scoped.specs.Told.{capped, Tells, Continues}
 use Rattle.efl_scoped.specs.Seen.{Leads, IsBounded, AddsMember, AddsMembers}
 use Rattle.efl_scoped.proofs.WordLemmas.{grows_same, grows_on}
 use Rattle.efl_scoped.proofs.CountLemmas.{times_capped}
-use Rattle.std.proofs.lemmas.Grind.{common_steps}
 
 -- ---- later tables ----
 

@@ -1,5 +1,5 @@
 -- A pair that had no number gets the next one.
-use Rattle.std.proofs.Common.{◌≡◌, ◌≢◌, ℕ, ◌<◌, ◌≤◌, ◌+◌, nat_eq, ◌&&◌, Bool, true, false, Option, Some, None, cond, is_some, length, Result, Ok, Err, subst, if◌then◌else◌, refl, sym, ap, ◌∙◌, arith}
+use Rattle.std.proofs.Common.{◌≡◌, ℕ, ◌<◌, ◌≤◌, ◌+◌, nat_eq, ◌&&◌, Option, Some, None, cond, is_some, length, Result, Ok, Err, subst, if◌then◌else◌, sym, ap, ◌∙◌, arith}
 use Rattle.std.specs.Map.{lookup}
 use Rattle.std.specs.HashMap.{HashMap, hash_map_len}
 use Rattle.std.specs.Result.{IfOk, OnOk, OnErr}

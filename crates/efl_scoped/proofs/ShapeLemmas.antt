@@ -1,5 +1,5 @@
 -- What is told of structures, as types come.
-use Rattle.std.proofs.Common.{◌≡◌, cond, is_some, ◌≤◌, ◌+◌, ℕ, Bool, true, false, ◌&&◌, List, [], ◌∷◌, ◌++◌, length, Option, Some, None, refl, sym, ap, subst, ◌∙◌, arith, if◌then◌else◌}
+use Rattle.std.proofs.Common.{◌≡◌, cond, is_some, ◌≤◌, ◌+◌, Bool, true, false, ◌&&◌, List, [], ◌∷◌, ◌++◌, length, Option, Some, None, refl, sym, ap, subst, ◌∙◌, arith, if◌then◌else◌}
 use Rattle.std.specs.Option.{option_map, option_or}
 use Rattle.std.specs.Str.{bytes_eq}
 use Rattle.std.specs.Map.{update}
@@ -8,7 +8,7 @@ use Rattle.efl_scope.proofs.TableLemmas.{bytes_eq-turned}
 use Rattle.rule_table.specs.Words.{find_map}
 use Rattle.ground.specs.declared.place.Place.{Place}
 use Rattle.efl_tree.specs.Syntax.{Text, EflVar, EflType, Shape, EflGroups, NoGroup, AndGroup, EflDecl}
-use Rattle.efl_scope.specs.DataTypes.{DataType, Structured, NoType, Members, NoMember, are_sound, all_places}
+use Rattle.efl_scope.specs.DataTypes.{Structured, NoType, Members, NoMember, are_sound, all_places}
 use Rattle.efl_scope.specs.Scopes.{Blocks, Block, Shaped, Variable, Meaning, IsStructure, IsVariable, structure_of, variable_of, members_if, shape_named, structured, naming, knowing, data_type, shape, behind, behind_groups}
 use Rattle.efl_scoped.specs.declared.summaries.Summary.{Summary}
 use Rattle.efl_scoped.specs.declared.shapes.Shapes.{Shapes}

@@ -1,5 +1,5 @@
 -- Numbers along words, in tables that grow.
-use Rattle.std.proofs.Common.{◌≡◌, ℕ, List, [], ◌∷◌, ◌++◌, drop, flat_map, Option, Some, None, ap, sym, ◌∙◌}
+use Rattle.std.proofs.Common.{◌≡◌, ℕ, List, [], ◌∷◌, ◌++◌, flat_map, Option, Some, None, ap, ◌∙◌}
 use Rattle.std.specs.Option.{option_and_then}
 use Rattle.efl_tree.specs.declared.declaration.EflBound.{EflBound}
 use Rattle.efl_scoped.specs.Numbers.{Table, Grows, along, bound_words}

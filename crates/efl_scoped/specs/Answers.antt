@@ -1,5 +1,5 @@
 -- What the check of scopes answers: that no part breaks a rule, or the first fault.
-use Rattle.std.specs.Prelude.{◌≡◌, ℕ, [], Option, Some, None, option_map, ⊤}
+use Rattle.std.specs.Prelude.{◌≡◌, ℕ, [], Some, option_map, ⊤}
 use Rattle.std.specs.List.{slice_get}
 use Rattle.ground.specs.declared.fault.Fault.{Fault}
 use Rattle.ground.specs.declared.fault.Refusal.{Refusal}
@@ -10,7 +10,7 @@ use Rattle.efl_tree.specs.Syntax.{EflProgram}
 use Rattle.efl_scope.specs.declared.rule.ScopeRule.{ScopeRule}
 use Rattle.efl_scope.specs.Parts.{program_parts}
 use Rattle.efl_scope.specs.ScopeRules.{kind_of}
-use Rattle.efl_scope.specs.FirstFault.{first_fault, with_earlier, breaks_with, IsFirstFault}
+use Rattle.efl_scope.specs.FirstFault.{with_earlier, breaks_with, IsFirstFault}
 
 -- no part breaks a rule
 pub record IsScoped (p : EflProgram) : Type 0 where

@@ -1,14 +1,11 @@
 -- What a walk over declarations does to what is told, whatever it was told before.
-use Rattle.std.specs.Prelude.{◌≡◌, ℕ, ◌||◌, List, [], ◌++◌, map, Option, Some, None, is_some, if◌then◌else◌}
-use Rattle.std.specs.Option.{option_or}
-use Rattle.std.specs.List.{list_any}
-use Rattle.std.specs.Str.{bytes_eq}
+use Rattle.std.specs.Prelude.{◌≡◌, ℕ, ◌||◌, List, [], ◌++◌, map, Some, is_some}
 use Rattle.efl_tree.specs.declared.declaration.EflBound.{EflBound}
-use Rattle.efl_tree.specs.Syntax.{Text, EflType, Shape, EflGroups, EflVar, EflDeclKind, EflDecl}
+use Rattle.efl_tree.specs.Syntax.{Text, EflType, Shape, EflGroups, EflVar, EflDeclKind}
 use Rattle.efl_scope.specs.declared.areas.Sort.{Sort}
 use Rattle.efl_scope.specs.declared.areas.AreaLists.{AreaLists}
 use Rattle.efl_scope.specs.DataTypes.{DataType, Structured, Members, AndMember}
-use Rattle.efl_scope.specs.Scopes.{Blocks, data_type, shape, behind, behind_groups, behind_declaration, declared_by, bounded, members_of, of_bounds, group_variables, knowing}
+use Rattle.efl_scope.specs.Scopes.{Blocks, data_type, shape, behind, behind_groups, behind_declaration, declared_by, bounded, members_of, of_bounds, group_variables}
 use Rattle.efl_scope.specs.ScopeRules.{is_of}
 use Rattle.efl_scope.specs.AreaViews.{sorts_of}
 use Rattle.efl_scoped.specs.declared.numbers.Pairs.{Pairs}

@@ -4,11 +4,11 @@ use Rattle.std.specs.List.{list_any}
 use Rattle.std.specs.HashMap.{get_by}
 use Rattle.std.specs.Str.{bytes_eq}
 use Rattle.rule_table.specs.Words.{is_some_and}
-use Rattle.efl_tree.specs.Syntax.{Text, EflType, EflGroups, EflVar, EflDeclKind, EflDecl, EflProcedure}
+use Rattle.efl_tree.specs.Syntax.{Text, EflDecl, EflProcedure}
 use Rattle.efl_scope.specs.declared.areas.Sort.{Sort}
 use Rattle.efl_scope.specs.declared.areas.AreaLists.{AreaLists}
-use Rattle.efl_scope.specs.DataTypes.{DataType, Structured, NoType, Members, NoMember, is_sound, are_sound, is_faulty, places, all_places}
-use Rattle.efl_scope.specs.Scopes.{Blocks, Variable, shape_named, structured, data_type, shape, behind, behind_groups, behind_declaration, declared_by, declared_in, naming, members_of, of_bounds}
+use Rattle.efl_scope.specs.DataTypes.{DataType, Structured, Members, is_sound, are_sound, is_faulty, places, all_places}
+use Rattle.efl_scope.specs.Scopes.{Blocks, Variable, shape_named, declared_in, naming}
 use Rattle.efl_scope.specs.ScopeRules.{is_of, has_area, area_list}
 use Rattle.efl_scope.specs.AreaViews.{sorts_of}
 use Rattle.efl_scoped.specs.declared.summaries.Summary.{Summary}

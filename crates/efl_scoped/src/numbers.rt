@@ -5,14 +5,20 @@ ghost use Rattle.efl_scoped.specs.Numbers.{number_in, AreBelow, AreAbove, AreDis
 use std::alloc::{AllocError, Global};
 use std::collections::HashMap;
 
-/// The numbers of integer and logical, and those from which structures and arrays go on.
+/// The number of integer.
 pub const INTEGER: usize = 0;
 
+/// The number of logical.
 pub const LOGICAL: usize = 1;
 
+/// The number from which structures go on, member by member.
 pub const STRUCTURE: usize = 2;
 
+/// The number from which arrays go on.
 pub const ARRAY: usize = 3;
+
+/// The first number of a pair.
+const FIRST: usize = 4;
 
 /// Pairs with their numbers, which contracts see by `number_in`.
 #[derive(Drop)]
@@ -39,7 +45,7 @@ impl Pairs {
         if let Some(n) = self.table.get(&(a, b)) {
             return Ok(*n);
         }
-        let n = self.table.len() + 4;
+        let n = self.table.len() + FIRST;
         self.table.insert((a, b), n)?;
         Ok(n)
     }

@@ -1,5 +1,5 @@
 -- The area's list is taken out, grows, and comes back.
-use Rattle.std.proofs.Common.{subst, ap, sym, ◌∙◌}
+use Rattle.std.proofs.Common.{subst, ap, ◌∙◌}
 use Rattle.std.proofs.lemmas.Result.{on_ok_weaker}
 use Rattle.efl_tree.specs.Views.{type_of, vars_of}
 use Rattle.efl_scoped.specs.Seen.{table_of}

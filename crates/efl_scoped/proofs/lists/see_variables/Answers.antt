@@ -1,5 +1,5 @@
 -- Variables of an area, and others.
-use Rattle.std.proofs.Common.{None, Some, sym, subst}
+use Rattle.std.proofs.Common.{sym, subst}
 use Rattle.std.proofs.lemmas.Result.{on_ok_weaker}
 use Rattle.efl_tree.specs.Syntax as efl
 use Rattle.efl_tree.specs.Views.{type_of, vars_of}

@@ -1,5 +1,5 @@
 -- One bound more is told.
-use Rattle.std.proofs.Common.{◌+◌, ◌∷◌, drop, subst, refl}
+use Rattle.std.proofs.Common.{◌+◌, drop, subst}
 use Rattle.efl_scope.proofs.TreeLemmas.{drop_next}
 use Rattle.efl_scoped.specs.Seen.{table_of}
 use Rattle.efl_scoped.proofs.BoundLemmas.{bound_at, bound_is}

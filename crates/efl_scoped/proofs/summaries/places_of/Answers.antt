@@ -1,5 +1,5 @@
 -- One bound more is counted.
-use Rattle.std.proofs.Common.{◌≡◌, ◌≤◌, ◌*◌, ◌+◌, ◌∷◌, length, drop, get_or, min, ap, sym, ◌∙◌, arith}
+use Rattle.std.proofs.Common.{◌*◌, ◌+◌, drop, ap, sym, ◌∙◌, arith}
 use Rattle.efl_scope.specs.DataTypes.{elements, many_from, low_of}
 use Rattle.efl_scope.proofs.TreeLemmas.{drop_next}
 use Rattle.efl_scoped.specs.Told.{capped}

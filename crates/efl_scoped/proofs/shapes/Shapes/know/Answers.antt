@@ -1,5 +1,5 @@
 -- The structure becomes known where its name was not.
-use Rattle.std.proofs.Common.{is_some, sym, ◌∙◌}
+use Rattle.std.proofs.Common.{sym, ◌∙◌}
 use Rattle.std.proofs.lemmas.Map.Text.{hash_map_updates_str}
 use Rattle.efl_scoped.specs.Told.{shape_in}
 use Rattle.efl_scoped.proofs.ShapeLemmas.{comes_now, none_there}
