@@ -15,7 +15,7 @@ use Rattle.f66_tree.specs.Syntax as f66
 use Rattle.f66_tree.specs.Syntax.{Text, Formula, Int, Pair, Minus, Assign, Constant, NoFormula, AndFormula}
 use Rattle.rat_tree.specs.Syntax as tree
 use Rattle.rat_tree.specs.Syntax.{Command, NoCommand, AndCommand}
-use Rattle.rat_grammar.specs.Tokens.{Tokens, token, One, one, capitals, Word, word, name, Lines, Stop, Several}
+use Rattle.rat_grammar.specs.Tokens.{Perhaps, Tokens, token, One, one, capitals, Word, word, name, Lines, Stop, Several}
 use Rattle.rat_grammar.specs.Expressions as e
 use Rattle.rat_grammar.specs.Formats as f
 use Rattle.rat_grammar.specs.Declarations as d
@@ -141,20 +141,20 @@ turns = s.repeat (word refl) (s.bare Lines.none (assigned (Stop.line one)))
 -- for (;;) 10 next 2
 bare_for : s.Body (w 1 (codes "for") ∷ sign 1 signs.Open ∷ at 1 kinds.Semicolon ∷ at 1 kinds.Semicolon ∷ sign 1 signs.Close ∷ number 2 10 ∷ w 2 (codes "next") ∷ number 2 2 ∷ line 2 ∷ []) []
     (tree.For (here 1) None None None (tree.Labelled 10 (here 2) (tree.Next (here 2) 2)))
-bare_for = s.for (word refl) one s.AnySimple.none one s.AnyExpr.none one s.AnySimple.none one
+bare_for = s.for (word refl) one Perhaps.none one Perhaps.none one Perhaps.none one
     (s.marked Lines.none (d.natural one) (s.next (word refl) (s.Times.number (d.natural one)) (Stop.line one)))
 
 -- for (a = 1; a; call a) break
 whole_for : s.Body (w 1 (codes "for") ∷ sign 1 signs.Open ∷ a_is 1 1 (at 1 kinds.Semicolon ∷ w 1 (codes "a") ∷ at 1 kinds.Semicolon ∷ w 1 (codes "call") ∷ w 1 (codes "a") ∷ sign 1 signs.Close ∷ w 1 (codes "break") ∷ line 1 ∷ [])) []
     (tree.For (here 1) (Some (Assign a (Int (pos 1)))) (Some a) (Some (f66.Invoke (codes "A") NoFormula)) (tree.Break (here 1) 1))
-whole_for = s.for (word refl) one (s.AnySimple.some (pl.assignment (e.name (name refl)) one (expr_of (sum_of (e.prime (e.number one)))))) one
-    (s.AnyExpr.some (expr_of (sum_of (factor_of (e.name (name refl)))))) one (s.AnySimple.some (pl.call (word refl) (name refl))) one
+whole_for = s.for (word refl) one (Perhaps.some (pl.assignment (e.name (name refl)) one (expr_of (sum_of (e.prime (e.number one)))))) one
+    (Perhaps.some (expr_of (sum_of (factor_of (e.name (name refl)))))) one (Perhaps.some (pl.call (word refl) (name refl))) one
     (s.bare Lines.none (s.break_ (word refl) s.Times.once (Stop.line one)))
 
 -- do a = 1, a return (a)
 counted : s.Body (w 1 (codes "do") ∷ w 1 (codes "a") ∷ sign 1 signs.Assign ∷ number 1 1 ∷ sign 1 signs.Comma ∷ w 1 (codes "a") ∷ w 1 (codes "return") ∷ sign 1 signs.Open ∷ w 1 (codes "a") ∷ sign 1 signs.Close ∷ at 1 kinds.Semicolon ∷ []) []
     (tree.Do (here 1) (codes "A") (Constant (pos 1)) (f66.Named (codes "A")) (Constant (pos 1)) (tree.Return (here 1) (Some a)))
-counted = s.do_ (word refl) (name refl) one (d.short (d.number one) one (d.name (name refl))) (s.bare Lines.none (s.return_ (word refl) (s.AnyCondition.some condition) (Stop.semicolon one)))
+counted = s.do_ (word refl) (name refl) one (d.short (d.number one) one (d.name (name refl))) (s.bare Lines.none (s.return_ (word refl) (Perhaps.some condition) (Stop.semicolon one)))
 
 -- switch (a) { case 1, 2: a = 1; default: }
 chosen : s.Body (w 1 (codes "switch") ∷ sign 1 signs.Open ∷ w 1 (codes "a") ∷ sign 1 signs.Close ∷ sign 1 signs.OpenBrace ∷ line 1 ∷ w 2 (codes "case") ∷ number 2 1 ∷ sign 2 signs.Comma ∷ number 2 2 ∷ sign 2 signs.Colon

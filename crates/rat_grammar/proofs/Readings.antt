@@ -22,7 +22,7 @@ use Rattle.rat_parse_values.specs.Values as val
 use Rattle.rat_parse_values.specs.Kinds as part
 use Rattle.rat_parse_values.specs.Parts.{name_in, integer_in, place_in, type_word, as_formula, act_part, formula_part, count_or_one, octal_if_any, step_or_one, name_if_any}
 use Rattle.rat_parse_expressions.specs.Phrases.{joined, applied, applied_if, counted_field}
-use Rattle.rat_grammar.specs.Tokens.{Tokens, TextEnd, Sign, Word, Name, Number, place_at, Listed, Several, Lines, Stop}
+use Rattle.rat_grammar.specs.Tokens.{Perhaps, Tokens, TextEnd, Sign, Word, Name, Number, place_at, Listed, Several, Lines, Stop}
 use Rattle.rat_grammar.specs.Expressions as e
 use Rattle.rat_grammar.specs.Formats as f
 use Rattle.rat_grammar.specs.Declarations as d
@@ -167,10 +167,10 @@ reading n.Untyped = command_reading (Placed (Lined s.Body))
 reading n.Condition = formula_reading e.Condition
 reading n.ElsePart = record { Of = Option (Place × Command); view = perhaps (λ y. val.command y.0 y.1); Says = Else }
 reading n.UntilPart = record { Of = Option (Place × Formula); view = perhaps (λ y. val.located y.0 y.1); Says = Until }
-reading n.Part = open_reading (λ a b y. s.AnySimple a b (act_part y))
-reading n.Test = open_reading (λ a b y. s.AnyExpr a b (formula_part y))
+reading n.Part = open_reading (λ a b y. Perhaps p.Simple a b (act_part y))
+reading n.Test = open_reading (λ a b y. Perhaps e.Expr a b (formula_part y))
 reading n.Count = open_reading (λ a b y. s.Times a b (count_or_one y))
-reading n.Outcome = open_reading (λ a b y. s.AnyCondition a b (formula_part y))
+reading n.Outcome = open_reading (λ a b y. Perhaps e.Condition a b (formula_part y))
 reading n.Lines = open_reading (λ a b y. Lines a b)
 reading n.Clauses = record { Of = tree.Clauses; view = λ y. val.clauses y; Says = Lined s.Clauses }
 reading n.Clause = record {

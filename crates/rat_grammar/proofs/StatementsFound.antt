@@ -17,9 +17,10 @@ use Rattle.rat_parse_table.specs.Table.{allows}
 use Rattle.rat_parse_table.specs.Words.{seen}
 use Rattle.rat_parse_values.specs.Values.{Val, nothing, tok, formula, command, commands, declareds, clauses}
 use Rattle.rat_parse_values.specs.Parts.{type_word, act_part, formula_part, count_or_one, capped}
-use Rattle.rat_grammar.specs.Tokens.{Tokens, token, one, capitals, Word, word, name, place_at, Lines, Stop}
+use Rattle.rat_grammar.specs.Tokens.{Perhaps, Tokens, token, one, capitals, Word, word, name, place_at, Lines, Stop}
 use Rattle.rat_grammar.specs.Expressions as e
 use Rattle.rat_grammar.specs.Declarations as d
+use Rattle.rat_grammar.specs.Plain as pl
 use Rattle.rat_grammar.specs.Statements as s
 use Rattle.rat_grammar.specs.Laws.{IsSome}
 use Rattle.rat_grammar.proofs.LineLemmas.{NoLine, lines_left, no_line_at}
@@ -58,17 +59,17 @@ pub record FoundSo {A : Type 0} (m : _) (read : Val → A) (a b : Tokens) (x : A
   pub found : FoundPart m a b value
   pub is : read value ≡ x
 
-found_part : {a b : Tokens} {x : Option Act} → s.AnySimple a b x → IsSome b → FoundSo n.Part act_part a b x
-found_part s.AnySimple.none g = record { value = _; found = found_empty p.NoPart refl (λ k. refl) g; is = refl }
-found_part (s.AnySimple.some q) g = record { value = _; found = make p.SomePart tt _ _ _ (found_simple q g); is = refl }
+found_part : {a b : Tokens} {x : Option Act} → Perhaps pl.Simple a b x → IsSome b → FoundSo n.Part act_part a b x
+found_part Perhaps.none g = record { value = _; found = found_empty p.NoPart refl (λ k. refl) g; is = refl }
+found_part (Perhaps.some q) g = record { value = _; found = make p.SomePart tt _ _ _ (found_simple q g); is = refl }
 
-found_test : {a b : Tokens} {x : Option Formula} → s.AnyExpr a b x → IsSome b → FoundSo n.Test formula_part a b x
-found_test s.AnyExpr.none g = record { value = _; found = found_empty p.NoTest refl (λ k. refl) g; is = refl }
-found_test (s.AnyExpr.some q) g = record { value = _; found = make p.SomeTest tt _ _ _ (found_expr q (or_done g)); is = refl }
+found_test : {a b : Tokens} {x : Option Formula} → Perhaps e.Expr a b x → IsSome b → FoundSo n.Test formula_part a b x
+found_test Perhaps.none g = record { value = _; found = found_empty p.NoTest refl (λ k. refl) g; is = refl }
+found_test (Perhaps.some q) g = record { value = _; found = make p.SomeTest tt _ _ _ (found_expr q (or_done g)); is = refl }
 
-found_outcome : {a b : Tokens} {x : Option Formula} → s.AnyCondition a b x → IsSome b → FoundSo n.Outcome formula_part a b x
-found_outcome s.AnyCondition.none g = record { value = _; found = found_empty p.NoOutcome refl (λ k. refl) g; is = refl }
-found_outcome (s.AnyCondition.some q) g = record { value = _; found = make p.SomeOutcome tt _ _ _ (found_condition q); is = refl }
+found_outcome : {a b : Tokens} {x : Option Formula} → Perhaps e.Condition a b x → IsSome b → FoundSo n.Outcome formula_part a b x
+found_outcome Perhaps.none g = record { value = _; found = found_empty p.NoOutcome refl (λ k. refl) g; is = refl }
+found_outcome (Perhaps.some q) g = record { value = _; found = make p.SomeOutcome tt _ _ _ (found_condition q); is = refl }
 
 found_count : {a b : Tokens} {x : ℕ} → s.Times a b x → IsSome b → FoundSo n.Count count_or_one a b x
 found_count s.Times.once g = record { value = _; found = found_empty p.NoCount refl (λ k. refl) g; is = refl }

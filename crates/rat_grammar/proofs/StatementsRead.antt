@@ -20,7 +20,7 @@ use Rattle.rat_parse_values.specs.Values.{Val, tok, nothing, command, deed, form
 use Rattle.rat_parse_values.specs.Values as val
 use Rattle.rat_parse_values.specs.Parts.{name_in, number_in, act_part, formula_part, count_or_one, type_word}
 use Rattle.rat_parse_control.specs.Statements.{conditional, repetition, with_own_label, left}
-use Rattle.rat_grammar.specs.Tokens.{Tokens, capitals, Word, word, Lines, Stop, place_at}
+use Rattle.rat_grammar.specs.Tokens.{Perhaps, Tokens, capitals, Word, word, Lines, Stop, place_at}
 use Rattle.rat_grammar.specs.Expressions as e
 use Rattle.rat_grammar.specs.Declarations as d
 use Rattle.rat_grammar.specs.Plain as pl
@@ -182,16 +182,16 @@ no_until a h = (None, refl, none_there p.NoUntil (codes "UNTIL") t.Until a refl 
 -- ---- parts that may be left out ----
 
 pub some_part : Step p.SomePart
-some_part a h = λ y b q. (deed y.0 y.1, refl, s.AnySimple.some q.1)
+some_part a h = λ y b q. (deed y.0 y.1, refl, Perhaps.some q.1)
 
 pub no_part : Step p.NoPart
-no_part a h = (nothing, refl, s.AnySimple.none)
+no_part a h = (nothing, refl, Perhaps.none)
 
 pub some_test : Step p.SomeTest
-some_test a h = λ f b q. (formula f, refl, s.AnyExpr.some q)
+some_test a h = λ f b q. (formula f, refl, Perhaps.some q)
 
 pub no_test : Step p.NoTest
-no_test a h = (nothing, refl, s.AnyExpr.none)
+no_test a h = (nothing, refl, Perhaps.none)
 
 pub some_count : Step p.SomeCount
 some_count a h = λ y b c. (tok y, refl, s.Times.number (d.natural c.1))
@@ -200,10 +200,10 @@ pub no_count : Step p.NoCount
 no_count a h = (nothing, refl, s.Times.once)
 
 pub some_outcome : Step p.SomeOutcome
-some_outcome a h = λ f b q. (formula f, refl, s.AnyCondition.some q)
+some_outcome a h = λ f b q. (formula f, refl, Perhaps.some q)
 
 pub no_outcome : Step p.NoOutcome
-no_outcome a h = (nothing, refl, s.AnyCondition.none)
+no_outcome a h = (nothing, refl, Perhaps.none)
 
 pub one_line : Step p.OneLine
 one_line a h = λ y m r v b q. (v, refl, Lines.line (sole (taken.line_end r)) q)

@@ -17,7 +17,7 @@ use Rattle.rat_parse_values.specs.Values.{Val, tok, names, heading, commands, ro
 use Rattle.rat_parse_values.specs.Parts.{capped, type_word, as_units}
 use Rattle.rat_parse_control.specs.Statements.{main}
 use Rattle.rat_parse.specs.Ratfor.{grammar}
-use Rattle.rat_grammar.specs.Tokens.{Tokens, token, one, Word, word, Name, name, place_at, Lines, Stop, Several}
+use Rattle.rat_grammar.specs.Tokens.{Perhaps, Tokens, token, one, Word, word, Name, name, place_at, Lines, Stop, Several}
 use Rattle.rat_grammar.specs.Declarations as d
 use Rattle.rat_grammar.specs.Statements as s
 use Rattle.rat_grammar.specs.Programs as u
@@ -70,11 +70,11 @@ data FoundHeader (a b : Tokens) (x : Header) : Type 0 where
   typed : {i : Tokens} {q : Place} {w : TypeWord} {y : Text} {ys : List Text} → FoundType a i w → FoundPart n.TypedStart i b (heading q (f66.FuncUnit None y ys)) →
       f66.FuncUnit (Some w) y ys ≡ x → FoundHeader a b x
 
-found_function : {a i j b : Tokens} {o : Option TypeWord} {x : Text} {xs : List Text} → u.AnyType a i o → Word (codes "FUNCTION") i j → Name j b x → {c : Tokens} → u.Formals b c xs →
+found_function : {a i j b : Tokens} {o : Option TypeWord} {x : Text} {xs : List Text} → Perhaps d.TypeName a i o → Word (codes "FUNCTION") i j → Name j b x → {c : Tokens} → u.Formals b c xs →
     FoundHeader a c (f66.FuncUnit o x xs)
-found_function u.AnyType.none (word h) (name g) q =
+found_function Perhaps.none (word h) (name g) q =
     plain (make p.FunctionHeader tt _ _ _ (the_word (codes "FUNCTION") t.Function refl h) _ _ (found_name _ _ _ g) _ _ (found_formals q))
-found_function (u.AnyType.some w) (word h) (name g) q =
+found_function (Perhaps.some w) (word h) (name g) q =
     FoundHeader.typed (found_type w) (make p.TypedFunction tt _ _ _ (the_word (codes "FUNCTION") t.Function refl h) _ _ (found_name _ _ _ g) _ _ (found_formals q)) refl
 
 found_header : {a b : Tokens} {x : Header} → u.AHeader a b x → IsSome b → FoundHeader a b x

@@ -16,7 +16,7 @@ use Rattle.rat_parse_values.specs.Values.{Val, tok, heading}
 use Rattle.rat_parse_values.specs.Values as val
 use Rattle.rat_parse_values.specs.Parts.{name_in, number_in, type_word}
 use Rattle.rat_parse_control.specs.Statements.{typed_from, with_own_label, main}
-use Rattle.rat_grammar.specs.Tokens.{Tokens, one, word, Name, Number, Word, place_at, Lines, Stop, Listed, Several}
+use Rattle.rat_grammar.specs.Tokens.{Perhaps, Tokens, one, word, Name, Number, Word, place_at, Lines, Stop, Listed, Several}
 use Rattle.rat_grammar.specs.Declarations as d
 use Rattle.rat_grammar.specs.Plain as pl
 use Rattle.rat_grammar.specs.Statements as s
@@ -86,7 +86,7 @@ subroutine_header a h = λ y i r x j c xs b q.
 
 pub function_header : Step p.FunctionHeader
 function_header a h = λ y i r x j c xs b q.
-    ((y.place, f66.FuncUnit None (name_in (tok x)) xs), refl, (taken.place_of r, u.function u.AnyType.none (taken.function_word r) c.1 q))
+    ((y.place, f66.FuncUnit None (name_in (tok x)) xs), refl, (taken.place_of r, u.function Perhaps.none (taken.function_word r) c.1 q))
 
 pub typed_function : Step p.TypedFunction
 typed_function a h = λ y i r x j c xs b q. (inl (y.place, name_in (tok x), xs), refl, (i, j, taken.function_word r, c.1, q))
@@ -132,7 +132,7 @@ from_type {a} {b = b} {q = q} {w = w} {xs = xs} (inl y) e c r st z = (
   record { header = f66.FuncUnit (Some w) y.1 y.2; body = xs; place = q },
   refl,
   subst (λ v. u.Unit a b (record { header = f66.FuncUnit (Some w) y.1 y.2; body = xs; place = v })) (sym e)
-      (u.headed Lines.none (u.function (u.AnyType.some c) r.2 r.3 r.4) st z.3 z.4 z.5 z.6),
+      (u.headed Lines.none (u.function (Perhaps.some c) r.2 r.3 r.4) st z.3 z.4 z.5 z.6),
 )
 from_type {a} {k = k} {b = b} {q = q} {w = w} {xs = xs} (inr ds) e c r st z = (
   main q (tree.AndCommand (tree.Plain None q (f66.Typed w ds)) xs),

@@ -1,17 +1,12 @@
 -- Units and programs. A unit has the place of its first token that ends no line.
-use Rattle.std.specs.Prelude.{codes, Option, None, Some, List, []}
+use Rattle.std.specs.Prelude.{codes, Option, List, []}
 use Rattle.ground.specs.declared.token.Sign.TheVariants as signs
 use Rattle.f66_tree.specs.declared.declaration.TypeWord.{TypeWord}
 use Rattle.f66_tree.specs.Syntax.{Text, Header, MainUnit, SubUnit, FuncUnit, DataUnit}
 use Rattle.rat_tree.specs.Syntax.{Commands, RatRoutine, RatProgram}
-use Rattle.rat_grammar.specs.Tokens.{Tokens, LineEnd, TextEnd, Sign, Word, Name, place_at, Listed, Several, Lines, Stop}
+use Rattle.rat_grammar.specs.Tokens.{Perhaps, Tokens, LineEnd, TextEnd, Sign, Word, Name, place_at, Listed, Several, Lines, Stop}
 use Rattle.rat_grammar.specs.Declarations.{TypeName}
 use Rattle.rat_grammar.specs.Statements.{Statements}
-
--- [ type ]
-pub data AnyType : Tokens → Tokens → Option TypeWord → Type 0 where
-  none : {a : Tokens} → AnyType a a None
-  some : {a b : Tokens} {w : TypeWord} → TypeName a b w → AnyType a b (Some w)
 
 -- "(" name { "," name } ")"
 pub data Formals : Tokens → Tokens → List Text → Type 0 where
@@ -21,7 +16,7 @@ pub data Formals : Tokens → Tokens → List Text → Type 0 where
 pub data AHeader : Tokens → Tokens → Header → Type 0 where
   subroutine : {a b c : Tokens} {x : Text} → Word (codes "SUBROUTINE") a b → Name b c x → AHeader a c (SubUnit x [])
   subroutine_of : {a b c d : Tokens} {x : Text} {xs : List Text} → Word (codes "SUBROUTINE") a b → Name b c x → Formals c d xs → AHeader a d (SubUnit x xs)
-  function : {a b c d e : Tokens} {w : Option TypeWord} {x : Text} {xs : List Text} → AnyType a b w → Word (codes "FUNCTION") b c → Name c d x → Formals d e xs →
+  function : {a b c d e : Tokens} {w : Option TypeWord} {x : Text} {xs : List Text} → Perhaps TypeName a b w → Word (codes "FUNCTION") b c → Name c d x → Formals d e xs →
       AHeader a e (FuncUnit w x xs)
   block_data : {a b c : Tokens} → Word (codes "BLOCK") a b → Word (codes "DATA") b c → AHeader a c DataUnit
 

@@ -5,7 +5,7 @@ use Rattle.ground.specs.declared.place.Place.{Place}
 use Rattle.f66_tree.specs.Syntax.{Text, Formula, Formulas, NoFormula, Par, Act}
 use Rattle.rat_tree.specs.Syntax as tree
 use Rattle.rat_tree.specs.Syntax.{Command, Empty, Block, If, IfElse, While, For, Repeat, RepeatUntil, Do, Switch, Break, Next, Return, Plain, Labelled, Commands, NoCommand, AndCommand, NoClause, AndClause}
-use Rattle.rat_grammar.specs.Tokens.{Tokens, Semicolon, Sign, Word, Name, place_at, Lines, Stop}
+use Rattle.rat_grammar.specs.Tokens.{Perhaps, Tokens, Semicolon, Sign, Word, Name, place_at, Lines, Stop}
 use Rattle.rat_grammar.specs.Expressions.{Expr, Exprs, Condition}
 use Rattle.rat_grammar.specs.Declarations.{Range, Natural}
 use Rattle.rat_grammar.specs.Plain.{Simple, Plain as APlain}
@@ -18,21 +18,6 @@ labelled n p c = Labelled n p c
 -- lines and this word don't follow
 abbrev pub FollowsNo : Text → Tokens → Type 0
 FollowsNo x a = (b c : Tokens) → Lines a b → Word x b c → ⊥
-
--- [ simple ]
-pub data AnySimple : Tokens → Tokens → Option Act → Type 0 where
-  none : {a : Tokens} → AnySimple a a None
-  some : {a b : Tokens} {s : Act} → Simple a b s → AnySimple a b (Some s)
-
--- [ expr ]
-pub data AnyExpr : Tokens → Tokens → Option Formula → Type 0 where
-  none : {a : Tokens} → AnyExpr a a None
-  some : {a b : Tokens} {f : Formula} → Expr a b f → AnyExpr a b (Some f)
-
--- [ "(" expr ")" ]
-pub data AnyCondition : Tokens → Tokens → Option Formula → Type 0 where
-  none : {a : Tokens} → AnyCondition a a None
-  some : {a b : Tokens} {f : Formula} → Condition a b f → AnyCondition a b (Some f)
 
 -- [ Number ], where a missing number is 1
 pub data Times : Tokens → Tokens → ℕ → Type 0 where
@@ -59,8 +44,8 @@ mutual
     if_else : {a b c d e g h : Tokens} {f : Formula} {s t : Command} → Word (codes "IF") a b → Condition b c f → Statement c d s → Lines d e → Word (codes "ELSE") e g →
         Statement g h t → Body a h (IfElse (place_at a) f s t)
     while : {a b c d : Tokens} {f : Formula} {s : Command} → Word (codes "WHILE") a b → Condition b c f → Statement c d s → Body a d (While (place_at a) f s)
-    for : {a b c d e g h i j k : Tokens} {x y : Option Act} {f : Option Formula} {s : Command} → Word (codes "FOR") a b → Sign signs.Open b c → AnySimple c d x →
-        Semicolon d e → AnyExpr e g f → Semicolon g h → AnySimple h i y → Sign signs.Close i j → Statement j k s → Body a k (For (place_at a) x f y s)
+    for : {a b c d e g h i j k : Tokens} {x y : Option Act} {f : Option Formula} {s : Command} → Word (codes "FOR") a b → Sign signs.Open b c → Perhaps Simple c d x →
+        Semicolon d e → Perhaps Expr e g f → Semicolon g h → Perhaps Simple h i y → Sign signs.Close i j → Statement j k s → Body a k (For (place_at a) x f y s)
     repeat : {a b c : Tokens} {s : Command} → Word (codes "REPEAT") a b → Statement b c s → FollowsNo (codes "UNTIL") c → Body a c (Repeat (place_at a) s)
     repeat_until : {a b c d e g h : Tokens} {f : Formula} {s : Command} → Word (codes "REPEAT") a b → Statement b c s → Lines c d → Word (codes "UNTIL") d e →
         Condition e g f → Stop g h → Body a h (RepeatUntil (place_at a) s f (place_at d))
@@ -70,7 +55,7 @@ mutual
         Clauses e g cs → Lines g h → Sign signs.CloseBrace h i → Body a i (Switch (place_at a) f cs)
     break_ : {a b c d : Tokens} {n : ℕ} → Word (codes "BREAK") a b → Times b c n → Stop c d → Body a d (Break (place_at a) n)
     next : {a b c d : Tokens} {n : ℕ} → Word (codes "NEXT") a b → Times b c n → Stop c d → Body a d (Next (place_at a) n)
-    return_ : {a b c d : Tokens} {f : Option Formula} → Word (codes "RETURN") a b → AnyCondition b c f → Stop c d → Body a d (Return (place_at a) f)
+    return_ : {a b c d : Tokens} {f : Option Formula} → Word (codes "RETURN") a b → Perhaps Condition b c f → Stop c d → Body a d (Return (place_at a) f)
     plain : {a b c : Tokens} {s : Act} → APlain a b s → Stop b c → Body a c (Plain None (place_at a) s)
 
   -- { clause }

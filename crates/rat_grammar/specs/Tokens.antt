@@ -1,6 +1,6 @@
 -- What one token may be, and lists of parts. In all relations of the grammar the tokens of a part are those of the first list that stand
 -- before the second.
-use Rattle.std.specs.Prelude.{◌≡◌, ℤ, None, List, [], ◌∷◌, map}
+use Rattle.std.specs.Prelude.{◌≡◌, ℤ, None, List, [], ◌∷◌, map, Option, Some}
 use Rattle.std.specs.Char.{to_ascii_uppercase}
 use Rattle.ground.specs.declared.place.Place.{Place}
 use Rattle.ground.specs.declared.token.Token.{Token}
@@ -62,6 +62,11 @@ place_at (t ∷ ts) = t.place
 pub data Listed {A : Type 0} (Item : Tokens → Tokens → A → Type 0) : Tokens → Tokens → List A → Type 0 where
   last : {a b : Tokens} {x : A} → Item a b x → Listed Item a b (x ∷ [])
   comma : {a b c d : Tokens} {x : A} {xs : List A} → Item a b x → Sign signs.Comma b c → Listed Item c d xs → Listed Item a d (x ∷ xs)
+
+-- [ item ]
+pub data Perhaps {A : Type 0} (Item : Tokens → Tokens → A → Type 0) : Tokens → Tokens → Option A → Type 0 where
+  none : {a : Tokens} → Perhaps Item a a None
+  some : {a b : Tokens} {x : A} → Item a b x → Perhaps Item a b (Some x)
 
 -- { item }
 pub data Several {A : Type 0} (Item : Tokens → Tokens → A → Type 0) : Tokens → Tokens → List A → Type 0 where
