@@ -5,11 +5,13 @@ use Rattle.std.specs.Fmt.{signed_decimal}
 use Rattle.std.specs.List.{flat_map, enumerate_from}
 use Rattle.ground.specs.declared.value.Kind.{Kind}
 use Rattle.ground.specs.declared.value.Kind.TheVariants.{Integer, Logical}
+use Rattle.f66_tree.specs.declared.expression.Operator.{Operator}
+use Rattle.f66_tree.specs.declared.expression.Operator.TheVariants as operators
 use Rattle.f66_tree.specs.Fields.{Fields}
 use Rattle.f66_tree.specs.Syntax.{Format}
 use Rattle.stack_code.specs.declared.op.Op.{Op}
 use Rattle.stack_code.specs.declared.op.Op.TheVariants as o
-use Rattle.stmt_text.specs.Texts.{operator_text, statement_text}
+use Rattle.stmt_text.specs.Texts.{statement_text}
 
 abbrev pub name : Op → List ℕ
 name (o.Begin p) = codes "Begin"
@@ -51,7 +53,7 @@ name (o.PutRow k n) = codes "PutRow"
 name (o.TakeRow k n) = codes "TakeRow"
 name o.Finish = codes "Finish"
 name o.Halt = codes "Halt"
-name (o.HaltWith n) = codes "Halt"
+name (o.HaltWith n) = codes "HaltWith"
 
 abbrev pub truth_word : Bool → List ℕ
 truth_word true = codes "true"
@@ -60,6 +62,21 @@ truth_word false = codes "false"
 abbrev pub kind_word : Kind → List ℕ
 kind_word Integer = codes "Integer"
 kind_word Logical = codes "Logical"
+
+abbrev pub operator_word : Operator → List ℕ
+operator_word operators.Add = codes "Add"
+operator_word operators.Sub = codes "Sub"
+operator_word operators.Mul = codes "Mul"
+operator_word operators.Div = codes "Div"
+operator_word operators.Power = codes "Power"
+operator_word operators.Lt = codes "Lt"
+operator_word operators.Le = codes "Le"
+operator_word operators.Eq = codes "Eq"
+operator_word operators.Ne = codes "Ne"
+operator_word operators.Ge = codes "Ge"
+operator_word operators.Gt = codes "Gt"
+operator_word operators.And = codes "And"
+operator_word operators.Or = codes "Or"
 
 -- a place by its file's number and its line; a jump by its targets
 abbrev pub operands : Op → List (List ℕ)
@@ -70,7 +87,7 @@ operands (o.Spot first size) = decimal first ∷ decimal size ∷ []
 operands (o.Dummy i) = decimal i ∷ []
 operands (o.Element n) = decimal n ∷ []
 operands (o.Lend q) = decimal q ∷ []
-operands (o.Compare op) = operator_text op ∷ []
+operands (o.Compare op) = operator_word op ∷ []
 operands (o.Known g n) = decimal g ∷ decimal n ∷ []
 operands (o.Jump t) = decimal t ∷ []
 operands (o.JumpFalse t) = decimal t ∷ []

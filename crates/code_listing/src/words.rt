@@ -1,7 +1,6 @@
 // The words of a listing.
 ghost use Rattle.std.specs.Prelude.{◌≡◌};
-ghost use Rattle.code_listing.specs.Listing.{kind_word as word_of_kind, name, truth_word as word_of_truth};
-ghost use Rattle.stmt_text.specs.Texts.{operator_text};
+ghost use Rattle.code_listing.specs.Listing.{kind_word as word_of_kind, name, operator_word as word_of_operator, truth_word as word_of_truth};
 
 use f66_tree::Operator;
 use ground::Kind;
@@ -51,28 +50,28 @@ pub fn name_of(op: &Op) -> &'static [u8]
         Op::TakeRow(_, _) => b"TakeRow",
         Op::Finish => b"Finish",
         Op::Halt => b"Halt",
-        Op::HaltWith(_) => b"Halt",
+        Op::HaltWith(_) => b"HaltWith",
     }
 }
 
-/// The word of an operator.
+/// The name of an operator.
 pub fn operator_word(operator: Operator) -> &'static [u8]
-    ensures { result.now ≡ operator_text operator }
+    ensures { result.now ≡ word_of_operator operator }
 {
     match operator {
-        Operator::Add => b"+",
-        Operator::Sub => b"-",
-        Operator::Mul => b"*",
-        Operator::Div => b"/",
-        Operator::Power => b"**",
-        Operator::Lt => b".LT.",
-        Operator::Le => b".LE.",
-        Operator::Eq => b".EQ.",
-        Operator::Ne => b".NE.",
-        Operator::Ge => b".GE.",
-        Operator::Gt => b".GT.",
-        Operator::And => b".AND.",
-        Operator::Or => b".OR.",
+        Operator::Add => b"Add",
+        Operator::Sub => b"Sub",
+        Operator::Mul => b"Mul",
+        Operator::Div => b"Div",
+        Operator::Power => b"Power",
+        Operator::Lt => b"Lt",
+        Operator::Le => b"Le",
+        Operator::Eq => b"Eq",
+        Operator::Ne => b"Ne",
+        Operator::Ge => b"Ge",
+        Operator::Gt => b"Gt",
+        Operator::And => b"And",
+        Operator::Or => b"Or",
     }
 }
 
