@@ -1,5 +1,5 @@
 -- A text has one verdict.
-use Rattle.std.proofs.Common.{◌≡◌, ℕ, List, ◌⊎◌, inl, inr, sym, ◌∙◌, ap, subst}
+use Rattle.std.proofs.Common.{◌≡◌, List, ◌⊎◌, inl, inr, sym, ◌∙◌, ap, subst}
 use Rattle.std.specs.Prelude.{Result, Ok, Err}
 use Rattle.ground.specs.declared.fault.Fault.{Fault}
 use Rattle.ground.specs.declared.token.Token.{Token}
@@ -8,7 +8,6 @@ use Rattle.ground.specs.declared.token.Dialect.TheVariants.{Ratfor, Efl}
 use Rattle.grammar.specs.Grammar.{Grammar}
 use Rattle.grammar.specs.Limits.{Meter, IsAccepted}
 use Rattle.grammar.specs.Answers.{IsFirstFault}
-use Rattle.macro_define.specs.Answers.{Known}
 use Rattle.macro_define.specs.Expansion.{Stop, GatherState, gathered}
 use Rattle.rat_tree.specs.Syntax.{RatProgram}
 use Rattle.rat_parse.specs.Ratfor as ratfor
@@ -21,7 +20,7 @@ use Rattle.efl_parse_values.specs.Values as efl_values
 use Rattle.front.specs.Checked.{Checked, Faulty, Means}
 use Rattle.front.specs.Ratfor.{IsJudged}
 use Rattle.front.specs.Efl.{unbuilt_of}
-use Rattle.front.specs.Verdict.{Verdict, IsChecked, in_files, IsVerdictOf, Becomes}
+use Rattle.front.specs.Verdict.{Verdict, IsChecked, in_files, IsVerdictOf}
 use Rattle.front.specs.Laws.{OneFirstFault, AcceptedHasNone, OneMeaning, OneVerdict}
 use Rattle.front.proofs.FirstFaults.{one_fault, no_fault, one_tree}
 

@@ -1,5 +1,5 @@
 -- The units of an accepted program are a program of what it means.
-use Rattle.std.proofs.Common.{◌≡◌, ◌≤◌, ℕ, List, [], ◌∷◌, length, map, Option, Some, None, refl, sym, ap, ◌∙◌, subst}
+use Rattle.std.proofs.Common.{◌≡◌, ◌≤◌, ◌<◌, ℕ, arith, List, [], ◌∷◌, length, map, Option, Some, None, refl, ap, ◌∙◌, subst}
 use Rattle.std.specs.Prelude.{All, Err, Vec}
 use Rattle.std.specs.declared.alloc.Global.{Global}
 use Rattle.std.specs.List.{slice_get}
@@ -13,6 +13,8 @@ use Rattle.f66_tree.specs.Syntax.{Line, Routine}
 use Rattle.f66_tree.specs.Views.{routine_of}
 use Rattle.f66_tree.specs.Execution.{f66}
 use Rattle.f66_check.specs.Answers.{IsSoundUnit}
+use Rattle.ground.specs.declared.fault.FaultKind.TheVariants.{MainCount}
+use Rattle.f66_program.specs.Linking.{IsWhole, at_part, none}
 use Rattle.linked_soundness.specs.Laws.{AreCodes}
 use Rattle.rat_tree.specs.Syntax.{RatRoutine, RatProgram}
 use Rattle.rat_check.specs.FirstFault.{or_else, first_fault_of, Tells}
@@ -20,7 +22,7 @@ use Rattle.rat_link.specs.Linking.{IsClean, AreClean, IsAccepted}
 use Rattle.rat_lower.specs.Served.{AllServe}
 use Rattle.front.specs.Checked.{Meaning, Means}
 use Rattle.front.specs.Ratfor.{IsJudged}
-use Rattle.front.specs.Programs.{IsProgramOf}
+use Rattle.front.specs.Programs.{IsProgramOf, PassWhereServed}
 use Rattle.front.specs.Laws.{UnitsServe}
 
 -- no unit has a fault by itself
@@ -42,8 +44,13 @@ abbrev lines_if_any : Option Routine → List Line
 lines_if_any None = []
 lines_if_any (Some r) = r.lines
 
-pub units_program : UnitsServe → (p : RatProgram) (made : List AUnit) → length p.routines ≤ 500 → IsAccepted p → AllServe p.routines p.finish made → (meaning : Meaning) × IsJudged p (Means meaning) × IsProgramOf meaning (record { units = map routine_of made; finish = p.finish })
-units_program serve p made few accepted all =
+-- units that link have a main, and so there are some
+some_units : (made : List AUnit) (finish : Place) → IsWhole (record { units = map routine_of made; finish = finish }) → 0 < length made
+some_units [] finish whole = absurd (whole.clean MainCount (at_part 0 0) (none (λ r c. absurd (let lt = c.1 in omega (arith, lt))) refl))
+some_units (m ∷ made) finish whole = omega arith
+
+pub units_program : UnitsServe → (p : RatProgram) (made : List AUnit) → length p.routines ≤ 500 → IsAccepted p → AllServe p.routines p.finish made → PassWhereServed p → (meaning : Meaning) × IsJudged p (Means meaning) × IsProgramOf meaning (record { units = map routine_of made; finish = p.finish })
+units_program serve p made few accepted all pass =
     let units : List Routine = map routine_of made in
     let s = serve p made few accepted all in
     let codes : ℕ → List Line = λ u. lines_if_any (slice_get units u) in
@@ -58,5 +65,6 @@ units_program serve p made few accepted all =
         agrees = d.agrees;
         found = d.found;
         printable = s.printable;
+        passes = pass made (some_units made p.finish s.whole) all;
       },
     )

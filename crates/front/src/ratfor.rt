@@ -5,11 +5,13 @@ ghost use Rattle.rat_lower.specs.Lowered.{AllHaveRoom};
 ghost use Rattle.rat_lower.specs.Served.{AllServe};
 ghost use Rattle.rat_link.specs.Linking.{IsAccepted};
 ghost use Rattle.macro_define.specs.GatherAnswers.{EndsText};
+ghost use Rattle.front.specs.Programs.{PassWhereServed};
 ghost use Rattle.front.specs.Ratfor.{IsJudged, IsRatfor};
 ghost use Rattle.front.specs.Translated.{Finds};
 
 use crate::Made;
 use crate::laws::units_serve;
+use deck_room::serving_units_pass_no_limit;
 use f66_tree::Unit;
 use ground::{List, Memory, Refusal, Token};
 use rat_link::check_program;
@@ -21,12 +23,14 @@ use std::alloc::Global;
 
 /// The units of a text with these tokens, or the text's fault.
 pub fn program_of(alloc: Global, tokens: &List<Token>) -> Result<Made, Refusal>
-    requires { EndsText tokens.now.items }
+    requires ends { EndsText tokens.now.items }
+    requires few { length tokens.now.items ≤ 200000 }
     ensures { Finds (IsRatfor tokens.now.items) result }
 {
     let program = parse(alloc, tokens)?;
     parsed_has_room();
     parsed_has_few_units();
+    serving_units_pass_no_limit();
     made_of(alloc, &program)
 }
 
@@ -34,6 +38,7 @@ pub fn program_of(alloc: Global, tokens: &List<Token>) -> Result<Made, Refusal>
 fn made_of(alloc: Global, program: &RatProgram) -> Result<Made, Refusal>
     requires room { AllHaveRoom (tree_of program.now).routines }
     requires few { length (tree_of program.now).routines ≤ 500 }
+    requires passes { PassWhereServed (tree_of program.now) }
     ensures { Finds (IsJudged (tree_of program.now)) result }
 {
     check_program(alloc, program)?;

@@ -1,5 +1,5 @@
 // From a file to its units.
-ghost use Rattle.std.specs.Prelude.{◌≡◌};
+ghost use Rattle.std.specs.Prelude.{◌≡◌, ◌≤◌, length};
 ghost use Rattle.macro_define.specs.Gathered.{HasCause};
 ghost use Rattle.macro_define.specs.GatherAnswers.{EndsText};
 ghost use Rattle.front.specs.Verdict.{IsChecked, file_name as name_of_file};
@@ -8,6 +8,7 @@ ghost use Rattle.front.specs.Translated.{Finds, IsNamed, IsTranslated};
 use crate::Made;
 use crate::efl::refusal_of;
 use crate::ratfor::program_of;
+use gathered_tokens::gathered_are_few;
 use ground::{Dialect, List, Refusal, Text, Token};
 use macro_define::{Gathered, TextRefusal, gather};
 use ports::Library;
@@ -35,6 +36,7 @@ pub fn translate_text<L: Library>(
     ensures cause { HasCause (L.faults library.old) (L.faults library.new) result }
 {
     let Gathered { tokens, files } = gather(alloc, dialect, name, library)?;
+    gathered_are_few();
     match made_of(alloc, dialect, &tokens) {
         Ok(made) => Ok(Translated { made, files }),
         Err(refusal) => Err(named(alloc, &files, refusal)),
@@ -43,7 +45,8 @@ pub fn translate_text<L: Library>(
 
 /// The units of a text with these tokens, or the text's fault.
 fn made_of(alloc: Global, dialect: Dialect, tokens: &List<Token>) -> Result<Made, Refusal>
-    requires { EndsText tokens.now.items }
+    requires ends { EndsText tokens.now.items }
+    requires few { length tokens.now.items ≤ 200000 }
     ensures { Finds (IsChecked dialect tokens.now.items) result }
 {
     match dialect {

@@ -4,4 +4,4 @@ use Rattle.front.proofs.ProgramLemmas.{units_program}
 use Rattle.front.proofs.ratfor.made_of.Goals as goal
 
 pub returns : goal.returns
-returns c = units_program c.units_serve.ensures (program_of c.args.program.now) c.in_ok-units.units.items c.requires.few c.in_ok-check_program.ensures.accepted c.in_ok-units.ensures
+returns c = units_program c.units_serve.ensures (program_of c.args.program.now) c.in_ok-units.units.items c.requires.few c.in_ok-check_program.ensures.accepted c.in_ok-units.ensures c.requires.passes

@@ -4,10 +4,13 @@ use Rattle.front.proofs.Ending.{ends_ratfor}
 use Rattle.front.proofs.ratfor.program_of.Goals as goal
 
 pub parse-requires : goal.parse-requires
-parse-requires c = ends_ratfor c.args.tokens.now.items c.requires
+parse-requires c = ends_ratfor c.args.tokens.now.items c.requires.ends
 
 pub made_of-requires-clause-room : goal.made_of-requires-clause-room
 made_of-requires-clause-room c = c.parsed_has_room.ensures c.args.tokens.now.items (program_of c.in_ok-program.program) c.in_ok-program.ensures
 
 pub made_of-requires-clause-few : goal.made_of-requires-clause-few
 made_of-requires-clause-few c = c.parsed_has_few_units.ensures c.args.tokens.now.items (program_of c.in_ok-program.program) c.in_ok-program.ensures
+
+pub made_of-requires-clause-passes : goal.made_of-requires-clause-passes
+made_of-requires-clause-passes c = λ made some serve. c.serving_units_pass_no_limit.ensures c.args.tokens.now.items (program_of c.in_ok-program.program) made c.in_ok-program.ensures c.requires.few some serve
