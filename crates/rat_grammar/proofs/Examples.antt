@@ -1,5 +1,5 @@
 -- Small texts and their trees.
-use Rattle.std.proofs.Common.{◌≡◌, ◌∙◌, ◌⊎◌, inl, inr, Bool, true, false, refl, sym, subst, ap}
+use Rattle.std.proofs.Common.{List, ◌≡◌, ◌∙◌, ◌⊎◌, inl, inr, Bool, true, false, refl, sym, subst, ap}
 use Rattle.std.specs.Prelude.{ℕ, pos, [], ◌∷◌, Some, None, codes}
 use Rattle.ground.specs.declared.place.Place.{Place}
 use Rattle.ground.specs.declared.token.Token.{Token}
@@ -9,19 +9,21 @@ use Rattle.ground.specs.declared.token.Sign.{Sign as ASign}
 use Rattle.ground.specs.declared.token.Sign.TheVariants as signs
 use Rattle.f66_tree.specs.declared.expression.Operator.{Operator}
 use Rattle.f66_tree.specs.declared.expression.Operator.TheVariants as operators
+use Rattle.f66_tree.specs.declared.declaration.TypeWord.TheVariants as types
 use Rattle.f66_tree.specs.declared.editing.EditKind.TheVariants as edits
 use Rattle.f66_tree.specs.Fields as fields
 use Rattle.f66_tree.specs.Syntax as f66
 use Rattle.f66_tree.specs.Syntax.{Text, Formula, Int, Pair, Minus, Assign, Constant, NoFormula, AndFormula}
 use Rattle.rat_tree.specs.Syntax as tree
 use Rattle.rat_tree.specs.Syntax.{Command, NoCommand, AndCommand}
-use Rattle.rat_grammar.specs.Tokens.{Perhaps, Tokens, token, One, one, capitals, Word, word, name, Lines, Stop, Several}
+use Rattle.rat_grammar.specs.Tokens.{Perhaps, Tokens, token, One, one, capitals, Word, word, name, Lines, Stop, Several, Listed}
 use Rattle.rat_grammar.specs.Expressions as e
 use Rattle.rat_grammar.specs.Formats as f
 use Rattle.rat_grammar.specs.Declarations as d
 use Rattle.rat_grammar.specs.Plain as pl
 use Rattle.rat_grammar.specs.Statements as s
 use Rattle.rat_grammar.specs.Programs as u
+use Rattle.rat_grammar.proofs.Published.{programs}
 use Rattle.rat_grammar.proofs.TokenLemmas.{untrue, same, same_self}
 use Rattle.rat_grammar.proofs.LineLemmas.{no_line_at, follows_no, kind_at}
 
@@ -121,6 +123,28 @@ nearest = u.program (Several.more (u.main Lines.none (no_line_at _ _ refl)
     s.Statements.none)
     Lines.none (word refl) (Stop.line one)) Several.none) Lines.none one
 
+-- with the else at the first if it is no tree of this text
+abbrev outer_tree : tree.RatProgram
+outer_tree = record {
+  routines = record { header = f66.MainUnit; body = AndCommand (tree.IfElse (here 1) a (tree.If (here 2) a (sets 2 1)) (sets 3 2)) NoCommand; place = here 1 } ∷ [];
+  finish = here 5;
+}
+
+abbrev has_no_else : Command → Bool
+has_no_else (tree.If p g c) = true
+has_no_else _ = false
+
+abbrev first_has_no_else : tree.Commands → Bool
+first_has_no_else NoCommand = false
+first_has_no_else (AndCommand c cs) = has_no_else c
+
+abbrev main_has_no_else : List tree.RatRoutine → Bool
+main_has_no_else [] = false
+main_has_no_else (x ∷ xs) = first_has_no_else x.body
+
+not_outer : u.Program dangling outer_tree → ⊥
+not_outer q = untrue (ap (λ r. main_has_no_else r.routines) (programs.one dangling outer_tree dangling_tree q nearest))
+
 -- An if with braces, and its else:  if (a) { a = 1 } else { }
 braced : s.Body (if_a 1 (sign 1 signs.OpenBrace ∷ a_is 1 1 (sign 1 signs.CloseBrace ∷ w 1 (codes "else") ∷ sign 1 signs.OpenBrace ∷ sign 1 signs.CloseBrace ∷ []))) []
     (tree.IfElse (here 1) a (tree.Block (here 1) (AndCommand (sets 1 1) NoCommand)) (tree.Block (here 1) NoCommand))
@@ -173,6 +197,51 @@ fields_of : f.Fields (number 1 2 ∷ w 1 (codes "i5") ∷ sign 1 signs.Slash ∷
     (fields.Single 2 (fields.Takes edits.Whole 5) (fields.Single 1 fields.Slash (fields.Single 1 (fields.Chars (codes "ab")) (fields.Group 3 (fields.Single 1 (fields.Blanks 1) fields.NoField) fields.NoField))))
 fields_of = f.some (f.before_slash (f.counted_word (f.count one) (f.FieldWord.word refl refl)) one
     (f.behind_slash one (f.comma (f.text one) one (f.last (f.counted_group (f.count one) one (f.some (f.last (f.Field.word (f.FieldWord.word refl refl)))) one)))))
+
+-- ---- FORTRAN ----
+
+-- write(6, 10) a, (a, k(a), k = 1, 3)
+written : pl.Plain
+    (w 1 (codes "write") ∷ sign 1 signs.Open ∷ number 1 6 ∷ sign 1 signs.Comma ∷ number 1 10 ∷ sign 1 signs.Close ∷ w 1 (codes "a") ∷ sign 1 signs.Comma ∷ sign 1 signs.Open ∷ w 1 (codes "a")
+    ∷ sign 1 signs.Comma ∷ w 1 (codes "k") ∷ sign 1 signs.Open ∷ w 1 (codes "a") ∷ sign 1 signs.Close ∷ sign 1 signs.Comma ∷ w 1 (codes "k") ∷ sign 1 signs.Assign ∷ number 1 1 ∷ sign 1 signs.Comma
+    ∷ number 1 3 ∷ sign 1 signs.Close ∷ []) []
+    (f66.Write (Constant (pos 6)) 10 (f66.AndEntry (f66.One a) (f66.AndEntry
+    (f66.Many (f66.AndEntry (f66.One a) (f66.AndEntry (f66.One (f66.Item (codes "K") (AndFormula a NoFormula))) f66.NoEntry)) (codes "K") (Constant (pos 1)) (Constant (pos 3)) (Constant (pos 1)))
+    f66.NoEntry)))
+written = pl.write (word refl) one (d.number one) one (d.natural one) one (d.some (d.comma (d.item (e.name (name refl))) one (d.last
+    (d.loop one (d.comma (d.item (e.name (name refl))) one (d.last (d.item (e.applied (name refl) one (e.last (expr_of (sum_of (factor_of (e.name (name refl)))))) one)))) one (name refl) one
+    (d.short (d.number one) one (d.number one)) one))))
+
+-- data a, k / 2 * -1, .true. /
+preset : pl.Plain
+    (w 1 (codes "data") ∷ w 1 (codes "a") ∷ sign 1 signs.Comma ∷ w 1 (codes "k") ∷ sign 1 signs.Slash ∷ number 1 2 ∷ sign 1 signs.Star ∷ sign 1 signs.Minus ∷ number 1 1 ∷ sign 1 signs.Comma ∷ sign 1 signs.True
+    ∷ sign 1 signs.Slash ∷ []) []
+    (f66.Preset (record { places = a ∷ f66.Ref (codes "K") ∷ []; values = (2, Minus (Int (pos 1))) ∷ (1, f66.Truth true) ∷ [] } ∷ []))
+preset = pl.data_ (word refl) (Listed.last (d.preset (Listed.comma (e.name (name refl)) one (Listed.last (e.name (name refl)))) one
+    (Listed.comma (d.repeated (d.natural one) one (d.minus one one)) one (Listed.last (d.once (d.truth one)))) one))
+
+-- A function with its type, whose `end` stands before the end of the text:
+--   integer function k(a)
+--   real b(3)
+--
+--   end
+abbrev function_text : Tokens
+function_text =
+    w 1 (codes "integer") ∷ w 1 (codes "function") ∷ w 1 (codes "k") ∷ sign 1 signs.Open ∷ w 1 (codes "a") ∷ sign 1 signs.Close ∷ line 1 ∷ w 2 (codes "real") ∷ w 2 (codes "b") ∷ sign 2 signs.Open ∷ number 2 3
+    ∷ sign 2 signs.Close ∷ line 2 ∷ line 3 ∷ w 4 (codes "end") ∷ at 5 kinds.TextEnd ∷ []
+
+function : u.Program function_text (record {
+  routines = record {
+    header = f66.FuncUnit (Some types.Integer) (codes "K") (codes "A" ∷ []);
+    body = AndCommand (tree.Plain None (here 2) (f66.Typed types.Other (record { name = codes "B"; sizes = Constant (pos 3) ∷ [] } ∷ []))) NoCommand;
+    place = here 1;
+  } ∷ [];
+  finish = here 5;
+})
+function = u.program (Several.more (u.headed Lines.none
+    (u.function (Perhaps.some (d.integer (word refl))) (word refl) (name refl) (u.formals one (Listed.last (name refl)) one)) (Stop.line one)
+    (s.Statements.more (s.bare Lines.none (s.plain (pl.typed (d.real (word refl)) (Listed.last (d.sized (name refl) one (Listed.last (d.number one)) one))) (Stop.line one))) s.Statements.none)
+    (Lines.line one Lines.none) (word refl) (Stop.end one)) Several.none) Lines.none one
 
 -- ---- what is no expression ----
 
