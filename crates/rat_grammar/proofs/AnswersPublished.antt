@@ -5,7 +5,7 @@ use Rattle.ground.specs.declared.token.Token.{Token}
 use Rattle.ground.specs.declared.fault.Fault.{Fault}
 use Rattle.ground.specs.declared.fault.Refusal.{Refusal}
 use Rattle.ground.specs.declared.fault.Refusal.TheVariants as refusals
-use Rattle.grammar.specs.Grammar.{Parse, IsProgram, result_of}
+use Rattle.grammar.specs.Grammar.{Parse, IsProgram, EndsWith, result_of}
 use Rattle.grammar.specs.Grammar as table
 use Rattle.grammar.specs.Limits as limits
 use Rattle.grammar.specs.Answers as answers
@@ -13,11 +13,14 @@ use Rattle.rat_tree.specs.declared.program.RatProgram as memory
 use Rattle.rat_tree.specs.Syntax.{RatProgram}
 use Rattle.rat_tree.specs.Views.{program_of}
 use Rattle.rat_parse_table.specs.declared.table.Nonterminal.TheVariants as n
+use Rattle.rat_parse_table.specs.Ratfor.{certificate}
 use Rattle.rat_parse_table.specs.Limits.{meter}
 use Rattle.rat_parse_values.specs.Values.{Val, program}
 use Rattle.rat_parse.specs.Ratfor.{grammar, whole}
 use Rattle.rat_grammar.specs.Programs.{Program}
-use Rattle.rat_grammar.specs.Answers.{Begins, IsAccepted, FaultAt, Answers, AnswersArePublished}
+use Rattle.rat_grammar.specs.Tokens.{one}
+use Rattle.rat_grammar.specs.Answers.{EndsText, Begins, IsAccepted, FaultAt, IsFirstFault, Answers}
+use Rattle.rat_grammar.specs.Laws.{AnswersArePublished}
 use Rattle.rat_grammar.proofs.Readings.{reading}
 use Rattle.rat_grammar.proofs.Steps.{Reads, reads_whole}
 use Rattle.rat_grammar.proofs.AllSteps.{steps}
@@ -63,17 +66,28 @@ fault_at_too : (ts : List Token) (i : ℕ) (t : Token) (fault : Fault) → Fault
 fault_at_too ts i t fault (inl h) = inl (h.0, (begins_too (take i ts) h.1.0, (λ b. h.1.1 (begins (take (suc i) ts) b)), h.1.2))
 fault_at_too ts i t fault (inr h) = inr (h.0, (begins_too (take (suc i) ts) h.1.0, h.1.1))
 
+first_fault : (ts : List Token) (fault : Fault) → answers.IsFirstFault grammar meter ts fault → IsFirstFault ts fault
+first_fault ts fault h = (h.0, h.1, h.2, fault_at ts h.0 h.1 fault h.3)
+
+first_fault_too : (ts : List Token) (fault : Fault) → IsFirstFault ts fault → answers.IsFirstFault grammar meter ts fault
+first_fault_too ts fault h = (h.0, h.1, h.2, fault_at_too ts h.0 h.1 fault h.3)
+
 -- ---- answers ----
 
-answered : (ts : List Token) (result : Result memory.RatProgram Refusal) → answers.Answers grammar meter whole ts result → Answers ts result
-answered ts (Ok p) h = accepted ts (program_of p) h
-answered ts (Err (refusals.Fault fault)) h = (h.0, h.1, h.2, fault_at ts h.0 h.1 fault h.3)
-answered ts (Err refusals.Memory) h = tt
-
-answered_too : (ts : List Token) (result : Result memory.RatProgram Refusal) → Answers ts result → answers.Answers grammar meter whole ts result
-answered_too ts (Ok p) h = accepted_too ts (program_of p) h
-answered_too ts (Err (refusals.Fault fault)) h = (h.0, h.1, h.2, fault_at_too ts h.0 h.1 fault h.3)
-answered_too ts (Err refusals.Memory) h = tt
-
 pub are_published : AnswersArePublished
-are_published ts result = (answered ts result, answered_too ts result)
+are_published = record {
+  accepted = λ ts r. (accepted ts r, accepted_too ts r);
+  faults = λ ts fault. (first_fault ts fault, first_fault_too ts fault);
+}
+
+-- what the table's parser answers
+pub answered : AnswersArePublished → (ts : List Token) (result : Result memory.RatProgram Refusal) → answers.Answers grammar meter whole ts result → Answers ts result
+answered same ts (Ok p) h = (same.accepted ts (program_of p)).0 h
+answered same ts (Err (refusals.Fault fault)) h = (same.faults ts fault).0 h
+answered same ts (Err refusals.Memory) h = tt
+
+-- ---- the end of a text ----
+
+-- the table sees the end of a text there
+pub ends : (ts : List Token) → EndsText ts → EndsWith grammar certificate.end ts
+ends ts (before, last, whole_is, one) = (before, _, whole_is, refl)

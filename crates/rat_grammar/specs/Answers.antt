@@ -1,5 +1,5 @@
--- What `parse` of rat_parse answers, in the words of the published grammar. What a limit counts stands in crate rat_parse_table.
-use Rattle.std.specs.Prelude.{◌≡◌, ◌↔◌, ◌⊎◌, ◌++◌, ℕ, suc, take, Some, None, Result, Ok, Err, slice_get, List}
+-- What `parse` answers, in the words of the published grammar. What a limit counts stands in crate rat_parse_table.
+use Rattle.std.specs.Prelude.{◌≡◌, ◌⊎◌, ◌++◌, ℕ, suc, take, Some, None, Result, Ok, Err, slice_get, List, []}
 use Rattle.ground.specs.declared.token.Token.{Token}
 use Rattle.ground.specs.declared.fault.Fault.{Fault}
 use Rattle.ground.specs.declared.fault.FaultKind.TheVariants.{Syntax, Limit}
@@ -7,13 +7,17 @@ use Rattle.ground.specs.declared.fault.Refusal.{Refusal}
 use Rattle.ground.specs.declared.fault.Refusal.TheVariants as refusals
 use Rattle.grammar.specs.Grammar.{Parse}
 use Rattle.grammar.specs.Limits.{first_passing, history_of, IsWithin, Passes}
-use Rattle.grammar.specs.Answers as table
 use Rattle.rat_tree.specs.declared.program.RatProgram as memory
 use Rattle.rat_tree.specs.Syntax.{RatProgram}
 use Rattle.rat_tree.specs.Views.{program_of}
 use Rattle.rat_parse_table.specs.Limits.{meter}
-use Rattle.rat_parse.specs.Ratfor.{grammar, whole}
+use Rattle.rat_parse.specs.Ratfor.{grammar}
+use Rattle.rat_grammar.specs.Tokens.{TextEnd}
 use Rattle.rat_grammar.specs.Programs.{Program}
+
+-- The last token is the end of the text.
+abbrev pub EndsText : List Token → Type 0
+EndsText ts = (before : List Token) × (last : List Token) × (ts ≡ before ++ last) × TextEnd last []
 
 -- Some program begins with these tokens.
 abbrev pub Begins : List Token → Type 0
@@ -46,7 +50,3 @@ abbrev pub Answers : List Token → Result memory.RatProgram Refusal → Type 0
 Answers ts (Ok p) = IsAccepted ts (program_of p)
 Answers ts (Err (refusals.Fault fault)) = IsFirstFault ts fault
 Answers ts (Err refusals.Memory) = Unit {0}
-
--- What `parse` promises says no more and no less than this.
-abbrev pub AnswersArePublished : Type 0
-AnswersArePublished = (ts : List Token) (result : Result memory.RatProgram Refusal) → table.Answers grammar meter whole ts result ↔ Answers ts result

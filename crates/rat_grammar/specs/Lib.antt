@@ -6,5 +6,5 @@ pub mod Declarations
 pub mod Plain
 pub mod Statements
 pub mod Programs
-pub mod Laws
 pub mod Answers
+pub mod Laws

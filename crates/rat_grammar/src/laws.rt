@@ -1,6 +1,5 @@
 // The laws of the published grammar. The functions do nothing: their contracts are the laws.
-ghost use Rattle.rat_grammar.specs.Laws.{ExpressionsArePublished, ProgramsArePublished};
-ghost use Rattle.rat_grammar.specs.Answers.{AnswersArePublished};
+ghost use Rattle.rat_grammar.specs.Laws.{AnswersArePublished, ExpressionsArePublished, ProgramsArePublished};
 
 /// The table's expressions are those of the published grammar, with the same trees.
 pub fn expressions_are_published()
@@ -12,8 +11,8 @@ pub fn programs_are_published()
     ensures { ProgramsArePublished }
 {}
 
-/// What `parse` of `rat_parse` promises is the published grammar's one tree, or Syntax at the first token after which no
-/// tokens make a program of it.
+/// What the table accepts, and where it first fails, is what the published grammar says: its one tree, or Syntax at the first token
+/// after which no tokens make a program of it.
 pub fn answers_are_published()
     ensures { AnswersArePublished }
 {}

@@ -1,6 +1,8 @@
-//! The published grammar of Ratfor, and that the parse table gives the same trees.
+//! The published grammar of Ratfor: its parser, and that the parse table gives the same trees.
 #![tactic(auto)]
 
 mod laws;
+mod parser;
 
 pub use laws::{answers_are_published, expressions_are_published, programs_are_published};
+pub use parser::parse;

@@ -1,0 +1,9 @@
+-- Why `parse` keeps its clauses.
+use Rattle.rat_grammar.proofs.AnswersPublished.{ends, answered}
+use Rattle.rat_grammar.proofs.parser.parse.Goals as goal
+
+pub parse-requires : goal.parse-requires
+parse-requires c = ends c.args.tokens.now.items c.requires
+
+pub returns : goal.returns
+returns c = answered c.answers_are_published.ensures c.args.tokens.now.items c.parse.result c.parse.ensures
