@@ -5,14 +5,14 @@ use Rattle.ground.specs.declared.fault.Fault.{Fault}
 use Rattle.ground.specs.declared.token.Token.{Token}
 use Rattle.ground.specs.declared.token.Dialect.{Dialect}
 use Rattle.ground.specs.declared.token.Dialect.TheVariants.{Ratfor, Efl}
-use Rattle.grammar.specs.Grammar.{Grammar}
-use Rattle.grammar.specs.Limits.{Meter, IsAccepted}
-use Rattle.grammar.specs.Answers.{IsFirstFault}
+use Rattle.grammar.specs.Limits as table
+use Rattle.grammar.specs.Answers as table_answers
 use Rattle.macro_define.specs.Expansion.{Stop, GatherState, gathered}
 use Rattle.rat_tree.specs.Syntax.{RatProgram}
-use Rattle.rat_parse.specs.Ratfor as ratfor
-use Rattle.rat_parse_table.specs.Limits as ratfor_limits
-use Rattle.rat_parse_values.specs.Values as ratfor_values
+use Rattle.rat_parse_table.specs.Limits.{meter}
+use Rattle.rat_parse.specs.Ratfor.{grammar}
+use Rattle.rat_grammar.specs.Answers.{IsAccepted, IsFirstFault}
+use Rattle.rat_grammar.specs.Laws.{AnswersArePublished}
 use Rattle.efl_tree.specs.Syntax.{EflProgram}
 use Rattle.efl_parse.specs.Efl as efl
 use Rattle.efl_parse_table.specs.Limits as efl_limits
@@ -24,27 +24,51 @@ use Rattle.front.specs.Verdict.{Verdict, IsChecked, in_files, IsVerdictOf}
 use Rattle.front.specs.Laws.{OneFirstFault, AcceptedHasNone, OneMeaning, OneVerdict}
 use Rattle.front.proofs.FirstFaults.{one_fault, no_fault, one_tree}
 
--- Of a grammar whose programs are seen as values one by one, and what comes of a program, which is one thing.
-module _ {T N P V M W : Type 0} (g : Grammar Token T N P V) (meter : Meter T P M) (view : W → V) (same : (a b : W) → view a ≡ view b → a ≡ b) (Comes : W → Checked → Type 0) (one : (w : W) (a b : Checked) → Comes w a → Comes w b → a ≡ b) where
+-- a text has one first fault, or one tree
+record HasOneAnswer {W : Type 0} (First : List Token → Fault → Type 0) (Accepts : List Token → W → Type 0) : Type 0 where
+  faults : (ts : List Token) (a b : Fault) → First ts a → First ts b → a ≡ b
+  none : (ts : List Token) (w : W) (fault : Fault) → Accepts ts w → First ts fault → ⊥
+  trees : (ts : List Token) (v w : W) → Accepts ts v → Accepts ts w → v ≡ w
+
+-- So it comes to one thing, where a tree does.
+module _ {W : Type 0} (First : List Token → Fault → Type 0) (Accepts : List Token → W → Type 0) (answer : HasOneAnswer First Accepts) (Comes : W → Checked → Type 0) (one : (w : W) (a b : Checked) → Comes w a → Comes w b → a ≡ b) where
   abbrev IsFound : List Token → Checked → Type 0
-  IsFound ts c = ((fault : Fault) × IsFirstFault g meter ts fault × (c ≡ Faulty fault)) ⊎ ((tree : W) × IsAccepted g meter ts (view tree) × Comes tree c)
+  IsFound ts c = ((fault : Fault) × First ts fault × (c ≡ Faulty fault)) ⊎ ((tree : W) × Accepts ts tree × Comes tree c)
 
   one_found : (ts : List Token) → (a b : Checked) → IsFound ts a → IsFound ts b → a ≡ b
-  one_found ts a b (inl h) (inl k) = h.2 ∙ (ap Faulty (one_fault g meter ts h.0 k.0 h.1 k.1) ∙ sym k.2)
-  one_found ts a b (inl h) (inr k) = absurd (no_fault g meter ts (view k.0) h.0 k.1 h.1)
-  one_found ts a b (inr h) (inl k) = absurd (no_fault g meter ts (view h.0) k.0 h.1 k.1)
-  one_found ts a b (inr h) (inr k) = one k.0 a b (subst (λ w. Comes w a) (same h.0 k.0 (one_tree g meter ts (view h.0) (view k.0) h.1 k.1)) h.2) k.2
+  one_found ts a b (inl h) (inl k) = h.2 ∙ (ap Faulty (answer.faults ts h.0 k.0 h.1 k.1) ∙ sym k.2)
+  one_found ts a b (inl h) (inr k) = absurd (answer.none ts k.0 h.0 k.1 h.1)
+  one_found ts a b (inr h) (inl k) = absurd (answer.none ts h.0 k.0 h.1 k.1)
+  one_found ts a b (inr h) (inr k) = one k.0 a b (subst (λ w. Comes w a) (answer.trees ts h.0 k.0 h.1 k.1) h.2) k.2
 
-same_program : (a b : RatProgram) → ratfor_values.program a ≡ ratfor_values.program b → a ≡ b
-same_program a b e = cc
+-- ---- grammars ----
+
+one_ratfor : AnswersArePublished → HasOneAnswer IsFirstFault IsAccepted
+one_ratfor same = record {
+  faults = λ ts a b h k. one_fault grammar meter ts a b ((same.faults ts a).1 h) ((same.faults ts b).1 k);
+  none = λ ts tree fault h k. no_fault grammar meter ts _ fault ((same.accepted ts tree).1 h) ((same.faults ts fault).1 k);
+  trees = λ ts v w h k. h.only w k.is;
+}
 
 same_efl : (a b : EflProgram) → efl_values.program a ≡ efl_values.program b → a ≡ b
 same_efl a b e = cc
 
+abbrev AcceptsEfl : List Token → EflProgram → Type 0
+AcceptsEfl ts tree = table.IsAccepted efl.grammar efl_limits.meter ts (efl_values.program tree)
+
+one_efl : HasOneAnswer (table_answers.IsFirstFault efl.grammar efl_limits.meter) AcceptsEfl
+one_efl = record {
+  faults = one_fault efl.grammar efl_limits.meter;
+  none = λ ts tree. no_fault efl.grammar efl_limits.meter ts (efl_values.program tree);
+  trees = λ ts v w h k. same_efl v w (one_tree efl.grammar efl_limits.meter ts (efl_values.program v) (efl_values.program w) h k);
+}
+
+-- ---- what comes of a text ----
+
 one_unbuilt : (tree : EflProgram) (a b : Checked) → a ≡ unbuilt_of tree → b ≡ unbuilt_of tree → a ≡ b
 one_unbuilt tree a b h k = h ∙ sym k
 
-module _ (faults : OneFirstFault) (none : AcceptedHasNone) (meanings : OneMeaning) where
+module _ (same : AnswersArePublished) (faults : OneFirstFault) (none : AcceptedHasNone) (meanings : OneMeaning) where
   one_judged : (p : RatProgram) (a b : Checked) → IsJudged p a → IsJudged p b → a ≡ b
   one_judged p (Faulty f) (Faulty g) h k = ap Faulty (faults p f g h k)
   one_judged p (Faulty f) (Means n) h k = absurd (none p f k.0 h)
@@ -52,8 +76,8 @@ module _ (faults : OneFirstFault) (none : AcceptedHasNone) (meanings : OneMeanin
   one_judged p (Means m) (Means n) h k = ap Means (meanings p m n h.0 h.1 k.1)
 
   one_checked : (d : Dialect) → (ts : List Token) → (a b : Checked) → IsChecked d ts a → IsChecked d ts b → a ≡ b
-  one_checked Ratfor ts a b h k = one_found ratfor.grammar ratfor_limits.meter ratfor_values.program same_program IsJudged one_judged ts a b h k
-  one_checked Efl ts a b h k = one_found efl.grammar efl_limits.meter efl_values.program same_efl (λ tree c. c ≡ unbuilt_of tree) one_unbuilt ts a b h k
+  one_checked Ratfor ts a b h k = one_found IsFirstFault IsAccepted (one_ratfor same) IsJudged one_judged ts a b h k
+  one_checked Efl ts a b h k = one_found (table_answers.IsFirstFault efl.grammar efl_limits.meter) AcceptsEfl one_efl (λ tree c. c ≡ unbuilt_of tree) one_unbuilt ts a b h k
 
   one_of : (d : Dialect) → (told : Result GatherState Stop) → (a b : Verdict) → IsVerdictOf d told a → IsVerdictOf d told b → a ≡ b
   one_of d (Err stop) a b h k = h ∙ sym k

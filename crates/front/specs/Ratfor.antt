@@ -3,11 +3,7 @@
 use Rattle.std.specs.Prelude.{◌≡◌, ◌⊎◌, List}
 use Rattle.ground.specs.declared.fault.Fault.{Fault}
 use Rattle.ground.specs.declared.token.Token.{Token}
-use Rattle.grammar.specs.Answers.{IsFirstFault}
-use Rattle.grammar.specs.Limits.{IsAccepted}
-use Rattle.rat_parse.specs.Ratfor.{grammar}
-use Rattle.rat_parse_table.specs.Limits.{meter}
-use Rattle.rat_parse_values.specs.Values.{program}
+use Rattle.rat_grammar.specs.Answers.{IsFirstFault, IsAccepted}
 use Rattle.front.specs.Checked.{Checked, Faulty, Means}
 use Rattle.rat_tree.specs.Syntax.{RatProgram}
 use Rattle.rat_link.specs.Linking.{IsFirstFaultOf, IsAccepted as IsWholeProgram}
@@ -22,8 +18,8 @@ IsJudged tree (Means meaning) = IsWholeProgram tree × IsMeaningOf tree meaning
 
 -- ---- parse ----
 
--- the first fault at the grammar or at a limit, or what is said of the tree
+-- the first fault at the published grammar or at a limit, or what is said of the tree
 abbrev pub IsRatfor : List Token → Checked → Type 0
 IsRatfor ts c =
-    ((fault : Fault) × IsFirstFault grammar meter ts fault × (c ≡ Faulty fault))
-    ⊎ ((tree : RatProgram) × IsAccepted grammar meter ts (program tree) × IsJudged tree c)
+    ((fault : Fault) × IsFirstFault ts fault × (c ≡ Faulty fault))
+    ⊎ ((tree : RatProgram) × IsAccepted ts tree × IsJudged tree c)

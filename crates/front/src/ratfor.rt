@@ -14,9 +14,9 @@ use crate::laws::units_serve;
 use deck_room::serving_units_pass_no_limit;
 use f66_tree::Unit;
 use ground::{List, Memory, Refusal, Token};
+use rat_grammar::{answers_are_published, parse};
 use rat_link::check_program;
 use rat_lower::lower;
-use rat_parse::parse;
 use rat_room::{parsed_has_few_units, parsed_has_room};
 use rat_tree::RatProgram;
 use std::alloc::Global;
@@ -28,6 +28,7 @@ pub fn program_of(alloc: Global, tokens: &List<Token>) -> Result<Made, Refusal>
     ensures { Finds (IsRatfor tokens.now.items) result }
 {
     let program = parse(alloc, tokens)?;
+    answers_are_published();
     parsed_has_room();
     parsed_has_few_units();
     serving_units_pass_no_limit();
