@@ -90,6 +90,10 @@ pub put_as : (cells cells1 : List Cell) (st : Store) (p : Spot) (x : Word) (u : 
 put_as cells cells1 st p x u c v a sh told same small put =
     Rattle.runner.proofs.Cells.agrees_as cells1 st u (unit_of p) c v (same_unit p x u sh told) same (put st a (subst IsSmall (sym same) small))
 
+-- what is written is what the word stands for
+pub keeps_word : (cells cells1 : List Cell) (u : ℕ) (word : Word) (c : Content) → ((v : Content) → Shows (Val v) word → c ≡ v) → ((st : Store) → Agrees cells st → IsSmall c → Agrees cells1 (put_in u c st)) → (v : Content) → Shows (Val v) word → (st : Store) → Agrees cells st → Agrees cells1 (put_in u v st)
+keeps_word cells cells1 u word c is put v sh st a = subst (λ d. Agrees cells1 (put_in u d st)) (is v sh) (put st a (subst IsSmall (sym (is v sh)) (shown_small v word sh)))
+
 -- ---- Store, Forget and Lend ----
 
 pub record Stored (es : List Entry) : Type 0 where
@@ -138,9 +142,9 @@ module _ (pile below : List Word) (x y : Word) (e : pile ≡ y ∷ x ∷ below) 
   words : Stand (Val kept.v ∷ At kept.p ∷ kept.below) (y ∷ x ∷ below)
   words = stored_stand s.stack kept pile below x y st e
 
-  pub store_works : (cells cells1 : List Cell) (u : ℕ) (c : Content) → Agrees cells w.state.store → pos u ≡ x.value → ((v : Content) → Shows (Val v) y → c ≡ v) → ((st : Store) → Agrees cells st → IsSmall c → Agrees cells1 (put_in u c st)) → (x.behind ≡ 0 → ⊥) → GoesOver (act plans (Some i.Store) s w) s w (s.pc + 1) below cells1
-  store_works cells cells1 u c a told is put free =
-      subst (λ o. GoesOver o s w (s.pc + 1) below cells1) (sym (store_is plans s w kept)) (changed_works s kept.below w kept.p kept.v x below cells1 words.1.0 free words.1.1 (put_as cells cells1 w.state.store kept.p x u c kept.v a words.1.0 told (is kept.v words.0) (shown_small kept.v y words.0) put))
+  pub store_works : (cells cells1 : List Cell) (u : ℕ) → Agrees cells w.state.store → pos u ≡ x.value → ((v : Content) → Shows (Val v) y → (st : Store) → Agrees cells st → Agrees cells1 (put_in u v st)) → (x.behind ≡ 0 → ⊥) → GoesOver (act plans (Some i.Store) s w) s w (s.pc + 1) below cells1
+  store_works cells cells1 u a told put free =
+      subst (λ o. GoesOver o s w (s.pc + 1) below cells1) (sym (store_is plans s w kept)) (changed_works s kept.below w kept.p kept.v x below cells1 words.1.0 free words.1.1 (put_as cells cells1 w.state.store kept.p x u kept.v kept.v a words.1.0 told refl (shown_small kept.v y words.0) (λ st a1 small. put kept.v words.0 st a1)))
 
   pub store_traps : x.behind ≡ 0 → act plans (Some i.Store) s w ≡ Halts (Ended (Trapped ValueArgument s.frame.place)) w
   store_traps lent = store_is plans s w kept ∙ changed_traps s kept.below w kept.p kept.v x words.1.0 lent
@@ -178,8 +182,8 @@ lend_tall q buffer top cells m =
     let l = tall (i.Lend q) buffer top m.work in
     omega arith
 
-pub lend_works : (q : ℕ) (pile below : List Word) (x made : Word) (piled : List Word) (cells cells1 : List Cell) (c : Content) → pile ≡ x ∷ below → piled ≡ made ∷ below → made.value ≡ pos q → made.behind ≡ 0 → ((v : Content) → Shows (Val v) x → c ≡ v) → ((st : Store) → Agrees cells st → IsSmall c → Agrees cells1 (put_in q c st)) → (plans : List Fields) (s : Core) (w : World) → Stand s.stack pile → Agrees cells w.state.store → IsFine (act plans (Some (i.Lend q)) s w) → GoesOver (act plans (Some (i.Lend q)) s w) s w (s.pc + 1) piled cells1
-lend_works q pile below x made piled cells cells1 c e e1 value behind is put plans s w st a fine =
+pub lend_works : (q : ℕ) (pile below : List Word) (x made : Word) (piled : List Word) (cells cells1 : List Cell) → pile ≡ x ∷ below → piled ≡ made ∷ below → made.value ≡ pos q → made.behind ≡ 0 → ((v : Content) → Shows (Val v) x → (st : Store) → Agrees cells st → Agrees cells1 (put_in q v st)) → (plans : List Fields) (s : Core) (w : World) → Stand s.stack pile → Agrees cells w.state.store → IsFine (act plans (Some (i.Lend q)) s w) → GoesOver (act plans (Some (i.Lend q)) s w) s w (s.pc + 1) piled cells1
+lend_works q pile below x made piled cells cells1 e e1 value behind put plans s w st a fine =
     let t = lent_in _ q s w fine in
     let g = lend_stand s.stack t pile below x st e in
     record {
@@ -187,5 +191,5 @@ lend_works q pile below x made piled cells cells1 c e e1 value behind is put pla
       store = put_in q t.a w.state.store;
       is = ap (λ es. on_value w es (lending q s w)) t.is;
       stand = subst (Stand (At (spot q 1 true) ∷ t.below)) (sym e1) (record { value = value; behind = behind; size = refl; position = refl }, g.1);
-      agrees = subst (λ d. Agrees cells1 (put_in q d w.state.store)) (is t.a g.0) (put w.state.store a (subst IsSmall (sym (is t.a g.0)) (shown_small t.a x g.0)));
+      agrees = put t.a g.0 w.state.store a;
     }

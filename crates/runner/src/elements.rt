@@ -65,7 +65,7 @@ fn advance_at(reach: Reach, stack: &[Word], subscript: usize, size: usize) -> Op
 }
 
 /// How far an element is from its array's first one, by so many subscripts and dimensions.
-#[inline(always)]
+#[inline(never)]
 fn far_of(stack: &[Word], subscripts: usize, sizes: usize, count: usize) -> Option<u64>
     requires subscripts { subscripts + count ≤ length stack.now }
     requires sizes { sizes + count ≤ length stack.now }

@@ -84,7 +84,10 @@ fn role_of(op: &Op) -> Role
     ensures { result ≡ role_for (instruction_of op.now) }
 {
     match op {
-        Op::Begin(place) => Role::Begins(*place),
+        Op::Begin(place) => Role::Begins(Place {
+            file: place.file,
+            line: place.line,
+        }),
         Op::Step => Role::Turns,
         Op::PushInt(_) => Role::Works,
         Op::PushLog(_) => Role::Works,
