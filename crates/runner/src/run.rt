@@ -1,7 +1,7 @@
 // The loop that runs code, over a stack and a store that are given to it.
-ghost use Rattle.std.specs.Prelude.{◌≡◌, ◌+◌, ◌-◌, ◌<◌, ◌≤◌, ◌^◌, ℕ, [], true, length};
+ghost use Rattle.std.specs.Prelude.{◌≡◌, ◌+◌, ◌-◌, ◌<◌, ◌≤◌, ◌^◌, ℕ, [], true, length, IfSome};
 ghost use Rattle.ground.specs.declared.value.Kind.TheVariants.{Integer};
-ghost use Rattle.stack_code.specs.Instructions.{Load};
+ghost use Rattle.stack_code.specs.Instructions.{Load, LoopTurn};
 ghost use Rattle.stack_code.specs.Views.{code_of, instruction_of};
 ghost use Rattle.runner.specs.Work.{MayWork, Works, MayHold, Holds, IsRoomFor};
 ghost use Rattle.runner.specs.Running.{IsReady, HasRange, HasUnits, bounded, ran, role as role_for};
@@ -138,6 +138,22 @@ fn is_load(op: &Op) -> bool
     matches!(op, Op::LoadInt)
 }
 
+/// The units and the target of the end of a DO's turn, where that stands behind a spot of one unit. The size is looked at first, so
+/// that what is asked of the instruction behind is not one choice with whether it is a load, which comes most often.
+#[inline(always)]
+fn turn_behind(size: u32, op: &Op) -> Option<(u32, u32, u32)>
+    ensures { IfSome result (λ r. instruction_of op.now ≡ LoopTurn r.0 r.1 r.2) }
+{
+    if size == 1 {
+        match op {
+            Op::LoopTurn(limit, step, to) => Some((*limit, *step, *to)),
+            _ => None,
+        }
+    } else {
+        None
+    }
+}
+
 /// An instruction that works on the stack alone.
 #[inline(always)]
 fn work(op: &Op, stack: &mut [Word], top: usize) -> Result<usize, Trap>
@@ -262,6 +278,19 @@ pub(crate) fn run_code<S: Source, K: Sink>(
                     counted(executed, from, pc),
                 ),
             },
+            Role::Loops(limit, step, to) => {
+                match loop_turn(limit, step, to, pc, stack, top, cells) {
+                    Ok((next, rest)) => {
+                        executed = counted(executed, from, pc);
+                        pc = next;
+                        from = next;
+                        top = rest;
+                    }
+                    Err(trap) => {
+                        return over(End::Trapped(trap, place), left, counted(executed, from, pc));
+                    }
+                }
+            }
             Role::Spots(first, size) => {
                 prove!(pc + 1 < ops.len());
                 if is_load(&ops[pc + 1]) {
@@ -269,6 +298,21 @@ pub(crate) fn run_code<S: Source, K: Sink>(
                         Ok(rest) => {
                             top = rest;
                             pc += 2;
+                        }
+                        Err(trap) => return over(
+                            End::Trapped(trap, place),
+                            left,
+                            counted(executed, from, pc + 1),
+                        ),
+                    }
+                } else if let Some((limit, step, to)) = turn_behind(size, &ops[pc + 1]) {
+                    let above = push_spot(first, size, stack, top);
+                    match loop_turn(limit, step, to, pc + 1, stack, above, cells) {
+                        Ok((next, rest)) => {
+                            executed = counted(executed, from, pc + 1);
+                            pc = next;
+                            from = next;
+                            top = rest;
                         }
                         Err(trap) => return over(
                             End::Trapped(trap, place),
@@ -303,19 +347,6 @@ pub(crate) fn run_code<S: Source, K: Sink>(
                     counted(executed, from, pc),
                 ),
             },
-            Role::Loops(limit, step, to) => {
-                match loop_turn(limit, step, to, pc, stack, top, cells) {
-                    Ok((next, rest)) => {
-                        executed = counted(executed, from, pc);
-                        pc = next;
-                        from = next;
-                        top = rest;
-                    }
-                    Err(trap) => {
-                        return over(End::Trapped(trap, place), left, counted(executed, from, pc));
-                    }
-                }
-            }
             Role::Dummies(number) => {
                 top = dummy(number, spots, base, stack, top);
                 pc += 1;

@@ -144,6 +144,78 @@ returns-in-Err-variable g c =
     let load_at = next ∙ ap Some (c.is_load.ensures c.if-is_load.true) in
     answered g.S.Source.left g.K.Sink.puts g.S.Source.faults g.K.Sink.faults c.args.input.now c.turn.input c.args.out.now c.turn.out c.args.code.now c.args.steps _ _ _ _ c.over-in-Err-variable.ensures (whole c.turn.invariant c.requires.unread _ _ _ (turn.holds_over c.requires.ready.valid c.valid_is_safe.ensures after load_at c.counted-in-Err-variable.ensures (c.in-Err-variable.ensures.works c.in-Spots.size)))
 
+pub push_spot-above-requires-clause-some : goal.push_spot-above-requires-clause-some
+push_spot-above-requires-clause-some g c =
+    let at = turn.stands c.requires.ready.valid c.valid_is_safe.ensures c.turn.invariant.turn c.index-ops-pc.result c.deref-ops.result.now c.deref-ops.ensures.value c.index-ops-pc.is in
+    let here = at ∙ ap Some (roles.told (role.Spots c.in-Spots.first c.in-Spots.size) (instruction_of c.index-ops-pc.result) (sym c.in-Spots.is ∙ c.role_of.ensures)) in
+    let room = subst (λ n. suc c.args.code.now.depth * c.args.code.now.stack ≤ n) (sym c.turn.auto.stack) c.requires.ready.room in
+    (spots.ranges c.requires.ready.valid c.valid_is_safe.ensures c.requires.ready.few c.turn.invariant.turn room c.in-Spots.first c.in-Spots.size here).0
+
+pub push_spot-above-requires-clause-few : goal.push_spot-above-requires-clause-few
+push_spot-above-requires-clause-few g c =
+    let at = turn.stands c.requires.ready.valid c.valid_is_safe.ensures c.turn.invariant.turn c.index-ops-pc.result c.deref-ops.result.now c.deref-ops.ensures.value c.index-ops-pc.is in
+    let here = at ∙ ap Some (roles.told (role.Spots c.in-Spots.first c.in-Spots.size) (instruction_of c.index-ops-pc.result) (sym c.in-Spots.is ∙ c.role_of.ensures)) in
+    let room = subst (λ n. suc c.args.code.now.depth * c.args.code.now.stack ≤ n) (sym c.turn.auto.stack) c.requires.ready.room in
+    (spots.ranges c.requires.ready.valid c.valid_is_safe.ensures c.requires.ready.few c.turn.invariant.turn room c.in-Spots.first c.in-Spots.size here).1
+
+pub push_spot-above-requires-clause-work : goal.push_spot-above-requires-clause-work
+push_spot-above-requires-clause-work g c =
+    let at = turn.stands c.requires.ready.valid c.valid_is_safe.ensures c.turn.invariant.turn c.index-ops-pc.result c.deref-ops.result.now c.deref-ops.ensures.value c.index-ops-pc.is in
+    let here = at ∙ ap Some (roles.told (role.Spots c.in-Spots.first c.in-Spots.size) (instruction_of c.index-ops-pc.result) (sym c.in-Spots.is ∙ c.role_of.ensures)) in
+    let room = subst (λ n. suc c.args.code.now.depth * c.args.code.now.stack ≤ n) (sym c.turn.auto.stack) c.requires.ready.room in
+    turn.may_work c.requires.ready.valid c.valid_is_safe.ensures c.turn.invariant.turn here room
+
+pub loop_turn-requires-in-Some-clause-limit : goal.loop_turn-requires-in-Some-clause-limit
+loop_turn-requires-in-Some-clause-limit g c =
+    let at = turn.stands c.requires.ready.valid c.valid_is_safe.ensures c.turn.invariant.turn c.index-ops-pc.result c.deref-ops.result.now c.deref-ops.ensures.value c.index-ops-pc.is in
+    let here = at ∙ ap Some (roles.told (role.Spots c.in-Spots.first c.in-Spots.size) (instruction_of c.index-ops-pc.result) (sym c.in-Spots.is ∙ c.role_of.ensures)) in
+    let after = turn.works_on c.requires.ready.valid c.valid_is_safe.ensures c.turn.invariant.turn here refl c.push_spot-above.ensures.works c.push_spot-above.ensures.room in
+    let there = turn.stands c.requires.ready.valid c.valid_is_safe.ensures after c.index-ops-pc-else-is_load.result c.deref-ops.result.now c.deref-ops.ensures.value c.index-ops-pc-else-is_load.is ∙ ap Some c.in-Some.ensures in
+    subst (λ n. c.in-Some.limit < n) (sym after.units) (roles.loop_units (code_of c.args.code.now.ops.items) (length c.args.code.now.plans.items) c.args.code.now.units (c.turn.pc + 1) c.in-Some.limit c.in-Some.step c.in-Some.to (turn.in_range c.requires.ready.valid c.valid_is_safe.ensures after there)).0
+
+pub loop_turn-requires-in-Some-clause-step : goal.loop_turn-requires-in-Some-clause-step
+loop_turn-requires-in-Some-clause-step g c =
+    let at = turn.stands c.requires.ready.valid c.valid_is_safe.ensures c.turn.invariant.turn c.index-ops-pc.result c.deref-ops.result.now c.deref-ops.ensures.value c.index-ops-pc.is in
+    let here = at ∙ ap Some (roles.told (role.Spots c.in-Spots.first c.in-Spots.size) (instruction_of c.index-ops-pc.result) (sym c.in-Spots.is ∙ c.role_of.ensures)) in
+    let after = turn.works_on c.requires.ready.valid c.valid_is_safe.ensures c.turn.invariant.turn here refl c.push_spot-above.ensures.works c.push_spot-above.ensures.room in
+    let there = turn.stands c.requires.ready.valid c.valid_is_safe.ensures after c.index-ops-pc-else-is_load.result c.deref-ops.result.now c.deref-ops.ensures.value c.index-ops-pc-else-is_load.is ∙ ap Some c.in-Some.ensures in
+    subst (λ n. c.in-Some.step < n) (sym after.units) (roles.loop_units (code_of c.args.code.now.ops.items) (length c.args.code.now.plans.items) c.args.code.now.units (c.turn.pc + 1) c.in-Some.limit c.in-Some.step c.in-Some.to (turn.in_range c.requires.ready.valid c.valid_is_safe.ensures after there)).1
+
+pub loop_turn-requires-in-Some-clause-hold : goal.loop_turn-requires-in-Some-clause-hold
+loop_turn-requires-in-Some-clause-hold g c =
+    let at = turn.stands c.requires.ready.valid c.valid_is_safe.ensures c.turn.invariant.turn c.index-ops-pc.result c.deref-ops.result.now c.deref-ops.ensures.value c.index-ops-pc.is in
+    let here = at ∙ ap Some (roles.told (role.Spots c.in-Spots.first c.in-Spots.size) (instruction_of c.index-ops-pc.result) (sym c.in-Spots.is ∙ c.role_of.ensures)) in
+    let after = turn.works_on c.requires.ready.valid c.valid_is_safe.ensures c.turn.invariant.turn here refl c.push_spot-above.ensures.works c.push_spot-above.ensures.room in
+    let there = turn.stands c.requires.ready.valid c.valid_is_safe.ensures after c.index-ops-pc-else-is_load.result c.deref-ops.result.now c.deref-ops.ensures.value c.index-ops-pc-else-is_load.is ∙ ap Some c.in-Some.ensures in
+    let room = subst (λ n. suc c.args.code.now.depth * c.args.code.now.stack ≤ n) (sym c.turn.auto.stack ∙ sym c.push_spot-above.auto.stack) c.requires.ready.room in
+    turn.may_hold c.requires.ready.valid c.valid_is_safe.ensures after there room
+
+pub turn-smaller-in-Ok-loop_turn-2 : goal.turn-smaller-in-Ok-loop_turn-2
+turn-smaller-in-Ok-loop_turn-2 g c =
+    let at = turn.stands c.requires.ready.valid c.valid_is_safe.ensures c.turn.invariant.turn c.index-ops-pc.result c.deref-ops.result.now c.deref-ops.ensures.value c.index-ops-pc.is in
+    let here = at ∙ ap Some (roles.told (role.Spots c.in-Spots.first c.in-Spots.size) (instruction_of c.index-ops-pc.result) (sym c.in-Spots.is ∙ c.role_of.ensures)) in
+    let after = turn.works_on c.requires.ready.valid c.valid_is_safe.ensures c.turn.invariant.turn here refl c.push_spot-above.ensures.works c.push_spot-above.ensures.room in
+    let there = turn.stands c.requires.ready.valid c.valid_is_safe.ensures after c.index-ops-pc-else-is_load.result c.deref-ops.result.now c.deref-ops.ensures.value c.index-ops-pc-else-is_load.is ∙ ap Some c.in-Some.ensures in
+    let one = turn.nearer_next c.requires.ready.valid c.valid_is_safe.ensures c.turn.invariant.turn here refl in
+    let two = turn.nearer_end c.requires.ready.valid c.valid_is_safe.ensures after there refl c.in-Ok-loop_turn-2.ensures.way in
+    omega (arith, one, two)
+
+pub turn-preserved-in-Ok-loop_turn-2 : goal.turn-preserved-in-Ok-loop_turn-2
+turn-preserved-in-Ok-loop_turn-2 g c =
+    let at = turn.stands c.requires.ready.valid c.valid_is_safe.ensures c.turn.invariant.turn c.index-ops-pc.result c.deref-ops.result.now c.deref-ops.ensures.value c.index-ops-pc.is in
+    let here = at ∙ ap Some (roles.told (role.Spots c.in-Spots.first c.in-Spots.size) (instruction_of c.index-ops-pc.result) (sym c.in-Spots.is ∙ c.role_of.ensures)) in
+    let after = turn.works_on c.requires.ready.valid c.valid_is_safe.ensures c.turn.invariant.turn here refl c.push_spot-above.ensures.works c.push_spot-above.ensures.room in
+    let there = turn.stands c.requires.ready.valid c.valid_is_safe.ensures after c.index-ops-pc-else-is_load.result c.deref-ops.result.now c.deref-ops.ensures.value c.index-ops-pc-else-is_load.is ∙ ap Some c.in-Some.ensures in
+    keeps_on c.turn.invariant (turn.loops_on c.requires.ready.valid c.valid_is_safe.ensures after there c.counted-executed-in-Ok-loop_turn-2.ensures c.in-Ok-loop_turn-2.ensures.way refl c.in-Ok-loop_turn-2.ensures.leaps c.in-Ok-loop_turn-2.ensures.room (omega arith))
+
+pub returns-in-Err-loop_turn-2 : goal.returns-in-Err-loop_turn-2
+returns-in-Err-loop_turn-2 g c =
+    let at = turn.stands c.requires.ready.valid c.valid_is_safe.ensures c.turn.invariant.turn c.index-ops-pc.result c.deref-ops.result.now c.deref-ops.ensures.value c.index-ops-pc.is in
+    let here = at ∙ ap Some (roles.told (role.Spots c.in-Spots.first c.in-Spots.size) (instruction_of c.index-ops-pc.result) (sym c.in-Spots.is ∙ c.role_of.ensures)) in
+    let after = turn.works_on c.requires.ready.valid c.valid_is_safe.ensures c.turn.invariant.turn here refl c.push_spot-above.ensures.works c.push_spot-above.ensures.room in
+    let there = turn.stands c.requires.ready.valid c.valid_is_safe.ensures after c.index-ops-pc-else-is_load.result c.deref-ops.result.now c.deref-ops.ensures.value c.index-ops-pc-else-is_load.is ∙ ap Some c.in-Some.ensures in
+    answered g.S.Source.left g.K.Sink.puts g.S.Source.faults g.K.Sink.faults c.args.input.now c.turn.input c.args.out.now c.turn.out c.args.code.now c.args.steps _ _ _ _ c.over-in-Err-loop_turn-2.ensures (whole c.turn.invariant c.requires.unread _ _ _ (turn.loops_over c.requires.ready.valid c.valid_is_safe.ensures after there c.counted-in-Err-loop_turn-2.ensures c.in-Err-loop_turn-2.ensures.leaps))
+
 pub push_spot-top-requires-clause-some : goal.push_spot-top-requires-clause-some
 push_spot-top-requires-clause-some g c =
     let at = turn.stands c.requires.ready.valid c.valid_is_safe.ensures c.turn.invariant.turn c.index-ops-pc.result c.deref-ops.result.now c.deref-ops.ensures.value c.index-ops-pc.is in
@@ -165,15 +237,15 @@ push_spot-top-requires-clause-work g c =
     let room = subst (λ n. suc c.args.code.now.depth * c.args.code.now.stack ≤ n) (sym c.turn.auto.stack) c.requires.ready.room in
     turn.may_work c.requires.ready.valid c.valid_is_safe.ensures c.turn.invariant.turn here room
 
-pub turn-smaller-else-is_load : goal.turn-smaller-else-is_load
-turn-smaller-else-is_load g c =
+pub turn-smaller-in_default : goal.turn-smaller-in_default
+turn-smaller-in_default g c =
     let at = turn.stands c.requires.ready.valid c.valid_is_safe.ensures c.turn.invariant.turn c.index-ops-pc.result c.deref-ops.result.now c.deref-ops.ensures.value c.index-ops-pc.is in
     let here = at ∙ ap Some (roles.told (role.Spots c.in-Spots.first c.in-Spots.size) (instruction_of c.index-ops-pc.result) (sym c.in-Spots.is ∙ c.role_of.ensures)) in
     let room = subst (λ n. suc c.args.code.now.depth * c.args.code.now.stack ≤ n) (sym c.turn.auto.stack) c.requires.ready.room in
     turn.nearer_next c.requires.ready.valid c.valid_is_safe.ensures c.turn.invariant.turn here refl
 
-pub turn-preserved-else-is_load : goal.turn-preserved-else-is_load
-turn-preserved-else-is_load g c =
+pub turn-preserved-in_default : goal.turn-preserved-in_default
+turn-preserved-in_default g c =
     let at = turn.stands c.requires.ready.valid c.valid_is_safe.ensures c.turn.invariant.turn c.index-ops-pc.result c.deref-ops.result.now c.deref-ops.ensures.value c.index-ops-pc.is in
     let here = at ∙ ap Some (roles.told (role.Spots c.in-Spots.first c.in-Spots.size) (instruction_of c.index-ops-pc.result) (sym c.in-Spots.is ∙ c.role_of.ensures)) in
     let room = subst (λ n. suc c.args.code.now.depth * c.args.code.now.stack ≤ n) (sym c.turn.auto.stack) c.requires.ready.room in
