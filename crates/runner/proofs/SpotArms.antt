@@ -1,5 +1,5 @@
 -- A spot, and what is loaded from it where a load comes next.
-use Rattle.std.proofs.Common.{◌≡◌, ℕ, suc, ◌+◌, ◌*◌, ◌<◌, ◌≤◌, ◌^◌, List, length, Some, false, refl, ap, subst, arith, slice_get, slice_set}
+use Rattle.std.proofs.Common.{◌≡◌, ℕ, suc, ◌+◌, ◌*◌, ◌<◌, ◌≤◌, ◌^◌, List, ◌++◌, length, Some, false, refl, ap, subst, arith, slice_get, slice_set}
 use Rattle.std.specs.Prelude.{Ok, pos}
 use Rattle.std.proofs.lemmas.Bool.{leb-true, and_parts}
 use Rattle.std.proofs.lemmas.List.{length-set}
@@ -16,11 +16,13 @@ use Rattle.stack_code.specs.StackMachine.{At, spot}
 use Rattle.runner.specs.declared.words.Word.{Word}
 use Rattle.runner.specs.declared.words.Cell.{Cell}
 use Rattle.runner.specs.Frames.{Level}
-use Rattle.runner.specs.Running.{IsValidCode}
+use Rattle.runner.specs.Running.{IsValidCode, program}
 use Rattle.runner.specs.Words.{Shows, spot_word}
 use Rattle.runner.specs.Work.{Holds}
+use Rattle.runner.specs.Recording.{tape_at}
+use Rattle.runner.proofs.Live.{Held}
 use Rattle.runner.proofs.Measure.{far}
-use Rattle.runner.proofs.Piles.{pile_push}
+use Rattle.runner.proofs.Piles.{pile_push, pile_above}
 use Rattle.runner.proofs.Pushes.{push_room, push_works}
 use Rattle.runner.proofs.Roles.{range_of}
 use Rattle.runner.proofs.Turn as turn
@@ -60,3 +62,16 @@ module _ {code : Code} (valid : IsValidCode code) (law : ValidIsSafe) (few : cod
         let one = turn.nearer_next valid law t at refl in
         let two = subst (λ n. far (code_of code.ops.items) n left level.level < far (code_of code.ops.items) (pc + 1) left level.level) (let e : pc + 1 + 1 ≡ pc + 2 = omega arith in e) (turn.nearer_next valid law after load_at refl) in
         omega (arith, one, two)
+
+  -- the spot was not written, and no more words than below it are left
+  pub unwritten : {pc1 top1 : ℕ} {cells1 : List Cell} {executed1 from1 : ℕ} → top1 ≤ top → IsTurn code steps pc1 left top1 (slice_set stack top (spot_word first size)) cells1 place executed1 from1 level taken written hand stand plan → IsTurn code steps pc1 left top1 stack cells1 place executed1 from1 level taken written hand stand plan
+  unwritten {pc1} {top1} {cells1} {executed1} {from1} low u =
+      record {
+        held = λ input. subst (λ pile. Held (program code) (taken ++ input) steps pc1 left pile cells1 place code.dummies level (tape_at hand written input) executed1 from1) (pile_above stack top top1 (spot_word first size) low) (u.held input);
+        within = let w = t.within in omega (arith, low, w);
+        order = u.order;
+        units = u.units;
+        among = u.among;
+        opened = u.opened;
+        in_hand = u.in_hand;
+      }

@@ -1,14 +1,15 @@
 // The instructions of a DO.
-ghost use Rattle.std.specs.Prelude.{◌≡◌, ◌<◌, ◌^◌, pos, ◌≤ℤ◌, length, IfSome, MatchOption};
+ghost use Rattle.std.specs.Prelude.{◌≡◌, ◌+◌, ◌<◌, ◌≤◌, ◌^◌, ℕ, pos, ◌≤ℤ◌, List, length, slice_set, IfSome, IfOk, MatchOption};
 ghost use Rattle.ground.specs.declared.trap.Trap.TheVariants.{Undefined};
 ghost use Rattle.ground.specs.declared.value.Kind.TheVariants.{Integer};
 ghost use Rattle.ground.specs.Arithmetic.{IsInRange};
 ghost use Rattle.ground.specs.Content.{Whole};
-ghost use Rattle.f66_tree.specs.World.{Traps};
+ghost use Rattle.f66_tree.specs.World.{Traps, Store};
 ghost use Rattle.f66_tree.specs.Evaluation.{asked};
 ghost use Rattle.stack_code.specs.Instructions.{LoopStart, LoopTurn};
 ghost use Rattle.stack_code.specs.StackMachine.{limit_in, step_in};
-ghost use Rattle.runner.specs.Words.{IsSmall, content_of};
+ghost use Rattle.runner.specs.Words.{IsSmall, Agrees, content_of, spot_word};
+ghost use Rattle.runner.specs.declared.words.Word.{Word as TheWord};
 ghost use Rattle.runner.specs.Work.{MayHold, Holds, LeapsOver, IsRoomFor, IsRoomBehind, IsWayOf, fits, next_in};
 
 use crate::places::{cell_at, keep, unit_of};
@@ -151,5 +152,45 @@ pub(crate) fn loop_turn(
                 }
             }
         }
+    }
+}
+
+/// The same where the variable's spot lies on the stack, which need not be written there. So many words are below it.
+#[inline(always)]
+pub(crate) fn variable_turn(
+    first: u32,
+    limit: u32,
+    step: u32,
+    to: u32,
+    pc: usize,
+    top: usize,
+    cells: &mut [Cell],
+) -> Result<(usize, usize), Trap>
+    requires unit { first < length cells.old }
+    requires limit { limit < length cells.old }
+    requires step { step < length cells.old }
+    requires few { pc < 2 ^ 63 }
+    requires agrees { (st : Store) × Agrees cells.old st }
+    ensures leaps { (buffer : List TheWord) (size : ℕ) → top < length buffer → 1 ≤ size → LeapsOver (LoopTurn limit step to) pc (slice_set buffer top (spot_word first size)) (top + 1) cells.old cells.new result }
+    ensures top { IfOk result (λ r. r.1 ≡ top) }
+    ensures way { IsWayOf (LoopTurn limit step to) pc result }
+{
+    let unit = first as usize;
+    match whole_in(cell_at(cells, unit)) {
+        None => Err(Trap::Undefined),
+        Some(value) => match next_value(
+            value,
+            cell_at(cells, limit as usize),
+            cell_at(cells, step as usize),
+        ) {
+            Some(next) => {
+                keep(cells, unit, Cell::Whole(next));
+                Ok((to as usize, top))
+            }
+            None => {
+                keep(cells, unit, Cell::Nothing);
+                Ok((pc + 1, top))
+            }
+        },
     }
 }

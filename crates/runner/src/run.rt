@@ -12,7 +12,7 @@ use crate::branches::leap;
 use crate::elements::element;
 use crate::frames::{Resume, call, caller_below, dummy, keep_caller};
 use crate::intrinsics::known;
-use crate::loops::{loop_start, loop_turn};
+use crate::loops::{loop_start, loop_turn, variable_turn};
 use crate::places::{forget, lend, load, store, variable};
 use crate::records::record_step;
 use crate::values::{both, minus, not, push_integer, push_spot, push_truth};
@@ -306,8 +306,7 @@ pub(crate) fn run_code<S: Source, K: Sink>(
                         ),
                     }
                 } else if let Some((limit, step, to)) = turn_behind(size, &ops[pc + 1]) {
-                    let above = push_spot(first, size, stack, top);
-                    match loop_turn(limit, step, to, pc + 1, stack, above, cells) {
+                    match variable_turn(first, limit, step, to, pc + 1, top, cells) {
                         Ok((next, rest)) => {
                             executed = counted(executed, from, pc + 1);
                             pc = next;

@@ -1,5 +1,5 @@
 -- Each turn of the loop: what it needs, what it keeps, and that it is nearer the end.
-use Rattle.std.proofs.Common.{suc, subst, ◌*◌, ◌≤◌, ◌<◌, ◌+◌, length, refl, sym, ap, ◌∙◌, arith, None, Some}
+use Rattle.std.proofs.Common.{suc, subst, ◌*◌, ◌≤◌, ◌<◌, ◌+◌, length, refl, sym, ap, ◌∙◌, arith, None, Some, []}
 use Rattle.stack_code.specs.Views.{code_of, instruction_of}
 use Rattle.stack_code.specs.ValidCode.{is_counted}
 use Rattle.runner.specs.declared.run.Role.TheVariants as role
@@ -144,77 +144,65 @@ returns-in-Err-variable g c =
     let load_at = next ∙ ap Some (c.is_load.ensures c.if-is_load.true) in
     answered g.S.Source.left g.K.Sink.puts g.S.Source.faults g.K.Sink.faults c.args.input.now c.turn.input c.args.out.now c.turn.out c.args.code.now c.args.steps _ _ _ _ c.over-in-Err-variable.ensures (whole c.turn.invariant c.requires.unread _ _ _ (turn.holds_over c.requires.ready.valid c.valid_is_safe.ensures after load_at c.counted-in-Err-variable.ensures (c.in-Err-variable.ensures.works c.in-Spots.size)))
 
-pub push_spot-above-requires-clause-some : goal.push_spot-above-requires-clause-some
-push_spot-above-requires-clause-some g c =
+pub variable_turn-requires-clause-unit : goal.variable_turn-requires-clause-unit
+variable_turn-requires-clause-unit g c =
     let at = turn.stands c.requires.ready.valid c.valid_is_safe.ensures c.turn.invariant.turn c.index-ops-pc.result c.deref-ops.result.now c.deref-ops.ensures.value c.index-ops-pc.is in
     let here = at ∙ ap Some (roles.told (role.Spots c.in-Spots.first c.in-Spots.size) (instruction_of c.index-ops-pc.result) (sym c.in-Spots.is ∙ c.role_of.ensures)) in
     let room = subst (λ n. suc c.args.code.now.depth * c.args.code.now.stack ≤ n) (sym c.turn.auto.stack) c.requires.ready.room in
-    (spots.ranges c.requires.ready.valid c.valid_is_safe.ensures c.requires.ready.few c.turn.invariant.turn room c.in-Spots.first c.in-Spots.size here).0
+    spots.unit_there c.requires.ready.valid c.valid_is_safe.ensures c.requires.ready.few c.turn.invariant.turn room c.in-Spots.first c.in-Spots.size here
 
-pub push_spot-above-requires-clause-few : goal.push_spot-above-requires-clause-few
-push_spot-above-requires-clause-few g c =
+pub variable_turn-requires-clause-limit : goal.variable_turn-requires-clause-limit
+variable_turn-requires-clause-limit g c =
     let at = turn.stands c.requires.ready.valid c.valid_is_safe.ensures c.turn.invariant.turn c.index-ops-pc.result c.deref-ops.result.now c.deref-ops.ensures.value c.index-ops-pc.is in
     let here = at ∙ ap Some (roles.told (role.Spots c.in-Spots.first c.in-Spots.size) (instruction_of c.index-ops-pc.result) (sym c.in-Spots.is ∙ c.role_of.ensures)) in
     let room = subst (λ n. suc c.args.code.now.depth * c.args.code.now.stack ≤ n) (sym c.turn.auto.stack) c.requires.ready.room in
-    (spots.ranges c.requires.ready.valid c.valid_is_safe.ensures c.requires.ready.few c.turn.invariant.turn room c.in-Spots.first c.in-Spots.size here).1
-
-pub push_spot-above-requires-clause-work : goal.push_spot-above-requires-clause-work
-push_spot-above-requires-clause-work g c =
-    let at = turn.stands c.requires.ready.valid c.valid_is_safe.ensures c.turn.invariant.turn c.index-ops-pc.result c.deref-ops.result.now c.deref-ops.ensures.value c.index-ops-pc.is in
-    let here = at ∙ ap Some (roles.told (role.Spots c.in-Spots.first c.in-Spots.size) (instruction_of c.index-ops-pc.result) (sym c.in-Spots.is ∙ c.role_of.ensures)) in
-    let room = subst (λ n. suc c.args.code.now.depth * c.args.code.now.stack ≤ n) (sym c.turn.auto.stack) c.requires.ready.room in
-    turn.may_work c.requires.ready.valid c.valid_is_safe.ensures c.turn.invariant.turn here room
-
-pub loop_turn-requires-in-Some-clause-limit : goal.loop_turn-requires-in-Some-clause-limit
-loop_turn-requires-in-Some-clause-limit g c =
-    let at = turn.stands c.requires.ready.valid c.valid_is_safe.ensures c.turn.invariant.turn c.index-ops-pc.result c.deref-ops.result.now c.deref-ops.ensures.value c.index-ops-pc.is in
-    let here = at ∙ ap Some (roles.told (role.Spots c.in-Spots.first c.in-Spots.size) (instruction_of c.index-ops-pc.result) (sym c.in-Spots.is ∙ c.role_of.ensures)) in
-    let after = turn.works_on c.requires.ready.valid c.valid_is_safe.ensures c.turn.invariant.turn here refl c.push_spot-above.ensures.works c.push_spot-above.ensures.room in
+    let after = spots.after c.requires.ready.valid c.valid_is_safe.ensures c.requires.ready.few c.turn.invariant.turn room c.in-Spots.first c.in-Spots.size here in
     let there = turn.stands c.requires.ready.valid c.valid_is_safe.ensures after c.index-ops-pc-else-is_load.result c.deref-ops.result.now c.deref-ops.ensures.value c.index-ops-pc-else-is_load.is ∙ ap Some c.in-Some.ensures in
     subst (λ n. c.in-Some.limit < n) (sym after.units) (roles.loop_units (code_of c.args.code.now.ops.items) (length c.args.code.now.plans.items) c.args.code.now.units (c.turn.pc + 1) c.in-Some.limit c.in-Some.step c.in-Some.to (turn.in_range c.requires.ready.valid c.valid_is_safe.ensures after there)).0
 
-pub loop_turn-requires-in-Some-clause-step : goal.loop_turn-requires-in-Some-clause-step
-loop_turn-requires-in-Some-clause-step g c =
+pub variable_turn-requires-clause-step : goal.variable_turn-requires-clause-step
+variable_turn-requires-clause-step g c =
     let at = turn.stands c.requires.ready.valid c.valid_is_safe.ensures c.turn.invariant.turn c.index-ops-pc.result c.deref-ops.result.now c.deref-ops.ensures.value c.index-ops-pc.is in
     let here = at ∙ ap Some (roles.told (role.Spots c.in-Spots.first c.in-Spots.size) (instruction_of c.index-ops-pc.result) (sym c.in-Spots.is ∙ c.role_of.ensures)) in
-    let after = turn.works_on c.requires.ready.valid c.valid_is_safe.ensures c.turn.invariant.turn here refl c.push_spot-above.ensures.works c.push_spot-above.ensures.room in
+    let room = subst (λ n. suc c.args.code.now.depth * c.args.code.now.stack ≤ n) (sym c.turn.auto.stack) c.requires.ready.room in
+    let after = spots.after c.requires.ready.valid c.valid_is_safe.ensures c.requires.ready.few c.turn.invariant.turn room c.in-Spots.first c.in-Spots.size here in
     let there = turn.stands c.requires.ready.valid c.valid_is_safe.ensures after c.index-ops-pc-else-is_load.result c.deref-ops.result.now c.deref-ops.ensures.value c.index-ops-pc-else-is_load.is ∙ ap Some c.in-Some.ensures in
     subst (λ n. c.in-Some.step < n) (sym after.units) (roles.loop_units (code_of c.args.code.now.ops.items) (length c.args.code.now.plans.items) c.args.code.now.units (c.turn.pc + 1) c.in-Some.limit c.in-Some.step c.in-Some.to (turn.in_range c.requires.ready.valid c.valid_is_safe.ensures after there)).1
 
-pub loop_turn-requires-in-Some-clause-hold : goal.loop_turn-requires-in-Some-clause-hold
-loop_turn-requires-in-Some-clause-hold g c =
-    let at = turn.stands c.requires.ready.valid c.valid_is_safe.ensures c.turn.invariant.turn c.index-ops-pc.result c.deref-ops.result.now c.deref-ops.ensures.value c.index-ops-pc.is in
-    let here = at ∙ ap Some (roles.told (role.Spots c.in-Spots.first c.in-Spots.size) (instruction_of c.index-ops-pc.result) (sym c.in-Spots.is ∙ c.role_of.ensures)) in
-    let after = turn.works_on c.requires.ready.valid c.valid_is_safe.ensures c.turn.invariant.turn here refl c.push_spot-above.ensures.works c.push_spot-above.ensures.room in
-    let there = turn.stands c.requires.ready.valid c.valid_is_safe.ensures after c.index-ops-pc-else-is_load.result c.deref-ops.result.now c.deref-ops.ensures.value c.index-ops-pc-else-is_load.is ∙ ap Some c.in-Some.ensures in
-    let room = subst (λ n. suc c.args.code.now.depth * c.args.code.now.stack ≤ n) (sym c.turn.auto.stack ∙ sym c.push_spot-above.auto.stack) c.requires.ready.room in
-    turn.may_hold c.requires.ready.valid c.valid_is_safe.ensures after there room
+pub variable_turn-requires-clause-agrees : goal.variable_turn-requires-clause-agrees
+variable_turn-requires-clause-agrees g c =
+    (_, (c.turn.invariant.turn.held []).live.agrees)
 
-pub turn-smaller-in-Ok-loop_turn-2 : goal.turn-smaller-in-Ok-loop_turn-2
-turn-smaller-in-Ok-loop_turn-2 g c =
+pub turn-smaller-in-Ok-variable_turn : goal.turn-smaller-in-Ok-variable_turn
+turn-smaller-in-Ok-variable_turn g c =
     let at = turn.stands c.requires.ready.valid c.valid_is_safe.ensures c.turn.invariant.turn c.index-ops-pc.result c.deref-ops.result.now c.deref-ops.ensures.value c.index-ops-pc.is in
     let here = at ∙ ap Some (roles.told (role.Spots c.in-Spots.first c.in-Spots.size) (instruction_of c.index-ops-pc.result) (sym c.in-Spots.is ∙ c.role_of.ensures)) in
-    let after = turn.works_on c.requires.ready.valid c.valid_is_safe.ensures c.turn.invariant.turn here refl c.push_spot-above.ensures.works c.push_spot-above.ensures.room in
+    let room = subst (λ n. suc c.args.code.now.depth * c.args.code.now.stack ≤ n) (sym c.turn.auto.stack) c.requires.ready.room in
+    let after = spots.after c.requires.ready.valid c.valid_is_safe.ensures c.requires.ready.few c.turn.invariant.turn room c.in-Spots.first c.in-Spots.size here in
     let there = turn.stands c.requires.ready.valid c.valid_is_safe.ensures after c.index-ops-pc-else-is_load.result c.deref-ops.result.now c.deref-ops.ensures.value c.index-ops-pc-else-is_load.is ∙ ap Some c.in-Some.ensures in
     let one = turn.nearer_next c.requires.ready.valid c.valid_is_safe.ensures c.turn.invariant.turn here refl in
-    let two = turn.nearer_end c.requires.ready.valid c.valid_is_safe.ensures after there refl c.in-Ok-loop_turn-2.ensures.way in
+    let two = turn.nearer_end c.requires.ready.valid c.valid_is_safe.ensures after there refl c.in-Ok-variable_turn.ensures.way in
     omega (arith, one, two)
 
-pub turn-preserved-in-Ok-loop_turn-2 : goal.turn-preserved-in-Ok-loop_turn-2
-turn-preserved-in-Ok-loop_turn-2 g c =
+pub turn-preserved-in-Ok-variable_turn : goal.turn-preserved-in-Ok-variable_turn
+turn-preserved-in-Ok-variable_turn g c =
     let at = turn.stands c.requires.ready.valid c.valid_is_safe.ensures c.turn.invariant.turn c.index-ops-pc.result c.deref-ops.result.now c.deref-ops.ensures.value c.index-ops-pc.is in
     let here = at ∙ ap Some (roles.told (role.Spots c.in-Spots.first c.in-Spots.size) (instruction_of c.index-ops-pc.result) (sym c.in-Spots.is ∙ c.role_of.ensures)) in
-    let after = turn.works_on c.requires.ready.valid c.valid_is_safe.ensures c.turn.invariant.turn here refl c.push_spot-above.ensures.works c.push_spot-above.ensures.room in
+    let room = subst (λ n. suc c.args.code.now.depth * c.args.code.now.stack ≤ n) (sym c.turn.auto.stack) c.requires.ready.room in
+    let after = spots.after c.requires.ready.valid c.valid_is_safe.ensures c.requires.ready.few c.turn.invariant.turn room c.in-Spots.first c.in-Spots.size here in
     let there = turn.stands c.requires.ready.valid c.valid_is_safe.ensures after c.index-ops-pc-else-is_load.result c.deref-ops.result.now c.deref-ops.ensures.value c.index-ops-pc-else-is_load.is ∙ ap Some c.in-Some.ensures in
-    keeps_on c.turn.invariant (turn.loops_on c.requires.ready.valid c.valid_is_safe.ensures after there c.counted-executed-in-Ok-loop_turn-2.ensures c.in-Ok-loop_turn-2.ensures.way refl c.in-Ok-loop_turn-2.ensures.leaps c.in-Ok-loop_turn-2.ensures.room (omega arith))
+    let low = c.in-Ok-variable_turn.ensures.top in
+    let high = after.within in
+    keeps_on c.turn.invariant (spots.unwritten c.requires.ready.valid c.valid_is_safe.ensures c.requires.ready.few c.turn.invariant.turn room c.in-Spots.first c.in-Spots.size here (omega (arith, low)) (turn.loops_on c.requires.ready.valid c.valid_is_safe.ensures after there c.counted-executed-in-Ok-variable_turn.ensures c.in-Ok-variable_turn.ensures.way refl (c.in-Ok-variable_turn.ensures.leaps c.turn.stack c.in-Spots.size (spots.has_room c.requires.ready.valid c.valid_is_safe.ensures c.requires.ready.few c.turn.invariant.turn room c.in-Spots.first c.in-Spots.size here) (spots.ranges c.requires.ready.valid c.valid_is_safe.ensures c.requires.ready.few c.turn.invariant.turn room c.in-Spots.first c.in-Spots.size here).0) (omega (arith, low, high)) (omega arith)))
 
-pub returns-in-Err-loop_turn-2 : goal.returns-in-Err-loop_turn-2
-returns-in-Err-loop_turn-2 g c =
+pub returns-in-Err-variable_turn : goal.returns-in-Err-variable_turn
+returns-in-Err-variable_turn g c =
     let at = turn.stands c.requires.ready.valid c.valid_is_safe.ensures c.turn.invariant.turn c.index-ops-pc.result c.deref-ops.result.now c.deref-ops.ensures.value c.index-ops-pc.is in
     let here = at ∙ ap Some (roles.told (role.Spots c.in-Spots.first c.in-Spots.size) (instruction_of c.index-ops-pc.result) (sym c.in-Spots.is ∙ c.role_of.ensures)) in
-    let after = turn.works_on c.requires.ready.valid c.valid_is_safe.ensures c.turn.invariant.turn here refl c.push_spot-above.ensures.works c.push_spot-above.ensures.room in
+    let room = subst (λ n. suc c.args.code.now.depth * c.args.code.now.stack ≤ n) (sym c.turn.auto.stack) c.requires.ready.room in
+    let after = spots.after c.requires.ready.valid c.valid_is_safe.ensures c.requires.ready.few c.turn.invariant.turn room c.in-Spots.first c.in-Spots.size here in
     let there = turn.stands c.requires.ready.valid c.valid_is_safe.ensures after c.index-ops-pc-else-is_load.result c.deref-ops.result.now c.deref-ops.ensures.value c.index-ops-pc-else-is_load.is ∙ ap Some c.in-Some.ensures in
-    answered g.S.Source.left g.K.Sink.puts g.S.Source.faults g.K.Sink.faults c.args.input.now c.turn.input c.args.out.now c.turn.out c.args.code.now c.args.steps _ _ _ _ c.over-in-Err-loop_turn-2.ensures (whole c.turn.invariant c.requires.unread _ _ _ (turn.loops_over c.requires.ready.valid c.valid_is_safe.ensures after there c.counted-in-Err-loop_turn-2.ensures c.in-Err-loop_turn-2.ensures.leaps))
+    answered g.S.Source.left g.K.Sink.puts g.S.Source.faults g.K.Sink.faults c.args.input.now c.turn.input c.args.out.now c.turn.out c.args.code.now c.args.steps _ _ _ _ c.over-in-Err-variable_turn.ensures (whole c.turn.invariant c.requires.unread _ _ _ (turn.loops_over c.requires.ready.valid c.valid_is_safe.ensures after there c.counted-in-Err-variable_turn.ensures (c.in-Err-variable_turn.ensures.leaps c.turn.stack c.in-Spots.size (spots.has_room c.requires.ready.valid c.valid_is_safe.ensures c.requires.ready.few c.turn.invariant.turn room c.in-Spots.first c.in-Spots.size here) (spots.ranges c.requires.ready.valid c.valid_is_safe.ensures c.requires.ready.few c.turn.invariant.turn room c.in-Spots.first c.in-Spots.size here).0)))
 
 pub push_spot-top-requires-clause-some : goal.push_spot-top-requires-clause-some
 push_spot-top-requires-clause-some g c =
