@@ -1,7 +1,7 @@
 -- The lemmas of rat_grammar.
-mod LineLemmas
+pub mod LineLemmas
 mod Examples
-mod TokenLemmas
+pub mod TokenLemmas
 mod Readings
 mod Steps
 mod Taken

@@ -1,0 +1,2 @@
+-- The lemmas of efl_grammar.
+mod Examples

@@ -1,0 +1,2 @@
+//! The published grammar of EFL, and that the parse table gives the same trees.
+#![tactic(auto)]
