@@ -64,7 +64,8 @@ fn advance_at(reach: Reach, stack: &[Word], subscript: usize, size: usize) -> Op
     advance(reach, value_of(stack, subscript), value_of(stack, size))
 }
 
-/// How far an element is from its array's first one, by so many subscripts and dimensions.
+/// How far an element is from its array's first one, by so many subscripts and dimensions. It stands apart from the loop that runs
+/// code, whose registers its own loop would take.
 #[inline(never)]
 fn far_of(stack: &[Word], subscripts: usize, sizes: usize, count: usize) -> Option<u64>
     requires subscripts { subscripts + count ≤ length stack.now }
