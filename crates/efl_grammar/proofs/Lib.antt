@@ -1,2 +1,10 @@
 -- The lemmas of efl_grammar.
 mod Examples
+mod TokenLemmas
+mod Taken
+mod Readings
+mod Steps
+mod ExpressionsRead
+mod AllSteps
+mod ExpressionsFound
+mod Published

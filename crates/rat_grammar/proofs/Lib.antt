@@ -2,9 +2,9 @@
 pub mod LineLemmas
 mod Examples
 pub mod TokenLemmas
-mod Readings
+pub mod Readings
 mod Steps
-mod Taken
+pub mod Taken
 mod ExpressionsRead
 mod ExpressionsFound
 mod PlainRead

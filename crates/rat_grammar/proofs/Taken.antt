@@ -73,7 +73,7 @@ pub data Either (j k : TokenKind) (a b : Tokens) (y : Token) : Type 0 where
   first : Exact j a b y → Either j k a b y
   second : Exact k a b y → Either j k a b y
 
-either_of : (j k : TokenKind) (y : Token) (ts : Tokens) → (y.kind ≡ j) ⊎ (y.kind ≡ k) → Either j k (y ∷ ts) ts y
+pub either_of : (j k : TokenKind) (y : Token) (ts : Tokens) → (y.kind ≡ j) ⊎ (y.kind ≡ k) → Either j k (y ∷ ts) ts y
 either_of j k y ts (inl h) = first (exact_of j y ts h)
 either_of j k y ts (inr h) = second (exact_of k y ts h)
 
@@ -224,14 +224,14 @@ equivalence_word = a_word t.Equivalence (codes "EQUIVALENCE") (λ i h. h)
 pub data Spelled (x : Text) : Tokens → Tokens → Token → Type 0 where
   spelled : {w : Text} {p : Place} {ts : Tokens} → capitals w ≡ x → Spelled x (token (kinds.Word w) p ∷ ts) ts (token (kinds.Word w) p)
 
-spelled_of : (x : Text) (y : Token) (ts : Tokens) → IsWord x y.kind → Spelled x (y ∷ ts) ts y
+pub spelled_of : (x : Text) (y : Token) (ts : Tokens) → IsWord x y.kind → Spelled x (y ∷ ts) ts y
 spelled_of x y ts h = subst (λ j. Spelled x (token j y.place ∷ ts) ts (token j y.place)) (sym h.1) (spelled h.2)
 
 pub data Choice (x z : Text) (a b : Tokens) (y : Token) : Type 0 where
   this : Spelled x a b y → Choice x z a b y
   that : Spelled z a b y → Choice x z a b y
 
-choice_of : (x z : Text) (y : Token) (ts : Tokens) → IsWord x y.kind ⊎ IsWord z y.kind → Choice x z (y ∷ ts) ts y
+pub choice_of : (x z : Text) (y : Token) (ts : Tokens) → IsWord x y.kind ⊎ IsWord z y.kind → Choice x z (y ∷ ts) ts y
 choice_of x z y ts (inl h) = this (spelled_of x y ts h)
 choice_of x z y ts (inr h) = that (spelled_of z y ts h)
 

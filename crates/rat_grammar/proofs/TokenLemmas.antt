@@ -231,7 +231,7 @@ right false b h = absurd (untrue h)
 cons_same : {s c : ℕ} {ss cs : Text} → s ≡ c → cs ≡ ss → c ∷ cs ≡ s ∷ ss
 cons_same h k = cc
 
-same_is : (s w : Text) → same s w ≡ true → w ≡ s
+pub same_is : (s w : Text) → same s w ≡ true → w ≡ s
 same_is [] [] h = refl
 same_is [] (c ∷ cs) h = absurd (untrue h)
 same_is (s ∷ ss) [] h = absurd (untrue h)
