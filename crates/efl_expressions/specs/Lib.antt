@@ -1,2 +1,3 @@
 -- The definitions that the contracts of efl_expressions cite.
 pub mod Forms
+pub mod TypeViews

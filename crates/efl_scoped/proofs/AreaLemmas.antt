@@ -99,7 +99,7 @@ module _ (g : Table) (distinct : AreDistinct g) (above : AreAbove g) where
       each true l is = refl
       each false l is = absurd cc
 
-  sort_matches : (t u : DataType) (a b : Sort) → TellsSort g t a → TellsSort g u b → sort_agrees a b ≡ agrees t u
+  pub sort_matches : (t u : DataType) (a b : Sort) → TellsSort g t a → TellsSort g u b → sort_agrees a b ≡ agrees t u
   sort_matches t u a b one two =
       ap (λ x. (x || b.faulty) || nat_eq a.number b.number) one.faulty ∙ ap (λ x. (is_faulty t || x) || nat_eq a.number b.number) two.faulty ∙ each (is_faulty t) (is_faulty u) refl refl
     where

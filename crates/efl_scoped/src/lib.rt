@@ -10,3 +10,6 @@ mod shapes;
 mod summaries;
 
 pub use checking::{Scoped, scope};
+pub use numbers::Pairs;
+pub use shapes::{integer, logical, no_type};
+pub use summaries::{Summary, bounded, with_members};

@@ -62,7 +62,8 @@ impl<'a> Shapes<'a> {
     }
 }
 
-fn no_type() -> Summary
+/// Of what has no type.
+pub fn no_type() -> Summary
     ensures { (f : Table) → Tells f NoType result }
 {
     Summary {
@@ -72,7 +73,8 @@ fn no_type() -> Summary
     }
 }
 
-fn integer() -> Summary
+/// Of integers.
+pub fn integer() -> Summary
     ensures { (f : Table) → Tells f (Scalar Integer) result }
 {
     Summary {
@@ -82,7 +84,8 @@ fn integer() -> Summary
     }
 }
 
-fn logical() -> Summary
+/// Of logical values.
+pub fn logical() -> Summary
     ensures { (f : Table) → Tells f (Scalar Logical) result }
 {
     Summary {

@@ -1,0 +1,2 @@
+-- The lemmas of efl_expressions.
+pub mod TypeLemmas
