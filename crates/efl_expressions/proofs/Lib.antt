@@ -1,2 +1,3 @@
 -- The lemmas of efl_expressions.
 pub mod TypeLemmas
+pub mod NameLemmas

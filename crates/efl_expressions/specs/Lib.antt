@@ -1,3 +1,4 @@
 -- The definitions that the contracts of efl_expressions cite.
 pub mod Forms
 pub mod TypeViews
+pub mod NameViews
