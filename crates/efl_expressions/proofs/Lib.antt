@@ -1,3 +1,4 @@
 -- The lemmas of efl_expressions.
 pub mod TypeLemmas
 pub mod NameLemmas
+pub mod RuleLemmas

@@ -1,4 +1,5 @@
 -- The definitions that the contracts of efl_expressions cite.
 pub mod Forms
+pub mod FirstRule
 pub mod TypeViews
 pub mod NameViews
