@@ -32,3 +32,10 @@ lower_assoc (Some r) (Some s) (Some t) = each (nat_le (rule_number r) (rule_numb
 pub first_of_both : (rs ss : List TypeRule) → first_rule (rs ++ ss) ≡ or_lower (first_rule rs) (first_rule ss)
 first_of_both [] ss = refl
 first_of_both (r ∷ rs) ss = ap (or_lower (Some r)) (first_of_both rs ss) ∙ sym (lower_assoc (Some r) (first_rule rs) (first_rule ss))
+
+pub first_of_four : (ps qs rs ss : List TypeRule) → first_rule (ps ++ qs ++ rs ++ ss) ≡ or_lower (first_rule ps) (or_lower (first_rule qs) (or_lower (first_rule rs) (first_rule ss)))
+first_of_four ps qs rs ss =
+    first_of_both (ps ++ qs ++ rs) ss
+    ∙ ap (λ x. or_lower x (first_rule ss)) (first_of_both (ps ++ qs) rs ∙ ap (λ x. or_lower x (first_rule rs)) (first_of_both ps qs))
+    ∙ lower_assoc (or_lower (first_rule ps) (first_rule qs)) (first_rule rs) (first_rule ss)
+    ∙ lower_assoc (first_rule ps) (first_rule qs) (or_lower (first_rule rs) (first_rule ss))

@@ -2,6 +2,7 @@
 //! type.
 #![tactic(auto)]
 
+mod checks;
 mod forms;
 mod intrinsics;
 mod names;
@@ -9,6 +10,7 @@ mod operators;
 mod rules;
 mod types;
 
+pub use checks::{Checked, grouped, negated, number, paired, signed, truth};
 pub use forms::{Form, fit_sides, fits, is_same, is_single, lacks_type, value_form};
 pub use intrinsics::{Arity, known, takes};
 pub use names::{
