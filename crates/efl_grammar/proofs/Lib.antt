@@ -5,6 +5,8 @@ mod Taken
 mod Readings
 mod Steps
 mod ExpressionsRead
+mod DeclarationsRead
+mod StatementsRead
 mod AllSteps
 mod ExpressionsFound
 mod Published

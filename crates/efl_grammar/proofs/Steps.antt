@@ -111,11 +111,6 @@ mutual
             (read_trees steps cs h.1 (value_of grammar c ∷ vs) h.2 b h.5),
       )
 
--- of a part of which nothing is said
-pub pass : (xs : List ASymbol) (vs : List Val) (a c : Tokens) (f : List Val → Val) → Taking xs vs c (λ ws b. (y : Val) × (f ws ≡ y) × Unit {0})
-pass [] vs a c f = (f vs, refl, tt)
-pass (x ∷ xs) vs a c f = λ y m s. pass xs ((symbol_reading x).view y ∷ vs) a m f
-
 pub reads : ((p : Production) → Step p) → (c : Tree Token Production) (x : ASymbol) (a b : Tokens) → Derives grammar c x a b →
     Reads (symbol_reading x) a b (value_of grammar c)
 reads = read_tree

@@ -1,6 +1,7 @@
 -- What is known of a token that the table takes.
-use Rattle.std.proofs.Common.{◌≡◌, ℕ, [], ◌∷◌, refl, sym, subst}
+use Rattle.std.proofs.Common.{◌≡◌, ℕ, [], ◌∷◌, refl, sym, subst, ◌⊎◌, inl, inr, ap}
 use Rattle.std.specs.Prelude.{codes}
+use Rattle.std.specs.Char.{to_ascii_uppercase}
 use Rattle.ground.specs.declared.token.Token.{Token}
 use Rattle.ground.specs.declared.token.TokenKind.{TokenKind}
 use Rattle.ground.specs.declared.token.TokenKind.TheVariants as kinds
@@ -11,12 +12,14 @@ use Rattle.efl_parse_table.specs.declared.table.Terminal.{Terminal}
 use Rattle.efl_parse_table.specs.declared.table.Terminal.TheVariants as t
 use Rattle.efl_parse_table.specs.Words.{seen}
 use Rattle.efl_parse_values.specs.Values.{tok}
-use Rattle.efl_parse_values.specs.Parts.{kind_name, kind_integer, kind_sign, name_in, letter_in, integer_in, sign_in, operator_of}
+use Rattle.efl_parse_values.specs.Parts.{kind_name, kind_integer, kind_sign, name_in, letter_in, integer_in, sign_in, operator_of, kind_text, text_in}
 use Rattle.rat_grammar.specs.Tokens.{Tokens, token, one, Word, Number, place_at}
 use Rattle.rat_grammar.proofs.TokenLemmas.{IsWord}
 use Rattle.rat_grammar.proofs.Taken.{Exact, exact_of, Choice, choice_of, Either, either_of, word_here}
 use Rattle.efl_grammar.specs.Tokens.{Name, name, Letter}
 use Rattle.efl_grammar.specs.Expressions as e
+use Rattle.efl_grammar.specs.Statements.{WriteItem, chars}
+use Rattle.efl_tree.specs.Syntax.{Chars}
 use Rattle.efl_grammar.proofs.TokenLemmas.{Is, IsName, IsLetter, IsOperator, AnAssign, seen_is}
 
 -- a token that is taken
@@ -227,3 +230,26 @@ floating_word (taken {y = y} {ts = ts} h) = choice_of (codes "REAL") (codes "COM
 
 pub leave_word : {a b : Tokens} {y : Token} → Taken t.Leave a b y → Choice (codes "BREAK") (codes "NEXT") a b y
 leave_word (taken {y = y} {ts = ts} h) = choice_of (codes "BREAK") (codes "NEXT") y ts (seen_is t.Leave y h)
+
+-- ---- the letters of edits, and texts ----
+
+is_one_letter_word : (x c : ℕ) (k : TokenKind) → IsLetter c k → to_ascii_uppercase c ≡ x → IsWord (x ∷ []) k
+is_one_letter_word x c k h e = (c ∷ [], h.0, ap (λ z. z ∷ []) e)
+
+is_width_word : (c : ℕ) (k : TokenKind) → IsLetter c k → (to_ascii_uppercase c ≡ 73) ⊎ (to_ascii_uppercase c ≡ 76) → IsWord (codes "I") k ⊎ IsWord (codes "L") k
+is_width_word c k h (inl e) = inl (is_one_letter_word 73 c k h e)
+is_width_word c k h (inr e) = inr (is_one_letter_word 76 c k h e)
+
+pub width_word : {a b : Tokens} {y : Token} → Taken t.WidthLetter a b y → Choice (codes "I") (codes "L") a b y
+width_word (taken {y = y} {ts = ts} h) =
+    let k : Is t.WidthLetter y.kind = seen_is t.WidthLetter y h in choice_of (codes "I") (codes "L") y ts (is_width_word k.0 y.kind k.1 k.2)
+
+pub char_word : {a b : Tokens} {y : Token} → Taken t.CharLetter a b y → Word (codes "C") a b
+char_word = a_word t.CharLetter (codes "C") (λ i h. is_one_letter_word 67 h.0 i h.1 h.2)
+
+pub skip_word : {a b : Tokens} {y : Token} → Taken t.SkipLetter a b y → Word (codes "X") a b
+skip_word = a_word t.SkipLetter (codes "X") (λ i h. is_one_letter_word 88 h.0 i h.1 h.2)
+
+pub quoted : {a b : Tokens} {y : Token} → Taken t.Quoted a b y → WriteItem a b (Chars (text_in (tok y)))
+quoted (taken {y = y} {ts = ts} h) =
+    let k : Is t.Quoted y.kind = seen_is t.Quoted y h in subst (λ j. WriteItem (token j y.place ∷ ts) ts (Chars (kind_text j))) (sym k.2) (chars one)

@@ -1,19 +1,20 @@
 -- That the parse table derives the trees of the published grammar, and no others.
-use Rattle.std.specs.Prelude.{◌≡◌}
+use Rattle.std.specs.Prelude.{◌≡◌, List}
 use Rattle.ground.specs.declared.token.Token.{Token}
 use Rattle.grammar.specs.declared.language.Symbol.{Symbol}
 use Rattle.grammar.specs.declared.language.Symbol.TheVariants.{Nonterminal}
-use Rattle.grammar.specs.Grammar.{Tree, Derives, value_of}
-use Rattle.efl_tree.specs.Syntax.{EflExpr}
+use Rattle.grammar.specs.Grammar.{Tree, Derives, value_of, IsProgram}
+use Rattle.efl_tree.specs.Syntax.{EflExpr, EflProgram}
 use Rattle.efl_parse_table.specs.declared.table.Terminal.{Terminal as ATerminal}
 use Rattle.efl_parse_table.specs.declared.table.Nonterminal.{Nonterminal as ANonterminal}
 use Rattle.efl_parse_table.specs.declared.table.Nonterminal.TheVariants as nonterminals
 use Rattle.efl_parse_table.specs.declared.table.Production.{Production}
-use Rattle.efl_parse_values.specs.Values.{Val, expr}
+use Rattle.efl_parse_values.specs.Values.{Val, expr, program}
 use Rattle.efl_parse.specs.Efl.{grammar}
 use Rattle.rat_grammar.specs.Tokens.{Tokens}
 use Rattle.rat_grammar.specs.Laws.{IsSome}
 use Rattle.efl_grammar.specs.Expressions.{Expr}
+use Rattle.efl_grammar.specs.Programs.{Program}
 
 -- a derivation by the table of the tokens of the first list that stand before the second, and the value that it gives
 pub record Found (x : Symbol ATerminal ANonterminal) (a b : Tokens) (v : Val) : Type 0 where
@@ -25,3 +26,7 @@ pub record Found (x : Symbol ATerminal ANonterminal) (a b : Tokens) (v : Val) : 
 pub record ExpressionsArePublished : Type 0 where
   pub read : (a b : Tokens) (e : EflExpr) → Found (Nonterminal nonterminals.Expr) a b (expr e) → Expr a b e
   pub found : (a b : Tokens) (e : EflExpr) → IsSome b → Expr a b e → Found (Nonterminal nonterminals.Expr) a b (expr e)
+
+-- The program that the table gives of a text is one that the text has.
+pub record ProgramsAreRead : Type 0 where
+  pub read : (ts : List Token) (r : EflProgram) → IsProgram grammar ts (program r) → Program ts r

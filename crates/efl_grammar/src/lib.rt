@@ -3,4 +3,4 @@
 
 mod laws;
 
-pub use laws::expressions_are_published;
+pub use laws::{expressions_are_published, programs_are_read};
