@@ -9,4 +9,6 @@ mod DeclarationsRead
 mod StatementsRead
 mod AllSteps
 mod ExpressionsFound
+mod ListsFound
+mod DeclarationsFound
 mod Published
