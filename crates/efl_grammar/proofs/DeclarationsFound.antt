@@ -1,5 +1,5 @@
 -- The table derives each type, each list of variables and each preset of the published grammar.
-use Rattle.std.proofs.Common.{◌≡◌, ◌∙◌, Bool, true, false, ℕ, ℤ, List, [], ◌∷◌, Option, None, Some, refl, sym, ap}
+use Rattle.std.proofs.Common.{◌≡◌, Bool, true, false, ℕ, ℤ, List, [], ◌∷◌, refl, sym, ap}
 use Rattle.std.specs.Prelude.{codes}
 use Rattle.ground.specs.declared.place.Place.{Place}
 use Rattle.ground.specs.declared.token.TokenKind.TheVariants as kinds
@@ -101,7 +101,7 @@ found_vars vs s =
 
 -- ---- types ----
 
-found_base : {a b : Tokens} {k : EflType} → d.BaseType a b k → FoundPart n.BaseType a b (val.typed (place_at a) k)
+pub found_base : {a b : Tokens} {k : EflType} → d.BaseType a b k → FoundPart n.BaseType a b (val.typed (place_at a) k)
 unfolding built
 found_base (d.integer (word {w = w} {p = q} h)) = given (ap (λ z. val.typed q z) (type_is w (codes "INTEGER") q false h)) (make p.PlainType tt _ _ _ (the_word (codes "INTEGER") t.Plain refl h))
 found_base (d.logical (word {w = w} {p = q} h)) = given (ap (λ z. val.typed q z) (type_is w (codes "LOGICAL") q false h)) (make p.PlainType tt _ _ _ (the_word (codes "LOGICAL") t.Plain refl h))
@@ -119,6 +119,7 @@ group_lines (Lines.line one l) q = make p.GroupLine tt _ _ _ (found_token t.Line
 
 mutual
   unfolding built
+
   pub found_type : {a b : Tokens} {k : EflType} → d.AType a b k → IsSome b → FoundPart n.Type a b (val.typed (place_at a) k)
   found_type (d.base c) s = make p.BasicType tt _ _ _ (found_base c)
   found_type (d.AType.named (d.NamedType.name (name h))) s = make p.NamedType tt _ _ _ (found_name _ _ _ h)

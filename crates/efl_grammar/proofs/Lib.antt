@@ -11,4 +11,5 @@ mod AllSteps
 mod ExpressionsFound
 mod ListsFound
 mod DeclarationsFound
+mod OuterFound
 mod Published

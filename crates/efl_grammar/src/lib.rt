@@ -3,4 +3,4 @@
 
 mod laws;
 
-pub use laws::{expressions_are_published, programs_are_read};
+pub use laws::{declared_parts_are_published, expressions_are_published, programs_are_read};
