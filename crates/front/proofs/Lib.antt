@@ -1,5 +1,6 @@
 -- The lemmas of front.
 pub mod FirstFaults
+mod ScopeFaults
 mod SaidPlaces
 mod SaidNames
 mod OneMeaning

@@ -19,10 +19,11 @@ use Rattle.efl_parse_table.specs.Limits as efl_limits
 use Rattle.efl_parse_values.specs.Values as efl_values
 use Rattle.front.specs.Checked.{Checked, Faulty, Means}
 use Rattle.front.specs.Ratfor.{IsJudged}
-use Rattle.front.specs.Efl.{unbuilt_of}
+use Rattle.front.specs.Efl as efl_front
 use Rattle.front.specs.Verdict.{Verdict, IsChecked, in_files, IsVerdictOf}
 use Rattle.front.specs.Laws.{OneFirstFault, AcceptedHasNone, OneMeaning, OneVerdict}
 use Rattle.front.proofs.FirstFaults.{one_fault, no_fault, one_tree}
+use Rattle.front.proofs.ScopeFaults.{one_first, scoped_has_none}
 
 -- a text has one first fault, or one tree
 record HasOneAnswer {W : Type 0} (First : List Token → Fault → Type 0) (Accepts : List Token → W → Type 0) : Type 0 where
@@ -65,8 +66,11 @@ one_efl = record {
 
 -- ---- what comes of a text ----
 
-one_unbuilt : (tree : EflProgram) (a b : Checked) → a ≡ unbuilt_of tree → b ≡ unbuilt_of tree → a ≡ b
-one_unbuilt tree a b h k = h ∙ sym k
+one_scoped : (tree : EflProgram) (a b : Checked) → efl_front.IsJudged tree a → efl_front.IsJudged tree b → a ≡ b
+one_scoped tree a b (inl h) (inl k) = h.2 ∙ (ap Faulty (one_first tree h.0 k.0 h.1 k.1) ∙ sym k.2)
+one_scoped tree a b (inl h) (inr k) = absurd (scoped_has_none tree h.0 k.0 h.1)
+one_scoped tree a b (inr h) (inl k) = absurd (scoped_has_none tree k.0 h.0 k.1)
+one_scoped tree a b (inr h) (inr k) = h.1 ∙ sym k.1
 
 module _ (same : AnswersArePublished) (faults : OneFirstFault) (none : AcceptedHasNone) (meanings : OneMeaning) where
   one_judged : (p : RatProgram) (a b : Checked) → IsJudged p a → IsJudged p b → a ≡ b
@@ -77,7 +81,7 @@ module _ (same : AnswersArePublished) (faults : OneFirstFault) (none : AcceptedH
 
   one_checked : (d : Dialect) → (ts : List Token) → (a b : Checked) → IsChecked d ts a → IsChecked d ts b → a ≡ b
   one_checked Ratfor ts a b h k = one_found IsFirstFault IsAccepted (one_ratfor same) IsJudged one_judged ts a b h k
-  one_checked Efl ts a b h k = one_found (table_answers.IsFirstFault efl.grammar efl_limits.meter) AcceptsEfl one_efl (λ tree c. c ≡ unbuilt_of tree) one_unbuilt ts a b h k
+  one_checked Efl ts a b h k = one_found (table_answers.IsFirstFault efl.grammar efl_limits.meter) AcceptsEfl one_efl efl_front.IsJudged one_scoped ts a b h k
 
   one_of : (d : Dialect) → (told : Result GatherState Stop) → (a b : Verdict) → IsVerdictOf d told a → IsVerdictOf d told b → a ≡ b
   one_of d (Err stop) a b h k = h ∙ sym k

@@ -1,4 +1,4 @@
--- What becomes of the tokens of an EFL text: its first fault. What the grammar accepts is not built yet.
+-- What becomes of the tokens of an EFL text: its first fault, of the grammar and then of scopes. What both accept is not built yet.
 use Rattle.std.specs.Prelude.{◌≡◌, ◌⊎◌, List, [], ◌∷◌}
 use Rattle.ground.specs.declared.fault.Fault.{Fault}
 use Rattle.ground.specs.declared.fault.FaultKind.TheVariants.{Unbuilt}
@@ -11,6 +11,7 @@ use Rattle.efl_parse.specs.Efl.{grammar}
 use Rattle.efl_parse_table.specs.Limits.{meter}
 use Rattle.efl_parse_values.specs.Values.{program}
 use Rattle.efl_tree.specs.Syntax.{EflDecl, Statement, EflStmts, NoStmt, AndStmt, EflProcedure, EflProgram}
+use Rattle.efl_scoped.specs.Answers.{IsScoped, IsFirst}
 use Rattle.front.specs.Checked.{Checked, Faulty}
 
 -- ---- what is not built ----
@@ -30,10 +31,16 @@ unbuilt_place (p ∷ ps) finish = first_part p.declarations p.body p.finish
 abbrev pub unbuilt_of : EflProgram → Checked
 unbuilt_of tree = Faulty (fault_at (unbuilt_place tree.procedures tree.finish) Unbuilt)
 
+-- ---- scopes ----
+
+-- the first fault of scopes, or the first part of a tree without one
+abbrev pub IsJudged : EflProgram → Checked → Type 0
+IsJudged tree c = ((fault : Fault) × IsFirst tree fault × (c ≡ Faulty fault)) ⊎ (IsScoped tree × (c ≡ unbuilt_of tree))
+
 -- ---- parse ----
 
--- the first fault at the grammar or at a limit, or the first part of what is accepted
+-- the first fault at the grammar or at a limit, or what is said of the tree
 abbrev pub IsEfl : List Token → Checked → Type 0
 IsEfl ts c =
     ((fault : Fault) × IsFirstFault grammar meter ts fault × (c ≡ Faulty fault))
-    ⊎ ((tree : EflProgram) × IsAccepted grammar meter ts (program tree) × (c ≡ unbuilt_of tree))
+    ⊎ ((tree : EflProgram) × IsAccepted grammar meter ts (program tree) × IsJudged tree c)

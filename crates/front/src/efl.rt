@@ -1,25 +1,45 @@
 // From the tokens of an EFL text to its fault.
 ghost use Rattle.std.specs.Prelude.{◌≡◌};
+ghost use Rattle.ground.specs.Faults.{fault_at};
+ghost use Rattle.ground.specs.declared.fault.FaultKind.TheVariants.{Unbuilt};
 ghost use Rattle.efl_tree.specs.Views.{procedure_of, program_of};
 ghost use Rattle.macro_define.specs.GatherAnswers.{EndsText};
-ghost use Rattle.front.specs.Efl.{IsEfl, first_part, unbuilt_place};
+ghost use Rattle.front.specs.Efl.{IsEfl, IsJudged, first_part, unbuilt_place};
 ghost use Rattle.front.specs.Translated.{Refused};
 
 use efl_parse::parse;
+use efl_scoped::scope;
 use efl_tree::{EflProcedure, EflProgram};
 use ground::{Fault, FaultKind, List, Place, Refusal, Token};
 use std::alloc::Global;
 
-/// What a text with these tokens is refused for: what its grammar accepts is not built yet (Feldman, The Programming Language
-/// EFL, 1979).
-pub fn refusal_of(alloc: Global, tokens: &List<Token>) -> Refusal
-    requires { EndsText tokens.now.items }
-    ensures { Refused (IsEfl tokens.now.items) result }
+/// What a text with these tokens is refused for: the first fault of its grammar or of its scopes; what both accept is not built
+/// yet (Feldman, The Programming Language EFL, 1979).
+pub fn refusal_of(alloc: Global, tokens: List<Token>) -> Refusal
+    requires { EndsText tokens.items }
+    ensures { Refused (IsEfl tokens.items) result }
 {
-    match parse(alloc, tokens) {
-        Ok(program) => Refusal::Fault(Fault::new(unbuilt_place(&program), FaultKind::Unbuilt)),
+    match parse(alloc, &tokens) {
+        Ok(program) => refusal_of_tree(alloc, program),
         Err(refusal) => refusal,
     }
+}
+
+/// What a tree is refused for.
+fn refusal_of_tree(alloc: Global, program: EflProgram) -> Refusal
+    ensures { Refused (IsJudged (program_of program)) result }
+{
+    match scope(alloc, program) {
+        Ok(scoped) => Refusal::Fault(unbuilt(scoped.program())),
+        Err(refusal) => refusal,
+    }
+}
+
+/// That a tree is not built, at its first part.
+fn unbuilt(program: &EflProgram) -> Fault
+    ensures { result ≡ fault_at (unbuilt_place (program_of program.now).procedures program.now.finish) Unbuilt }
+{
+    Fault::new(unbuilt_place(program), FaultKind::Unbuilt)
 }
 
 /// Where the first part of the first procedure stands, or the end of the text.

@@ -22,12 +22,14 @@ use rat_tree::RatProgram;
 use std::alloc::Global;
 
 /// The units of a text with these tokens, or the text's fault.
-pub fn program_of(alloc: Global, tokens: &List<Token>) -> Result<Made, Refusal>
-    requires ends { EndsText tokens.now.items }
-    requires few { length tokens.now.items ≤ 200000 }
-    ensures { Finds (IsRatfor tokens.now.items) result }
+pub fn program_of(alloc: Global, tokens: List<Token>) -> Result<Made, Refusal>
+    requires ends { EndsText tokens.items }
+    requires few { length tokens.items ≤ 200000 }
+    ensures { Finds (IsRatfor tokens.items) result }
 {
-    let program = parse(alloc, tokens)?;
+    let program = parse(alloc, &tokens)?;
+    // The tree is all that is used from here on.
+    drop(tokens);
     answers_are_published();
     parsed_has_room();
     parsed_has_few_units();

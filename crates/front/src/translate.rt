@@ -37,17 +37,17 @@ pub fn translate_text<L: Library>(
 {
     let Gathered { tokens, files } = gather(alloc, dialect, name, library)?;
     gathered_are_few();
-    match made_of(alloc, dialect, &tokens) {
+    match made_of(alloc, dialect, tokens) {
         Ok(made) => Ok(Translated { made, files }),
         Err(refusal) => Err(named(alloc, &files, refusal)),
     }
 }
 
 /// The units of a text with these tokens, or the text's fault.
-fn made_of(alloc: Global, dialect: Dialect, tokens: &List<Token>) -> Result<Made, Refusal>
-    requires ends { EndsText tokens.now.items }
-    requires few { length tokens.now.items ≤ 200000 }
-    ensures { Finds (IsChecked dialect tokens.now.items) result }
+fn made_of(alloc: Global, dialect: Dialect, tokens: List<Token>) -> Result<Made, Refusal>
+    requires ends { EndsText tokens.items }
+    requires few { length tokens.items ≤ 200000 }
+    ensures { Finds (IsChecked dialect tokens.items) result }
 {
     match dialect {
         Dialect::Ratfor => program_of(alloc, tokens),
