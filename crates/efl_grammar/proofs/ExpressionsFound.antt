@@ -343,7 +343,7 @@ pub record FoundExprs (a b : Tokens) (es : EflExprs) : Type 0 where
   pub found : FoundPart n.Expr a behind (expr first)
   pub more : FoundPart n.ExprMore behind b (exprs others)
 
-arguments : {a b : Tokens} {es : EflExprs} → FoundExprs a b es → FoundPart n.Arguments a b (exprs es)
+pub arguments : {a b : Tokens} {es : EflExprs} → FoundExprs a b es → FoundPart n.Arguments a b (exprs es)
 unfolding built
 arguments c = given (ap (λ z. exprs z) c.is) (make p.Arguments tt _ _ _ c.found _ _ c.more)
 

@@ -12,4 +12,5 @@ mod ExpressionsFound
 mod ListsFound
 mod DeclarationsFound
 mod OuterFound
+mod ActsFound
 mod Published

@@ -4,4 +4,5 @@ pub mod Expressions
 pub mod Declarations
 pub mod Statements
 pub mod Programs
+pub mod Answers
 pub mod Laws
