@@ -7,7 +7,7 @@ use Rattle.ground.specs.declared.fault.Refusal.{Refusal}
 use Rattle.ground.specs.declared.fault.Refusal.TheVariants as refusals
 use Rattle.grammar.specs.Grammar.{Parse}
 use Rattle.grammar.specs.Limits.{first_passing, history_of, IsWithin, Passes}
-use Rattle.efl_tree.specs.declared.program.EflProgram as memory
+use Rattle.efl_tree.specs.declared.procedure.EflProgram as memory
 use Rattle.efl_tree.specs.Syntax.{EflProgram}
 use Rattle.efl_tree.specs.Views.{program_of}
 use Rattle.efl_parse_table.specs.Limits.{meter}
