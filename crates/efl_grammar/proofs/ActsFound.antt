@@ -9,7 +9,7 @@ use Rattle.efl_parse_table.specs.declared.table.Nonterminal.TheVariants as n
 use Rattle.efl_parse_table.specs.declared.table.Production.TheVariants as p
 use Rattle.efl_parse_table.specs.Words.{reserved, terminal_in}
 use Rattle.efl_parse_values.specs.Kinds as part
-use Rattle.efl_parse_values.specs.Values.{Val, tok, nothing}
+use Rattle.efl_parse_values.specs.Values.{Val, nothing}
 use Rattle.efl_parse_values.specs.Values as val
 use Rattle.efl_parse_values.specs.Parts.{bare, expr_part}
 use Rattle.efl_parse_expressions.specs.Phrases.{completed}

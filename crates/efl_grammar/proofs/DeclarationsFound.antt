@@ -47,7 +47,7 @@ stop_is_some (Stop.end one) = tt
 
 -- ---- bounds and variables ----
 
-found_integral : {a b : Tokens} {z : ℤ} → Whole a b z → FoundPart n.Integral a b (val.integer z)
+pub found_integral : {a b : Tokens} {z : ℤ} → Whole a b z → FoundPart n.Integral a b (val.integer z)
 unfolding built
 found_integral (Whole.number one) = make p.PlainIntegral tt _ _ _ (found_token t.Number _ _ refl)
 found_integral (Whole.plus one one) = make p.SignedIntegral tt _ _ _ (make p.PlusSign tt _ _ _ (found_token t.Plus _ _ refl)) _ _ (found_token t.Number _ _ refl)

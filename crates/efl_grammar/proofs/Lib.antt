@@ -13,4 +13,8 @@ mod ListsFound
 mod DeclarationsFound
 mod OuterFound
 mod ActsFound
+mod StatementLemmas
+mod PartsFound
+mod StatementsFound
+mod ProgramsFound
 mod Published

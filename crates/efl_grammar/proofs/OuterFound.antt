@@ -39,7 +39,7 @@ record FoundLetter (a b : Tokens) (x : ℕ) : Type 0 where
   found : FoundPart n.AnyLetter a b (tok token)
   is : letter_in (tok token) ≡ x
 
-abbrev is_one : Text → Bool
+abbrev pub is_one : Text → Bool
 is_one [] = false
 is_one (c ∷ []) = true
 is_one (c ∷ d ∷ ds) = false

@@ -47,10 +47,10 @@ use Rattle.efl_grammar.proofs.ExpressionsRead.{a_step}
 pub is_other : (x y w : Text) → capitals w ≡ y → is_spelled x w ≡ same x y
 is_other x y w h = spelled_same x w ∙ ap (same x) h
 
-abbrev loop_by : Bool → Bool → Bool → Bool → LoopKind
+abbrev pub loop_by : Bool → Bool → Bool → Bool → LoopKind
 loop_by w f r z = if w then loops.While else (if f then loops.For else (if r then loops.Repeat else (if z then loops.Do else loops.Switch)))
 
-loop_is : (w x : Text) (q : Place) → capitals w ≡ x →
+pub loop_is : (w x : Text) (q : Place) → capitals w ≡ x →
     loop_named (tok (token (kinds.Word w) q)) ≡ loop_by (same (codes "WHILE") x) (same (codes "FOR") x) (same (codes "REPEAT") x) (same (codes "DO") x)
 loop_is w x q h =
     ap (λ v. loop_by v (is_spelled (codes "FOR") w) (is_spelled (codes "REPEAT") w) (is_spelled (codes "DO") w)) (is_other (codes "WHILE") x w h)

@@ -222,3 +222,7 @@ terminal_named x = terminal_of reserved x
 
 pub word_seen_as : (x : Text) (k : Terminal) (w : Text) → capitals w ≡ x → terminal_named x ≡ Some k → word_terminal w ≡ k
 word_seen_as x k w h e = ap (λ o. word_seen o w) (terminal_by_capitals reserved w ∙ ap (terminal_of reserved) h ∙ e)
+
+-- a word is no reserved one where its capitals are none
+pub free_by : (x : Text) (w : Text) → capitals w ≡ x → terminal_named x ≡ None → terminal_in reserved w ≡ None
+free_by x w h e = terminal_by_capitals reserved w ∙ ap (terminal_of reserved) h ∙ e
