@@ -18,3 +18,4 @@ mod PartsFound
 mod StatementsFound
 mod ProgramsFound
 mod Published
+mod AnswersPublished

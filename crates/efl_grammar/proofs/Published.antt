@@ -13,7 +13,7 @@ use Rattle.efl_parse_table.specs.declared.table.Nonterminal.TheVariants as n
 use Rattle.efl_parse_values.specs.Values.{expr, typed, vars, preset, program}
 use Rattle.rat_grammar.specs.Tokens.{Tokens, place_at}
 use Rattle.efl_grammar.specs.Expressions.{Expr}
-use Rattle.efl_grammar.specs.Laws.{Found, ExpressionsArePublished, DeclaredPartsArePublished, ProgramsAreRead}
+use Rattle.efl_grammar.specs.Laws.{Found, ExpressionsArePublished, DeclaredPartsArePublished}
 use Rattle.efl_grammar.proofs.Readings.{reading}
 use Rattle.efl_grammar.proofs.Steps.{Reads, reads, reads_whole}
 use Rattle.efl_grammar.proofs.AllSteps.{steps}
@@ -68,13 +68,10 @@ declared_parts = record {
 pub same_program : (r s : EflProgram) → program r ≡ program s → r ≡ s
 same_program r s e = cc
 
-as_program : (ts : Tokens) (r : EflProgram) → (reading n.Program).Says ts [] r → u.Program ts r
+pub as_program : (ts : Tokens) (r : EflProgram) → (reading n.Program).Says ts [] r → u.Program ts r
 as_program ts r q = subst (λ v. u.Program ts (record { procedures = r.procedures; finish = v })) (sym q.5) (u.program q.2 q.3 q.4)
 
 pub program_read : (ts : List Token) (r : EflProgram) → IsProgram grammar ts (program r) → u.Program ts r
 program_read ts r h =
     let k : Reads (reading n.Program) ts [] _ = reads_whole steps h.0 in
     subst (λ s. u.Program ts s) (same_program k.0 r (sym k.1 ∙ h.1)) (as_program ts k.0 k.2)
-
-pub programs : ProgramsAreRead
-programs = record { read = program_read }

@@ -43,10 +43,6 @@ pub record DeclaredPartsArePublished : Type 0 where
   pub preset_read : (a b : Tokens) (x : EflPreset) → Found (Nonterminal nonterminals.Preset) a b (preset x) → Preset a b x
   pub preset_found : (a b : Tokens) (x : EflPreset) → IsSome b → Preset a b x → Found (Nonterminal nonterminals.Preset) a b (preset x)
 
--- The program that the table gives of a text is one that the text has.
-pub record ProgramsAreRead : Type 0 where
-  pub read : (ts : List Token) (r : EflProgram) → IsProgram grammar ts (program r) → Program ts r
-
 -- The program of a text is the one that the table gives, and there is no other.
 pub record ProgramsArePublished : Type 0 where
   pub read : (ts : List Token) (r : EflProgram) → IsProgram grammar ts (program r) → Program ts r

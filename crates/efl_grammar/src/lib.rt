@@ -3,4 +3,7 @@
 
 mod laws;
 
-pub use laws::{declared_parts_are_published, expressions_are_published, programs_are_read};
+pub use laws::{
+    answers_are_published, declared_parts_are_published, expressions_are_published,
+    programs_are_published,
+};
