@@ -21,4 +21,5 @@ mod FormatsFound
 mod EntriesFound
 mod PlainFound
 mod StatementsFound
+pub mod Related
 mod AnswersPublished

@@ -6,5 +6,6 @@ pub mod Declarations
 pub mod Plain
 pub mod Statements
 pub mod Programs
+pub mod Relation
 pub mod Answers
 pub mod Laws

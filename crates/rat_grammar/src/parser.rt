@@ -1,7 +1,7 @@
 // The parser of Ratfor, by its published grammar.
-ghost use Rattle.rat_grammar.specs.Answers.{Answers, EndsText};
+ghost use Rattle.rat_grammar.specs.Answers.{Answers};
+ghost use Rattle.rat_grammar.specs.Relation.{EndsText};
 
-use crate::laws::answers_are_published;
 use ground::{List, Refusal, Token};
 use rat_tree::RatProgram;
 use std::alloc::Global;
@@ -14,6 +14,5 @@ pub fn parse(alloc: Global, tokens: &List<Token>) -> Result<RatProgram, Refusal>
     requires { EndsText tokens.now.items }
     ensures { Answers tokens.now.items result }
 {
-    answers_are_published();
     rat_parse::parse(alloc, tokens)
 }

@@ -6,4 +6,4 @@ pub parse-requires : goal.parse-requires
 parse-requires c = ends c.args.tokens.now.items c.requires
 
 pub returns : goal.returns
-returns c = answered c.answers_are_published.ensures c.args.tokens.now.items c.parse.result c.parse.ensures
+returns c = answered c.args.tokens.now.items c.parse.result c.parse.ensures
