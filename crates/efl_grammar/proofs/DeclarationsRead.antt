@@ -23,7 +23,7 @@ use Rattle.rat_grammar.proofs.TokenLemmas.{untrue, same}
 use Rattle.rat_grammar.proofs.LineLemmas.{joined_lines}
 use Rattle.rat_grammar.proofs.Readings.{Lined}
 use Rattle.rat_grammar.proofs.Taken.{exact, Either, first, second, sole, Choice, this, that, spelled}
-use Rattle.efl_grammar.specs.Tokens.{Name, name, Natural, Whole, NoStop, StopIfAny, ShapeStop}
+use Rattle.efl_grammar.specs.Tokens.{Name, name, Natural, Whole, StopIfAny, ShapeStop}
 use Rattle.efl_grammar.specs.Declarations as d
 use Rattle.efl_grammar.proofs.TokenLemmas.{spelled_same, letter_by}
 use Rattle.efl_grammar.proofs.Taken as taken
@@ -84,7 +84,7 @@ joined_groups {a} {w = w} {vs = vs} {gs = gs} c v st h r = (r.0, subst (λ z. d.
 
 -- ---- where a stop may be missing ----
 
-no_stop : (a : Tokens) → Allowed p.NoLooseEnding a → NoStop a
+no_stop : (a : Tokens) → Allowed p.NoLooseEnding a → (b : Tokens) → Stop a b → ⊥
 no_stop a h b (Stop.line one) = untrue h
 no_stop a h b (Stop.semicolon one) = untrue h
 no_stop a h b (Stop.brace one) = untrue h

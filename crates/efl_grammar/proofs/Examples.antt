@@ -13,7 +13,7 @@ use Rattle.efl_tree.specs.declared.statement.EflEdit.TheVariants as edits
 use Rattle.efl_tree.specs.declared.statement.LoopKind.TheVariants as loops
 use Rattle.efl_tree.specs.Syntax as efl
 use Rattle.efl_tree.specs.Syntax.{Text, EflExpr, EflPlace, Int, At, Call, Minus, Not, Pair, NoExpr, AndExpr, Path, NoStep, Member, Overlay, Named, NoGroup, AndGroup, EflKind, If, IfElse, NoStmt, AndStmt}
-use Rattle.rat_grammar.specs.Tokens.{Perhaps, Tokens, token, one, capitals, Word, word, Lines, Stop, Several, Listed}
+use Rattle.rat_grammar.specs.Tokens.{Perhaps, Tokens, token, one, capitals, Word, word, Lines, Stop, Several, Listed, here as first, there as later}
 use Rattle.efl_grammar.specs.Tokens.{Name, name, Natural, Whole, StopIfAny, ShapeStop}
 use Rattle.efl_grammar.specs.Expressions as e
 use Rattle.efl_grammar.specs.Declarations as d
@@ -66,12 +66,12 @@ expr_of q = e.disj (e.conj (e.neg (e.rel (e.sum q))))
 -- a + -a * 2: a unary sign is higher than `+` and as high as `*`
 signs_and_levels : e.Expr (w 1 (codes "a") ∷ sign 1 signs.Plus ∷ sign 1 signs.Minus ∷ w 1 (codes "a") ∷ sign 1 signs.Star ∷ number 1 2 ∷ []) []
     (Pair operators.Add (At a) (Pair operators.Mul (Minus (At a)) (Int (pos 2))))
-signs_and_levels = expr_of (e.added (sum_of a_power) (e.plus_sign one) (e.times (e.unary (e.minus one (e.power a_power))) (e.star one) a_number))
+signs_and_levels = expr_of (e.added (sum_of a_power) (first one) (e.times (e.unary (e.minus one (e.power a_power))) (first one) a_number))
 
 -- a - a - a groups to the left
 to_the_left : e.Expr (w 1 (codes "a") ∷ sign 1 signs.Minus ∷ w 1 (codes "a") ∷ sign 1 signs.Minus ∷ w 1 (codes "a") ∷ []) []
     (Pair operators.Sub (Pair operators.Sub (At a) (At a)) (At a))
-to_the_left = expr_of (e.added (e.added (sum_of a_power) (e.minus_sign one) (term_of a_power)) (e.minus_sign one) (term_of a_power))
+to_the_left = expr_of (e.added (e.added (sum_of a_power) (later (first one)) (term_of a_power)) (later (first one)) (term_of a_power))
 
 -- -a ** a ** 2 groups to the right, and the sign is that of the power
 to_the_right : e.Expr (sign 1 signs.Minus ∷ w 1 (codes "a") ∷ sign 1 signs.Power ∷ w 1 (codes "a") ∷ sign 1 signs.Power ∷ number 1 2 ∷ []) []
@@ -82,7 +82,7 @@ to_the_right = expr_of (e.term (e.unary (e.minus one (e.power (e.raised (e.place
 negations : e.Expr (sign 1 signs.Not ∷ sign 1 signs.Minus ∷ w 1 (codes "a") ∷ sign 1 signs.Eq ∷ w 1 (codes "a") ∷ sign 1 signs.AndThen ∷ w 1 (codes "a") ∷ []) []
     (Pair operators.AndThen (Not (Pair operators.Eq (Minus (At a)) (At a))) (At a))
 negations =
-    e.disj (e.conj (e.and (e.neg (e.not one (e.rel (e.compared (e.term (e.unary (e.minus one (e.power a_power)))) (e.eq one) (sum_of a_power))))) (e.and_then_sign one)
+    e.disj (e.conj (e.and (e.neg (e.not one (e.rel (e.compared (e.term (e.unary (e.minus one (e.power a_power)))) (later (later (first one))) (sum_of a_power))))) (later (first one))
     (e.rel (e.sum (sum_of a_power)))))
 
 -- a(2).a -> a
@@ -95,7 +95,7 @@ a_path = e.path (name refl) (e.some_subs (e.subs one (e.last (expr_of (sum_of a_
 -- a = a += f()
 assignments : e.Act (w 1 (codes "a") ∷ sign 1 signs.Assign ∷ w 1 (codes "a") ∷ sign 1 signs.AddAssign ∷ w 1 (codes "f") ∷ sign 1 signs.Open ∷ sign 1 signs.Close ∷ []) []
     (efl.Assign None a (efl.Assign (Some operators.Add) a (Call (codes "F") NoExpr)))
-assignments = e.stored a_place (e.assign_sign one) (e.assignment a_place (e.add_assign one) (expr_of (sum_of (e.operand (e.call (name refl) one one)))))
+assignments = e.stored a_place (first one) (e.assignment a_place (later (first one)) (expr_of (sum_of (e.operand (e.call (name refl) one one)))))
 
 -- ---- declarations ----
 
@@ -151,7 +151,7 @@ abbrev sets : ℕ → EflKind
 sets k = efl.Act (efl.Assign None a (Int (pos k)))
 
 assigned : {n k : ℕ} {ts x : Tokens} → Stop ts x → s.Body (w n (codes "a") ∷ sign n signs.Assign ∷ number n k ∷ ts) x (sets k)
-assigned st = s.act (e.stored a_place (e.assign_sign one) (expr_of (sum_of a_number))) st
+assigned st = s.act (e.stored a_place (first one) (expr_of (sum_of a_number))) st
 
 condition : {n : ℕ} {ts : Tokens} → e.Condition (sign n signs.Open ∷ w n (codes "a") ∷ sign n signs.Close ∷ ts) ts (At a)
 condition = e.condition one (expr_of (sum_of a_power)) one

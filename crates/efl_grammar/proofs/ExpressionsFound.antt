@@ -4,6 +4,7 @@ use Rattle.std.specs.Prelude.{codes}
 use Rattle.ground.specs.declared.place.Place.{Place}
 use Rattle.ground.specs.declared.token.Token.{Token}
 use Rattle.ground.specs.declared.token.TokenKind.TheVariants as kinds
+use Rattle.ground.specs.declared.token.Sign.{Sign as ASign}
 use Rattle.ground.specs.declared.token.Sign.TheVariants as signs
 use Rattle.grammar.specs.declared.language.Symbol.TheVariants.{Terminal, Nonterminal}
 use Rattle.efl_tree.specs.declared.expression.EflOperator.{EflOperator}
@@ -13,13 +14,14 @@ use Rattle.efl_parse_table.specs.declared.table.Terminal.{Terminal as ATerminal}
 use Rattle.efl_parse_table.specs.declared.table.Terminal.TheVariants as t
 use Rattle.efl_parse_table.specs.declared.table.Nonterminal.TheVariants as n
 use Rattle.efl_parse_table.specs.declared.table.Production.TheVariants as p
-use Rattle.efl_parse_table.specs.Words.{reserved, terminal_in, is_spelled, is_letter, word_seen, seen}
+use Rattle.efl_parse_table.specs.Words.{reserved, terminal_in, is_spelled, is_letter, word_seen, seen, sign_terminal}
 use Rattle.efl_parse_values.specs.Kinds.{Joins, Tail, Reached, Stored}
 use Rattle.efl_parse_values.specs.Values.{tok, expr, exprs, joins, rest, path, steps}
 use Rattle.efl_parse_values.specs.Parts.{sign_in, operator_of, bare}
 use Rattle.efl_parse_expressions.specs.Phrases.{joined, ended}
-use Rattle.rat_grammar.specs.Tokens.{Tokens, token, one, capitals, word}
+use Rattle.rat_grammar.specs.Tokens.{Tokens, token, one, capitals, word, here, there}
 use Rattle.rat_grammar.specs.Laws.{IsSome}
+use Rattle.rat_grammar.proofs.TokenLemmas.{SignHere, stands, sign_here}
 use Rattle.efl_grammar.specs.Tokens.{name}
 use Rattle.efl_grammar.specs.Expressions as e
 use Rattle.efl_grammar.specs.Laws.{Found}
@@ -99,26 +101,27 @@ pub record FoundOperator (x : ASymbol) (a b : Tokens) (o : EflOperator) : Type 0
   pub found : Found x a b (tok token)
   pub is : operator_of (sign_in (tok token)) ≡ o
 
+-- a sign that the table sees as this terminal stands for this operator
+abbrev IsFor : ATerminal → ASign → EflOperator → Type 0
+IsFor k s o = (sign_terminal s ≡ k) × (operator_of s ≡ o)
+
+operator_here : (k : ATerminal) {a b : Tokens} {o : EflOperator} → SignHere (IsFor k) a b o → FoundOperator (Terminal k) a b o
+operator_here k (stands one h) = record { token = _; found = found_token k _ _ h.0; is = h.1 }
+
 the_relation : {a b : Tokens} {o : EflOperator} → e.Relation a b o → FoundOperator (Terminal t.Relation) a b o
-the_relation (e.lt one) = record { token = _; found = found_token t.Relation _ _ refl; is = refl }
-the_relation (e.le one) = record { token = _; found = found_token t.Relation _ _ refl; is = refl }
-the_relation (e.eq one) = record { token = _; found = found_token t.Relation _ _ refl; is = refl }
-the_relation (e.ne one) = record { token = _; found = found_token t.Relation _ _ refl; is = refl }
-the_relation (e.ge one) = record { token = _; found = found_token t.Relation _ _ refl; is = refl }
-the_relation (e.gt one) = record { token = _; found = found_token t.Relation _ _ refl; is = refl }
+the_relation r = operator_here t.Relation (sign_here (IsFor t.Relation) r ((refl, refl), ((refl, refl), ((refl, refl), ((refl, refl), ((refl, refl), ((refl, refl), tt)))))))
 
 the_and : {a b : Tokens} {o : EflOperator} → e.AndSign a b o → FoundOperator (Terminal t.And) a b o
-the_and (e.and_sign one) = record { token = _; found = found_token t.And _ _ refl; is = refl }
-the_and (e.and_then_sign one) = record { token = _; found = found_token t.And _ _ refl; is = refl }
+the_and r = operator_here t.And (sign_here (IsFor t.And) r ((refl, refl), ((refl, refl), tt)))
 
 the_or : {a b : Tokens} {o : EflOperator} → e.OrSign a b o → FoundOperator (Terminal t.Or) a b o
-the_or (e.or_sign one) = record { token = _; found = found_token t.Or _ _ refl; is = refl }
-the_or (e.or_else_sign one) = record { token = _; found = found_token t.Or _ _ refl; is = refl }
+the_or r = operator_here t.Or (sign_here (IsFor t.Or) r ((refl, refl), ((refl, refl), tt)))
 
 the_adding : {a b : Tokens} {o : EflOperator} → e.AddSign a b o → FoundOperator (Nonterminal n.Adding) a b o
 unfolding built
-the_adding (e.plus_sign one) = record { token = _; found = make p.PlusSign tt _ _ _ (found_token t.Plus _ _ refl); is = refl }
-the_adding (e.minus_sign one) = record { token = _; found = make p.MinusSign tt _ _ _ (found_token t.Minus _ _ refl); is = refl }
+the_adding (here one) = record { token = _; found = make p.PlusSign tt _ _ _ (found_token t.Plus _ _ refl); is = refl }
+the_adding (there (here one)) = record { token = _; found = make p.MinusSign tt _ _ _ (found_token t.Minus _ _ refl); is = refl }
+the_adding (there (there h)) = elim h [ ]
 
 joins_is : {o s : EflOperator} {f g : EflExpr} {js : Joins} → o ≡ s → f ≡ g → joins ((o, f) ∷ js) ≡ joins ((s, g) ∷ js)
 joins_is {s = s} {f = f} {js = js} h k = ap (λ z. joins ((z, f) ∷ js)) h ∙ ap (λ z. joins ((s, z) ∷ js)) k
@@ -287,8 +290,9 @@ disj_expr c = given (ap (λ z. expr z) (ap (λ z. joined z c.js) c.conj.is ∙ c
 times_tail : {a b c d : Tokens} {o : EflOperator} {x : EflExpr} {js : Joins} → e.TimesSign a b o → FoundPower b c x → FoundPart n.TermTail c d (joins js) →
     FoundPart n.TermTail a d (joins ((o, x) ∷ js))
 unfolding built
-times_tail {js = js} (e.star one) c k = given (ap (λ z. joins ((operators.Mul, z) ∷ js)) c.is) (make p.TimesMore tt _ _ _ (found_token t.Star _ _ refl) _ _ c.operand.prime _ _ c.tail _ _ k)
-times_tail {js = js} (e.slash one) c k = given (ap (λ z. joins ((operators.Div, z) ∷ js)) c.is) (make p.OverMore tt _ _ _ (found_token t.Slash _ _ refl) _ _ c.operand.prime _ _ c.tail _ _ k)
+times_tail {js = js} (here one) c k = given (ap (λ z. joins ((operators.Mul, z) ∷ js)) c.is) (make p.TimesMore tt _ _ _ (found_token t.Star _ _ refl) _ _ c.operand.prime _ _ c.tail _ _ k)
+times_tail {js = js} (there (here one)) c k = given (ap (λ z. joins ((operators.Div, z) ∷ js)) c.is) (make p.OverMore tt _ _ _ (found_token t.Slash _ _ refl) _ _ c.operand.prime _ _ c.tail _ _ k)
+times_tail (there (there h)) c k = elim h [ ]
 
 sum_tail : {a b c d : Tokens} {o : EflOperator} {x : EflExpr} {js : Joins} → FoundOperator (Nonterminal n.Adding) a b o → FoundTerm b c x → FoundPart n.SumTail c d (joins js) →
     FoundPart n.SumTail a d (joins ((o, x) ∷ js))
@@ -309,18 +313,19 @@ or_tail : {a b c d : Tokens} {o : EflOperator} {x : EflExpr} {js : Joins} → Fo
 unfolding built
 or_tail s c k = given (joins_is s.is c.is) (make p.OrMore tt _ _ _ s.found _ _ (neg_part c.neg) _ _ c.tail _ _ k)
 
+-- a sign of an assignment with this operator
+abbrev IsStored : ASign → Option EflOperator → Type 0
+IsStored s o = (sign_terminal s ≡ t.OperatorAssign) × (Some (operator_of s) ≡ o)
+
+storing_by : {a b c : Tokens} {o : Option EflOperator} {x : EflExpr} → SignHere IsStored a b o → FoundPart n.Expr b c (expr x) → FoundPart n.Storing a c (rest (bare (Stored o x)))
+unfolding built
+storing_by {x = x} (stands one h) c =
+    given (ap (λ z. rest (bare (Stored z x))) h.1) (make p.OperatorStoring tt _ _ _ (found_token t.OperatorAssign _ _ h.0) _ _ c)
+
 pub storing : {a b c : Tokens} {o : Option EflOperator} {x : EflExpr} → e.Assign a b o → FoundPart n.Expr b c (expr x) → FoundPart n.Storing a c (rest (bare (Stored o x)))
 unfolding built
-storing (e.assign_sign one) c = make p.PlainStoring tt _ _ _ (found_token t.Assign _ _ refl) _ _ c
-storing (e.add_assign one) c = make p.OperatorStoring tt _ _ _ (found_token t.OperatorAssign _ _ refl) _ _ c
-storing (e.sub_assign one) c = make p.OperatorStoring tt _ _ _ (found_token t.OperatorAssign _ _ refl) _ _ c
-storing (e.mul_assign one) c = make p.OperatorStoring tt _ _ _ (found_token t.OperatorAssign _ _ refl) _ _ c
-storing (e.div_assign one) c = make p.OperatorStoring tt _ _ _ (found_token t.OperatorAssign _ _ refl) _ _ c
-storing (e.power_assign one) c = make p.OperatorStoring tt _ _ _ (found_token t.OperatorAssign _ _ refl) _ _ c
-storing (e.and_assign one) c = make p.OperatorStoring tt _ _ _ (found_token t.OperatorAssign _ _ refl) _ _ c
-storing (e.or_assign one) c = make p.OperatorStoring tt _ _ _ (found_token t.OperatorAssign _ _ refl) _ _ c
-storing (e.and_then_assign one) c = make p.OperatorStoring tt _ _ _ (found_token t.OperatorAssign _ _ refl) _ _ c
-storing (e.or_else_assign one) c = make p.OperatorStoring tt _ _ _ (found_token t.OperatorAssign _ _ refl) _ _ c
+storing (here one) c = make p.PlainStoring tt _ _ _ (found_token t.Assign _ _ refl) _ _ c
+storing (there r) c = storing_by (sign_here IsStored r ((refl, refl), ((refl, refl), ((refl, refl), ((refl, refl), ((refl, refl), ((refl, refl), ((refl, refl), ((refl, refl), ((refl, refl), tt)))))))))) c
 
 prefixed : {a b : Tokens} {x : EflExpr} → FoundPart n.Prefixed a b (expr x) → FoundUnary a b x
 unfolding built

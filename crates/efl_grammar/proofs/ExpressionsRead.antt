@@ -11,7 +11,7 @@ use Rattle.efl_parse_values.specs.Kinds.{Joins, Called, Reached, Stored}
 use Rattle.efl_parse_values.specs.Values.{tok}
 use Rattle.efl_parse_values.specs.Parts.{name_in, integer_in, sign_in, is_true, operator_of, bare}
 use Rattle.efl_parse_expressions.specs.Phrases.{joined, joint, with_steps, with_arguments, completed, signed_expr, stepped}
-use Rattle.rat_grammar.specs.Tokens.{Tokens, token, one, capitals, word}
+use Rattle.rat_grammar.specs.Tokens.{Tokens, token, one, capitals, word, here, there}
 use Rattle.rat_grammar.proofs.TokenLemmas.{same}
 use Rattle.rat_grammar.proofs.Taken.{Exact, exact, Either, first, second, sole, Choice, this, that, spelled}
 use Rattle.efl_grammar.specs.Expressions as e
@@ -29,14 +29,14 @@ joined_all x js ks ls ms ns =
     ∙ ap (λ z. joined z ns) (joined_append x (js ++ ks ++ ls) ms ∙ ap (λ z. joined z ms) (joined_append x (js ++ ks) ls ∙ ap (λ z. joined z ls) (joined_append x js ks)))
 
 add_sign : {a b : Tokens} {y : Token} → Either (kinds.Sign signs.Plus) (kinds.Sign signs.Minus) a b y → e.AddSign a b (operator_of (sign_in (tok y)))
-add_sign (first exact) = e.plus_sign one
-add_sign (second exact) = e.minus_sign one
+add_sign (first exact) = here one
+add_sign (second exact) = there (here one)
 
 star : {a b : Tokens} {y : Token} → Exact (kinds.Sign signs.Star) a b y → e.TimesSign a b (operator_of (sign_in (tok y)))
-star exact = e.star one
+star exact = here one
 
 slash : {a b : Tokens} {y : Token} → Exact (kinds.Sign signs.Slash) a b y → e.TimesSign a b (operator_of (sign_in (tok y)))
-slash exact = e.slash one
+slash exact = there (here one)
 
 power_with : {a m k b : Tokens} {y : Token} {f g : EflExpr} → e.Operand a m f → Exact (kinds.Sign signs.Power) m k y → e.Power k b g →
     e.Power a b (Pair (operator_of (sign_in (tok y))) f g)
@@ -280,7 +280,7 @@ no_steps a h = (NoStep, refl, e.no_step)
 
 pub plain_storing : Step p.PlainStoring
 unfolding built
-plain_storing a h = λ y m r f b c. ((None, f), refl, (m, e.assign_sign (sole (taken.assign_sign r)), c))
+plain_storing a h = λ y m r f b c. ((None, f), refl, (m, here (sole (taken.assign_sign r)), c))
 
 pub operator_storing : Step p.OperatorStoring
 unfolding built

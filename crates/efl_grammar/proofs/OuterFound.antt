@@ -24,7 +24,7 @@ use Rattle.rat_grammar.specs.Tokens.{Tokens, token, one, capitals, word, Stop, p
 use Rattle.rat_grammar.specs.Laws.{IsSome}
 use Rattle.rat_grammar.proofs.TokenLemmas.{untrue}
 use Rattle.rat_grammar.proofs.Taken.{sole}
-use Rattle.efl_grammar.specs.Tokens.{Name, name, NoStop, StopIfAny, ShapeStop}
+use Rattle.efl_grammar.specs.Tokens.{Name, name, StopIfAny, ShapeStop}
 use Rattle.efl_grammar.specs.Declarations as d
 use Rattle.efl_grammar.proofs.Taken as taken
 use Rattle.efl_grammar.proofs.Steps.{FoundPart, Allowed, built, is_some, make, make_at, make_empty, found_token, found_empty, given}
@@ -90,7 +90,7 @@ no_loose_by t.CloseBrace f g h k = absurd (h refl)
 no_loose_by t.TextEnd f g h k = absurd (k refl)
 no_loose_by _ f g h k = refl
 
-allowed_no_loose : (a : Tokens) → IsSome a → NoStop a → Allowed p.NoLooseEnding a
+allowed_no_loose : (a : Tokens) → IsSome a → ((b : Tokens) → Stop a b → ⊥) → Allowed p.NoLooseEnding a
 allowed_no_loose [] s h = s
 allowed_no_loose (y ∷ ts) s h =
     no_loose_by (seen y) (λ g. h ts (Stop.line (sole (taken.line_end (taken.taken g))))) (λ g. h ts (Stop.semicolon (sole (taken.semicolon (taken.taken g)))))

@@ -216,7 +216,7 @@ with_declarations m Kind found Several.none r = r
 with_declarations m Kind found (Several.more (d.decl l q) ds) r =
     let z : FoundPart m.of _ _ _ = with_declarations m Kind found ds r in list_lines m l (found _ _ _ q (is_some z) _ _ _ z)
 
-inner_declarations : {a b c : Tokens} {ds : List EflDecl} {ss : EflStmts} → s.Decls a b ds → FoundPart n.InnerList b c (val.lists [] ss) → FoundPart n.InnerList a c (val.lists ds ss)
+inner_declarations : {a b c : Tokens} {ds : List EflDecl} {ss : EflStmts} → Several (d.Decl d.Declaration) a b ds → FoundPart n.InnerList b c (val.lists [] ss) → FoundPart n.InnerList a c (val.lists ds ss)
 inner_declarations = with_declarations inner d.Declaration (λ a b k q h. found_inner q h)
 
 -- ---- clauses ----

@@ -15,7 +15,7 @@ use Rattle.efl_parse_table.specs.declared.table.Terminal.{Terminal}
 use Rattle.efl_parse_table.specs.declared.table.Terminal.TheVariants as t
 use Rattle.efl_parse_table.specs.Words.{reserved, is_spelled, terminal_in, is_letter, name_terminal, word_seen, word_terminal, text_terminal, sign_terminal, kind_terminal, seen}
 use Rattle.efl_parse_values.specs.Parts.{operator_of}
-use Rattle.rat_grammar.specs.Tokens.{Tokens, token, one, capitals}
+use Rattle.rat_grammar.specs.Tokens.{Tokens, token, one, capitals, here, there}
 use Rattle.rat_grammar.proofs.TokenLemmas.{IsWord, IsSign, same, same_is}
 use Rattle.efl_grammar.specs.Expressions as e
 
@@ -168,25 +168,25 @@ sign_is signs.Point = refl
 sign_is signs.Arrow = refl
 sign_is signs.Assign = refl
 sign_is signs.Dollar = refl
-sign_is signs.Lt = (signs.Lt, refl, λ p ts. e.lt one)
-sign_is signs.Le = (signs.Le, refl, λ p ts. e.le one)
-sign_is signs.Eq = (signs.Eq, refl, λ p ts. e.eq one)
-sign_is signs.Ne = (signs.Ne, refl, λ p ts. e.ne one)
-sign_is signs.Ge = (signs.Ge, refl, λ p ts. e.ge one)
-sign_is signs.Gt = (signs.Gt, refl, λ p ts. e.gt one)
-sign_is signs.And = (signs.And, refl, λ p ts. e.and_sign one)
-sign_is signs.AndThen = (signs.AndThen, refl, λ p ts. e.and_then_sign one)
-sign_is signs.Or = (signs.Or, refl, λ p ts. e.or_sign one)
-sign_is signs.OrElse = (signs.OrElse, refl, λ p ts. e.or_else_sign one)
-sign_is signs.AddAssign = (signs.AddAssign, refl, λ p ts. e.add_assign one)
-sign_is signs.SubAssign = (signs.SubAssign, refl, λ p ts. e.sub_assign one)
-sign_is signs.MulAssign = (signs.MulAssign, refl, λ p ts. e.mul_assign one)
-sign_is signs.DivAssign = (signs.DivAssign, refl, λ p ts. e.div_assign one)
-sign_is signs.PowerAssign = (signs.PowerAssign, refl, λ p ts. e.power_assign one)
-sign_is signs.AndAssign = (signs.AndAssign, refl, λ p ts. e.and_assign one)
-sign_is signs.OrAssign = (signs.OrAssign, refl, λ p ts. e.or_assign one)
-sign_is signs.AndThenAssign = (signs.AndThenAssign, refl, λ p ts. e.and_then_assign one)
-sign_is signs.OrElseAssign = (signs.OrElseAssign, refl, λ p ts. e.or_else_assign one)
+sign_is signs.Lt = (signs.Lt, refl, λ p ts. here one)
+sign_is signs.Le = (signs.Le, refl, λ p ts. there (here one))
+sign_is signs.Eq = (signs.Eq, refl, λ p ts. there (there (here one)))
+sign_is signs.Ne = (signs.Ne, refl, λ p ts. there (there (there (here one))))
+sign_is signs.Ge = (signs.Ge, refl, λ p ts. there (there (there (there (here one)))))
+sign_is signs.Gt = (signs.Gt, refl, λ p ts. there (there (there (there (there (here one))))))
+sign_is signs.And = (signs.And, refl, λ p ts. here one)
+sign_is signs.AndThen = (signs.AndThen, refl, λ p ts. there (here one))
+sign_is signs.Or = (signs.Or, refl, λ p ts. here one)
+sign_is signs.OrElse = (signs.OrElse, refl, λ p ts. there (here one))
+sign_is signs.AddAssign = (signs.AddAssign, refl, λ p ts. there (here one))
+sign_is signs.SubAssign = (signs.SubAssign, refl, λ p ts. there (there (here one)))
+sign_is signs.MulAssign = (signs.MulAssign, refl, λ p ts. there (there (there (here one))))
+sign_is signs.DivAssign = (signs.DivAssign, refl, λ p ts. there (there (there (there (here one)))))
+sign_is signs.PowerAssign = (signs.PowerAssign, refl, λ p ts. there (there (there (there (there (here one))))))
+sign_is signs.AndAssign = (signs.AndAssign, refl, λ p ts. there (there (there (there (there (there (here one)))))))
+sign_is signs.OrAssign = (signs.OrAssign, refl, λ p ts. there (there (there (there (there (there (there (here one))))))))
+sign_is signs.AndThenAssign = (signs.AndThenAssign, refl, λ p ts. there (there (there (there (there (there (there (there (here one)))))))))
+sign_is signs.OrElseAssign = (signs.OrElseAssign, refl, λ p ts. there (there (there (there (there (there (there (there (there (here one))))))))))
 sign_is signs.Increment = inl refl
 sign_is signs.Decrement = inr refl
 sign_is _ = tt

@@ -1,49 +1,36 @@
 -- Expressions and places, a family for each precedence. A level that groups to the left repeats its own on the left.
-use Rattle.std.specs.Prelude.{codes, ℤ, true, false, Option, None, Some}
+use Rattle.std.specs.Prelude.{codes, ℤ, true, false, Option, None, Some, [], ◌∷◌}
 use Rattle.ground.specs.declared.token.Sign.TheVariants as signs
 use Rattle.efl_tree.specs.declared.expression.EflOperator.{EflOperator}
 use Rattle.efl_tree.specs.declared.expression.EflOperator.TheVariants as operators
 use Rattle.efl_tree.specs.Syntax.{Text, EflExpr, Int, Truth, At, Call, Group, Plus, Minus, Not, Up, Down, Pair, EflExprs, NoExpr, AndExpr, EflPlace, Path, EflSteps, NoStep, Member, Overlay}
 use Rattle.efl_tree.specs.Syntax as efl
-use Rattle.rat_grammar.specs.Tokens.{Tokens, Sign, Word, Number}
+use Rattle.rat_grammar.specs.Tokens.{Tokens, Sign, Word, Number, OneOf}
 use Rattle.efl_grammar.specs.Tokens.{Name}
 
 -- "=" has no operator
-pub data Assign : Tokens → Tokens → Option EflOperator → Type 0 where
-  assign_sign : {a b : Tokens} → Sign signs.Assign a b → Assign a b None
-  add_assign : {a b : Tokens} → Sign signs.AddAssign a b → Assign a b (Some operators.Add)
-  sub_assign : {a b : Tokens} → Sign signs.SubAssign a b → Assign a b (Some operators.Sub)
-  mul_assign : {a b : Tokens} → Sign signs.MulAssign a b → Assign a b (Some operators.Mul)
-  div_assign : {a b : Tokens} → Sign signs.DivAssign a b → Assign a b (Some operators.Div)
-  power_assign : {a b : Tokens} → Sign signs.PowerAssign a b → Assign a b (Some operators.Power)
-  and_assign : {a b : Tokens} → Sign signs.AndAssign a b → Assign a b (Some operators.And)
-  or_assign : {a b : Tokens} → Sign signs.OrAssign a b → Assign a b (Some operators.Or)
-  and_then_assign : {a b : Tokens} → Sign signs.AndThenAssign a b → Assign a b (Some operators.AndThen)
-  or_else_assign : {a b : Tokens} → Sign signs.OrElseAssign a b → Assign a b (Some operators.OrElse)
+abbrev pub Assign : Tokens → Tokens → Option EflOperator → Type 0
+Assign =
+    OneOf ((signs.Assign, None) ∷ (signs.AddAssign, Some operators.Add) ∷ (signs.SubAssign, Some operators.Sub) ∷ (signs.MulAssign, Some operators.Mul)
+    ∷ (signs.DivAssign, Some operators.Div) ∷ (signs.PowerAssign, Some operators.Power) ∷ (signs.AndAssign, Some operators.And) ∷ (signs.OrAssign, Some operators.Or)
+    ∷ (signs.AndThenAssign, Some operators.AndThen) ∷ (signs.OrElseAssign, Some operators.OrElse) ∷ [])
 
-pub data OrSign : Tokens → Tokens → EflOperator → Type 0 where
-  or_sign : {a b : Tokens} → Sign signs.Or a b → OrSign a b operators.Or
-  or_else_sign : {a b : Tokens} → Sign signs.OrElse a b → OrSign a b operators.OrElse
+abbrev pub OrSign : Tokens → Tokens → EflOperator → Type 0
+OrSign = OneOf ((signs.Or, operators.Or) ∷ (signs.OrElse, operators.OrElse) ∷ [])
 
-pub data AndSign : Tokens → Tokens → EflOperator → Type 0 where
-  and_sign : {a b : Tokens} → Sign signs.And a b → AndSign a b operators.And
-  and_then_sign : {a b : Tokens} → Sign signs.AndThen a b → AndSign a b operators.AndThen
+abbrev pub AndSign : Tokens → Tokens → EflOperator → Type 0
+AndSign = OneOf ((signs.And, operators.And) ∷ (signs.AndThen, operators.AndThen) ∷ [])
 
-pub data Relation : Tokens → Tokens → EflOperator → Type 0 where
-  lt : {a b : Tokens} → Sign signs.Lt a b → Relation a b operators.Lt
-  le : {a b : Tokens} → Sign signs.Le a b → Relation a b operators.Le
-  eq : {a b : Tokens} → Sign signs.Eq a b → Relation a b operators.Eq
-  ne : {a b : Tokens} → Sign signs.Ne a b → Relation a b operators.Ne
-  ge : {a b : Tokens} → Sign signs.Ge a b → Relation a b operators.Ge
-  gt : {a b : Tokens} → Sign signs.Gt a b → Relation a b operators.Gt
+abbrev pub Relation : Tokens → Tokens → EflOperator → Type 0
+Relation =
+    OneOf ((signs.Lt, operators.Lt) ∷ (signs.Le, operators.Le) ∷ (signs.Eq, operators.Eq) ∷ (signs.Ne, operators.Ne) ∷ (signs.Ge, operators.Ge)
+    ∷ (signs.Gt, operators.Gt) ∷ [])
 
-pub data AddSign : Tokens → Tokens → EflOperator → Type 0 where
-  plus_sign : {a b : Tokens} → Sign signs.Plus a b → AddSign a b operators.Add
-  minus_sign : {a b : Tokens} → Sign signs.Minus a b → AddSign a b operators.Sub
+abbrev pub AddSign : Tokens → Tokens → EflOperator → Type 0
+AddSign = OneOf ((signs.Plus, operators.Add) ∷ (signs.Minus, operators.Sub) ∷ [])
 
-pub data TimesSign : Tokens → Tokens → EflOperator → Type 0 where
-  star : {a b : Tokens} → Sign signs.Star a b → TimesSign a b operators.Mul
-  slash : {a b : Tokens} → Sign signs.Slash a b → TimesSign a b operators.Div
+abbrev pub TimesSign : Tokens → Tokens → EflOperator → Type 0
+TimesSign = OneOf ((signs.Star, operators.Mul) ∷ (signs.Slash, operators.Div) ∷ [])
 
 mutual
   -- expr = disj | place assign expr

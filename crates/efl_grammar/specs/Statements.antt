@@ -65,10 +65,6 @@ pub data Labels : Tokens → Tokens → List Text → Type 0 where
   none : {a : Tokens} → Labels a a []
   label : {a b c d : Tokens} {x : Text} {xs : List Text} → Name a b x → Sign signs.Colon b c → Labels c d xs → Labels a d (x ∷ xs)
 
--- { decl } in a block
-abbrev pub Decls : Tokens → Tokens → List EflDecl → Type 0
-Decls = Several (Decl Declaration)
-
 mutual
   -- statement = lines body
   pub data Statement : Tokens → Tokens → EflStmt → Type 0 where
@@ -84,7 +80,7 @@ mutual
   -- An `else` belongs to the nearest `if` that has none, since an `if` without one stands where none follows; so does an `until`.
   pub data Body : Tokens → Tokens → EflKind → Type 0 where
     empty : {a b : Tokens} → Semicolon a b → Body a b Empty
-    block : {a b c d e g : Tokens} {ds : List EflDecl} {ss : EflStmts} → Sign signs.OpenBrace a b → Decls b c ds → Statements c d ss → Lines d e →
+    block : {a b c d e g : Tokens} {ds : List EflDecl} {ss : EflStmts} → Sign signs.OpenBrace a b → Several (Decl Declaration) b c ds → Statements c d ss → Lines d e →
         Sign signs.CloseBrace e g → Body a g (Block ds ss)
     act : {a b c : Tokens} {f : EflExpr} → e.Act a b f → Stop b c → Body a c (efl.Act f)
     if_ : {a b c d : Tokens} {f : EflExpr} {s : EflStmt} → Word (codes "IF") a b → Condition b c f → Statement c d s → FollowsNo (codes "ELSE") d → Body a d (If f s)

@@ -27,14 +27,10 @@ pub data Whole : Tokens → Tokens → ℤ → Type 0 where
   plus : {a b c : Tokens} {z : ℤ} → Sign signs.Plus a b → Number b c z → Whole a c z
   minus : {a b c : Tokens} {z : ℤ} → Sign signs.Minus a b → Number b c z → Whole a c (opposite z)
 
--- no stop stands here
-abbrev pub NoStop : Tokens → Type 0
-NoStop a = (b : Tokens) → Stop a b → ⊥
-
 -- a stop, which is missing where none stands
 pub data StopIfAny : Tokens → Tokens → Type 0 where
   stop : {a b : Tokens} → Stop a b → StopIfAny a b
-  none : {a : Tokens} → NoStop a → StopIfAny a a
+  none : {a : Tokens} → ((b : Tokens) → Stop a b → ⊥) → StopIfAny a a
 
 -- the same behind the brace of a shape, where no name stands
 pub data ShapeStop : Tokens → Tokens → Type 0 where

@@ -16,7 +16,7 @@ use Rattle.f66_tree.specs.Syntax as f66
 use Rattle.f66_tree.specs.Syntax.{Text, Formula, Int, Pair, Minus, Assign, Constant, NoFormula, AndFormula}
 use Rattle.rat_tree.specs.Syntax as tree
 use Rattle.rat_tree.specs.Syntax.{Command, NoCommand, AndCommand}
-use Rattle.rat_grammar.specs.Tokens.{Perhaps, Tokens, token, One, one, capitals, Word, word, name, Lines, Stop, Several, Listed}
+use Rattle.rat_grammar.specs.Tokens.{Perhaps, Tokens, token, One, one, capitals, Word, word, name, Lines, Stop, Several, Listed, here as first, there as later}
 use Rattle.rat_grammar.specs.Expressions as e
 use Rattle.rat_grammar.specs.Formats as f
 use Rattle.rat_grammar.specs.Declarations as d
@@ -326,12 +326,13 @@ at_stop [] = false
 at_stop (y ∷ ts) = is_semicolon y.kind
 
 not_power : {ts c : Tokens} {o : Operator} → e.Relation (sign 1 signs.Power ∷ ts) c o → ⊥
-not_power (e.lt j) = elim j [ ]
-not_power (e.le j) = elim j [ ]
-not_power (e.eq j) = elim j [ ]
-not_power (e.ne j) = elim j [ ]
-not_power (e.ge j) = elim j [ ]
-not_power (e.gt j) = elim j [ ]
+not_power (first j) = elim j [ ]
+not_power (later (first j)) = elim j [ ]
+not_power (later (later (first j))) = elim j [ ]
+not_power (later (later (later (first j)))) = elim j [ ]
+not_power (later (later (later (later (first j))))) = elim j [ ]
+not_power (later (later (later (later (later (first j)))))) = elim j [ ]
+not_power (later (later (later (later (later (later h)))))) = elim h [ ]
 
 -- ---- a ** a ** a is no expression ----
 
@@ -396,12 +397,13 @@ less_sum : {ts m : Tokens} {g : Formula} → e.Sum (a_before signs.Lt ts) m g �
 less_sum {ts} q = less_factor _ _ (only_term (a_before signs.Lt ts) (λ m g k. subst NoJoint (sym (less_factor m g k)) refl) word_is_no_sign q)
 
 second_less : {c m : Tokens} {o : Operator} {g : Formula} → e.Relation (sign 1 signs.Lt ∷ a_before signs.Lt (w 1 (codes "a") ∷ stop)) c o → e.Sum c m g → m ≡ less_end
-second_less (e.lt one) q = less_sum q
-second_less (e.le j) q = elim j [ ]
-second_less (e.eq j) q = elim j [ ]
-second_less (e.ne j) q = elim j [ ]
-second_less (e.ge j) q = elim j [ ]
-second_less (e.gt j) q = elim j [ ]
+second_less (first one) q = less_sum q
+second_less (later (first j)) q = elim j [ ]
+second_less (later (later (first j))) q = elim j [ ]
+second_less (later (later (later (first j)))) q = elim j [ ]
+second_less (later (later (later (later (first j))))) q = elim j [ ]
+second_less (later (later (later (later (later (first j)))))) q = elim j [ ]
+second_less (later (later (later (later (later (later h)))))) q = elim h [ ]
 
 less_relation : (m : Tokens) (g : Formula) → e.Rel less_text m g → LessEnd m
 less_relation m g (e.sum q) = inl (less_sum q)

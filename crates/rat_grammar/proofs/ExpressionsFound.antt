@@ -2,6 +2,7 @@
 use Rattle.std.proofs.Common.{◌≡◌, ◌∙◌, Bool, true, false, if◌then◌else◌, ℤ, List, [], ◌∷◌, None, refl, ap}
 use Rattle.ground.specs.declared.place.Place.{Place}
 use Rattle.ground.specs.declared.token.TokenKind.TheVariants as kinds
+use Rattle.ground.specs.declared.token.Sign.{Sign as ASign}
 use Rattle.ground.specs.declared.token.Sign.TheVariants as signs
 use Rattle.f66_tree.specs.declared.expression.Operator.{Operator}
 use Rattle.f66_tree.specs.declared.expression.Operator.TheVariants as operators
@@ -11,13 +12,14 @@ use Rattle.f66_tree.specs.Views.{chained}
 use Rattle.rat_parse_table.specs.declared.table.Terminal.TheVariants as t
 use Rattle.rat_parse_table.specs.declared.table.Nonterminal.TheVariants as n
 use Rattle.rat_parse_table.specs.declared.table.Production.TheVariants as p
-use Rattle.rat_parse_table.specs.Words.{reserved, terminal_in, word_seen, is_field_word, is_octal}
+use Rattle.rat_parse_table.specs.Words.{reserved, terminal_in, word_seen, is_field_word, is_octal, sign_terminal}
 use Rattle.rat_parse_values.specs.Values.{Val, nothing, tok, formula, located, formulas, joins}
-use Rattle.rat_parse_values.specs.Parts.{as_formula}
+use Rattle.rat_parse_values.specs.Parts.{as_formula, operator_of}
 use Rattle.rat_parse_expressions.specs.Phrases.{joined}
 use Rattle.rat_grammar.specs.Tokens.{Tokens, token, one, capitals, name, place_at}
 use Rattle.rat_grammar.specs.Expressions as e
 use Rattle.rat_grammar.specs.Laws.{IsSome}
+use Rattle.rat_grammar.proofs.TokenLemmas.{SignHere, stands, sign_here}
 use Rattle.rat_grammar.proofs.Steps.{FoundPart, is_some, make, found_token, found_empty, given}
 
 -- ---- names and numbers ----
@@ -65,13 +67,14 @@ no_more_expr h = found_empty p.NoMoreExpr refl (λ k. refl) h
 
 -- ---- relations ----
 
+abbrev IsRelated : ASign → Operator → Type 0
+IsRelated s o = (sign_terminal s ≡ t.Relation) × (operator_of s ≡ o)
+
+compared_by : {b c d : Tokens} {o : Operator} {g : Formula} → SignHere IsRelated b c o → FoundPart n.Sum c d (formula g) → FoundPart n.RelationTail b d (joins ((o, g) ∷ []))
+compared_by {g = g} (stands one h) c = given (ap (λ z. joins ((z, g) ∷ [])) h.1) (make p.Compared tt _ _ _ (found_token t.Relation _ _ h.0) _ _ c)
+
 compared_tail : {b c d : Tokens} {o : Operator} {g : Formula} → e.Relation b c o → FoundPart n.Sum c d (formula g) → FoundPart n.RelationTail b d (joins ((o, g) ∷ []))
-compared_tail (e.lt one) s = make p.Compared tt _ _ _ (found_token t.Relation _ _ refl) _ _ s
-compared_tail (e.le one) s = make p.Compared tt _ _ _ (found_token t.Relation _ _ refl) _ _ s
-compared_tail (e.eq one) s = make p.Compared tt _ _ _ (found_token t.Relation _ _ refl) _ _ s
-compared_tail (e.ne one) s = make p.Compared tt _ _ _ (found_token t.Relation _ _ refl) _ _ s
-compared_tail (e.ge one) s = make p.Compared tt _ _ _ (found_token t.Relation _ _ refl) _ _ s
-compared_tail (e.gt one) s = make p.Compared tt _ _ _ (found_token t.Relation _ _ refl) _ _ s
+compared_tail r c = compared_by (sign_here IsRelated r ((refl, refl), ((refl, refl), ((refl, refl), ((refl, refl), ((refl, refl), ((refl, refl), tt))))))) c
 
 -- ---- a prime, as a formula with its place or without ----
 

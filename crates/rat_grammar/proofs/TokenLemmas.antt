@@ -14,8 +14,8 @@ use Rattle.rat_parse_table.specs.declared.table.Terminal.{Terminal}
 use Rattle.rat_parse_table.specs.declared.table.Terminal.TheVariants as t
 use Rattle.rat_parse_table.specs.Words.{reserved, is_spelled, terminal_in, word_seen, word_terminal, is_field_word, is_octal, text_terminal, sign_terminal, kind_terminal, seen}
 use Rattle.rat_parse_values.specs.Parts.{operator_of}
-use Rattle.rat_grammar.specs.Tokens.{Tokens, token, one, capitals}
-use Rattle.rat_grammar.specs.Expressions.{Relation, lt, le, eq, ne, ge, gt}
+use Rattle.rat_grammar.specs.Tokens.{Tokens, token, one, capitals, here, there, Sign, OneOf}
+use Rattle.rat_grammar.specs.Expressions.{Relation}
 
 abbrev So : Bool → Type 0
 So true = Unit {0}
@@ -283,12 +283,12 @@ sign_is signs.Comma = refl
 sign_is signs.OpenBrace = refl
 sign_is signs.CloseBrace = refl
 sign_is signs.Colon = refl
-sign_is signs.Eq = (signs.Eq, refl, λ p ts. eq one)
-sign_is signs.Ne = (signs.Ne, refl, λ p ts. ne one)
-sign_is signs.Lt = (signs.Lt, refl, λ p ts. lt one)
-sign_is signs.Le = (signs.Le, refl, λ p ts. le one)
-sign_is signs.Gt = (signs.Gt, refl, λ p ts. gt one)
-sign_is signs.Ge = (signs.Ge, refl, λ p ts. ge one)
+sign_is signs.Eq = (signs.Eq, refl, λ p ts. there (there (here one)))
+sign_is signs.Ne = (signs.Ne, refl, λ p ts. there (there (there (here one))))
+sign_is signs.Lt = (signs.Lt, refl, λ p ts. here one)
+sign_is signs.Le = (signs.Le, refl, λ p ts. there (here one))
+sign_is signs.Gt = (signs.Gt, refl, λ p ts. there (there (there (there (there (here one))))))
+sign_is signs.Ge = (signs.Ge, refl, λ p ts. there (there (there (there (here one)))))
 sign_is signs.And = refl
 sign_is signs.Or = refl
 sign_is signs.Not = refl
@@ -328,3 +328,18 @@ terminal_named x = terminal_of reserved x
 
 pub word_seen_as : (x : Text) (k : Terminal) (w : Text) → capitals w ≡ x → terminal_named x ≡ Some k → word_terminal w ≡ k
 word_seen_as x k w h e = ap (λ o. word_seen o w) (terminal_by_capitals reserved w ∙ ap (terminal_of reserved) h ∙ e)
+
+-- ---- one of some signs ----
+
+-- this holds of each sign and what stands beside it
+abbrev pub EachSign : {A : Type 0} → (ASign → A → Type 0) → List (ASign × A) → Type 0
+EachSign P [] = Unit {0}
+EachSign P (c ∷ cs) = P c.0 c.1 × EachSign P cs
+
+-- so it holds of the one that stands here
+pub data SignHere {A : Type 0} (P : ASign → A → Type 0) : Tokens → Tokens → A → Type 0 where
+  stands : {s : ASign} {x : A} {a b : Tokens} → Sign s a b → P s x → SignHere P a b x
+
+pub sign_here : {A : Type 0} (P : ASign → A → Type 0) {choices : List (ASign × A)} {a b : Tokens} {x : A} → OneOf choices a b x → EachSign P choices → SignHere P a b x
+sign_here P (here q) each = stands q each.0
+sign_here P (there q) each = sign_here P q each.1

@@ -1,19 +1,16 @@
 -- Expressions. Operators group to the left; `**` and relations stand once.
-use Rattle.std.specs.Prelude.{ℤ, true, false}
+use Rattle.std.specs.Prelude.{ℤ, true, false, [], ◌∷◌}
 use Rattle.ground.specs.declared.token.Sign.TheVariants as signs
 use Rattle.f66_tree.specs.declared.expression.Operator.{Operator}
 use Rattle.f66_tree.specs.declared.expression.Operator.TheVariants as operators
 use Rattle.f66_tree.specs.Syntax.{Text, Formula, Int, Truth, Group, Plus, Minus, Not, Pair, Formulas, NoFormula, AndFormula}
 use Rattle.f66_tree.specs.Syntax as f66
-use Rattle.rat_grammar.specs.Tokens.{Tokens, Sign, Name, Number}
+use Rattle.rat_grammar.specs.Tokens.{Tokens, Sign, Name, Number, OneOf}
 
-pub data Relation : Tokens → Tokens → Operator → Type 0 where
-  lt : {a b : Tokens} → Sign signs.Lt a b → Relation a b operators.Lt
-  le : {a b : Tokens} → Sign signs.Le a b → Relation a b operators.Le
-  eq : {a b : Tokens} → Sign signs.Eq a b → Relation a b operators.Eq
-  ne : {a b : Tokens} → Sign signs.Ne a b → Relation a b operators.Ne
-  ge : {a b : Tokens} → Sign signs.Ge a b → Relation a b operators.Ge
-  gt : {a b : Tokens} → Sign signs.Gt a b → Relation a b operators.Gt
+abbrev pub Relation : Tokens → Tokens → Operator → Type 0
+Relation =
+    OneOf ((signs.Lt, operators.Lt) ∷ (signs.Le, operators.Le) ∷ (signs.Eq, operators.Eq) ∷ (signs.Ne, operators.Ne) ∷ (signs.Ge, operators.Ge)
+    ∷ (signs.Gt, operators.Gt) ∷ [])
 
 mutual
   -- expr = conj { .OR. conj }

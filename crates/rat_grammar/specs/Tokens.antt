@@ -33,6 +33,11 @@ TextEnd = One kinds.TextEnd
 abbrev pub Sign : ASign → Tokens → Tokens → Type 0
 Sign s = One (kinds.Sign s)
 
+-- one of these signs, with what stands beside it here
+pub data OneOf {A : Type 0} : List (ASign × A) → Tokens → Tokens → A → Type 0 where
+  here : {s : ASign} {x : A} {choices : List (ASign × A)} {a b : Tokens} → Sign s a b → OneOf ((s, x) ∷ choices) a b x
+  there : {y : ASign × A} {x : A} {choices : List (ASign × A)} {a b : Tokens} → OneOf choices a b x → OneOf (y ∷ choices) a b x
+
 abbrev pub Number : Tokens → Tokens → ℤ → Type 0
 Number a b z = One (kinds.Number z) a b
 
