@@ -137,6 +137,3 @@ module _ {T N P V M : Type 0} (g : Grammar Token T N P V) (meter : Meter T P M) 
             let quiet = accepted.within parse in
             cc
       ]
-
-  pub one_tree : (ts : List Token) → (v w : V) → IsAccepted g meter ts v → IsAccepted g meter ts w → v ≡ w
-  one_tree ts v w a b = (a.value w).0 ((b.value w).1 refl)

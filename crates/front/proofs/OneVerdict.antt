@@ -1,28 +1,28 @@
 -- A text has one verdict.
 use Rattle.std.proofs.Common.{◌≡◌, List, ◌⊎◌, inl, inr, sym, ◌∙◌, ap, subst}
-use Rattle.std.specs.Prelude.{Result, Ok, Err}
+use Rattle.std.specs.Prelude.{◌↔◌, Result, Ok, Err}
 use Rattle.ground.specs.declared.fault.Fault.{Fault}
 use Rattle.ground.specs.declared.token.Token.{Token}
 use Rattle.ground.specs.declared.token.Dialect.{Dialect}
 use Rattle.ground.specs.declared.token.Dialect.TheVariants.{Ratfor, Efl}
+use Rattle.grammar.specs.Grammar.{Grammar}
+use Rattle.grammar.specs.Limits.{Meter}
 use Rattle.grammar.specs.Limits as table
-use Rattle.grammar.specs.Answers as table_answers
+use Rattle.grammar.specs.Answers as answers
 use Rattle.macro_define.specs.Expansion.{Stop, GatherState, gathered}
 use Rattle.rat_tree.specs.Syntax.{RatProgram}
-use Rattle.rat_parse_table.specs.Limits.{meter}
-use Rattle.rat_parse.specs.Ratfor.{grammar}
-use Rattle.rat_grammar.specs.Answers.{IsAccepted, IsFirstFault}
-use Rattle.rat_grammar.specs.Laws.{AnswersArePublished}
+use Rattle.rat_grammar.specs.Relation as relation
+use Rattle.rat_grammar.specs.Answers as ratfor_answers
+use Rattle.rat_grammar.specs.Laws as ratfor
 use Rattle.efl_tree.specs.Syntax.{EflProgram}
-use Rattle.efl_parse.specs.Efl as efl
-use Rattle.efl_parse_table.specs.Limits as efl_limits
-use Rattle.efl_parse_values.specs.Values as efl_values
+use Rattle.efl_grammar.specs.Answers as efl_answers
+use Rattle.efl_grammar.specs.Laws as efl
 use Rattle.front.specs.Checked.{Checked, Faulty, Means}
 use Rattle.front.specs.Ratfor.{IsJudged}
 use Rattle.front.specs.Efl as efl_front
 use Rattle.front.specs.Verdict.{Verdict, IsChecked, in_files, IsVerdictOf}
 use Rattle.front.specs.Laws.{OneFirstFault, AcceptedHasNone, OneMeaning, OneVerdict}
-use Rattle.front.proofs.FirstFaults.{one_fault, no_fault, one_tree}
+use Rattle.front.proofs.FirstFaults.{one_fault, no_fault}
 use Rattle.front.proofs.ScopeFaults.{one_first, scoped_has_none}
 
 -- a text has one first fault, or one tree
@@ -44,25 +44,22 @@ module _ {W : Type 0} (First : List Token → Fault → Type 0) (Accepts : List 
 
 -- ---- grammars ----
 
-one_ratfor : AnswersArePublished → HasOneAnswer IsFirstFault IsAccepted
-one_ratfor same = record {
-  faults = λ ts a b h k. one_fault grammar meter ts a b ((same.faults ts a).1 h) ((same.faults ts b).1 k);
-  none = λ ts tree fault h k. no_fault grammar meter ts _ fault ((same.accepted ts tree).1 h) ((same.faults ts fault).1 k);
+-- a published grammar answers one thing of a text, where its table answers the same
+one_answer : {W T N P V M : Type 0} (Program : List Token → W → Type 0) (g : Grammar Token T N P V) (meter : Meter T P M) (value : W → V) →
+    ((ts : List Token) (w : W) → table.IsAccepted g meter ts (value w) ↔ relation.IsAccepted Program g meter ts w) →
+    ((ts : List Token) (fault : Fault) → answers.IsFirstFault g meter ts fault ↔ relation.IsFirstFault Program g meter ts fault) →
+    HasOneAnswer (relation.IsFirstFault Program g meter) (relation.IsAccepted Program g meter)
+one_answer Program g meter value accepted faults = record {
+  faults = λ ts a b h k. one_fault g meter ts a b ((faults ts a).1 h) ((faults ts b).1 k);
+  none = λ ts tree fault h k. no_fault g meter ts _ fault ((accepted ts tree).1 h) ((faults ts fault).1 k);
   trees = λ ts v w h k. h.only w k.is;
 }
 
-same_efl : (a b : EflProgram) → efl_values.program a ≡ efl_values.program b → a ≡ b
-same_efl a b e = cc
+one_ratfor : ratfor.AnswersArePublished → HasOneAnswer ratfor_answers.IsFirstFault ratfor_answers.IsAccepted
+one_ratfor same = one_answer _ _ _ _ same.accepted same.faults
 
-abbrev AcceptsEfl : List Token → EflProgram → Type 0
-AcceptsEfl ts tree = table.IsAccepted efl.grammar efl_limits.meter ts (efl_values.program tree)
-
-one_efl : HasOneAnswer (table_answers.IsFirstFault efl.grammar efl_limits.meter) AcceptsEfl
-one_efl = record {
-  faults = one_fault efl.grammar efl_limits.meter;
-  none = λ ts tree. no_fault efl.grammar efl_limits.meter ts (efl_values.program tree);
-  trees = λ ts v w h k. same_efl v w (one_tree efl.grammar efl_limits.meter ts (efl_values.program v) (efl_values.program w) h k);
-}
+one_efl : efl.AnswersArePublished → HasOneAnswer efl_answers.IsFirstFault efl_answers.IsAccepted
+one_efl same = one_answer _ _ _ _ same.accepted same.faults
 
 -- ---- what comes of a text ----
 
@@ -72,7 +69,7 @@ one_scoped tree a b (inl h) (inr k) = absurd (scoped_has_none tree h.0 k.0 h.1)
 one_scoped tree a b (inr h) (inl k) = absurd (scoped_has_none tree k.0 h.0 k.1)
 one_scoped tree a b (inr h) (inr k) = h.1 ∙ sym k.1
 
-module _ (same : AnswersArePublished) (faults : OneFirstFault) (none : AcceptedHasNone) (meanings : OneMeaning) where
+module _ (ratfor_same : ratfor.AnswersArePublished) (efl_same : efl.AnswersArePublished) (faults : OneFirstFault) (none : AcceptedHasNone) (meanings : OneMeaning) where
   one_judged : (p : RatProgram) (a b : Checked) → IsJudged p a → IsJudged p b → a ≡ b
   one_judged p (Faulty f) (Faulty g) h k = ap Faulty (faults p f g h k)
   one_judged p (Faulty f) (Means n) h k = absurd (none p f k.0 h)
@@ -80,8 +77,8 @@ module _ (same : AnswersArePublished) (faults : OneFirstFault) (none : AcceptedH
   one_judged p (Means m) (Means n) h k = ap Means (meanings p m n h.0 h.1 k.1)
 
   one_checked : (d : Dialect) → (ts : List Token) → (a b : Checked) → IsChecked d ts a → IsChecked d ts b → a ≡ b
-  one_checked Ratfor ts a b h k = one_found IsFirstFault IsAccepted (one_ratfor same) IsJudged one_judged ts a b h k
-  one_checked Efl ts a b h k = one_found (table_answers.IsFirstFault efl.grammar efl_limits.meter) AcceptsEfl one_efl efl_front.IsJudged one_scoped ts a b h k
+  one_checked Ratfor ts a b h k = one_found ratfor_answers.IsFirstFault ratfor_answers.IsAccepted (one_ratfor ratfor_same) IsJudged one_judged ts a b h k
+  one_checked Efl ts a b h k = one_found efl_answers.IsFirstFault efl_answers.IsAccepted (one_efl efl_same) efl_front.IsJudged one_scoped ts a b h k
 
   one_of : (d : Dialect) → (told : Result GatherState Stop) → (a b : Verdict) → IsVerdictOf d told a → IsVerdictOf d told b → a ≡ b
   one_of d (Err stop) a b h k = h ∙ sym k

@@ -5,11 +5,7 @@ use Rattle.ground.specs.declared.fault.FaultKind.TheVariants.{Unbuilt}
 use Rattle.ground.specs.declared.place.Place.{Place}
 use Rattle.ground.specs.Faults.{fault_at}
 use Rattle.ground.specs.declared.token.Token.{Token}
-use Rattle.grammar.specs.Answers.{IsFirstFault}
-use Rattle.grammar.specs.Limits.{IsAccepted}
-use Rattle.efl_parse.specs.Efl.{grammar}
-use Rattle.efl_parse_table.specs.Limits.{meter}
-use Rattle.efl_parse_values.specs.Values.{program}
+use Rattle.efl_grammar.specs.Answers.{IsFirstFault, IsAccepted}
 use Rattle.efl_tree.specs.Syntax.{EflDecl, Statement, EflStmts, NoStmt, AndStmt, EflProcedure, EflProgram}
 use Rattle.efl_scoped.specs.Answers.{IsScoped, IsFirst}
 use Rattle.front.specs.Checked.{Checked, Faulty}
@@ -39,8 +35,8 @@ IsJudged tree c = ((fault : Fault) × IsFirst tree fault × (c ≡ Faulty fault)
 
 -- ---- parse ----
 
--- the first fault at the grammar or at a limit, or what is said of the tree
+-- the first fault at the published grammar or at a limit, or what is said of the tree
 abbrev pub IsEfl : List Token → Checked → Type 0
 IsEfl ts c =
-    ((fault : Fault) × IsFirstFault grammar meter ts fault × (c ≡ Faulty fault))
-    ⊎ ((tree : EflProgram) × IsAccepted grammar meter ts (program tree) × IsJudged tree c)
+    ((fault : Fault) × IsFirstFault ts fault × (c ≡ Faulty fault))
+    ⊎ ((tree : EflProgram) × IsAccepted ts tree × IsJudged tree c)

@@ -7,7 +7,7 @@ ghost use Rattle.macro_define.specs.GatherAnswers.{EndsText};
 ghost use Rattle.front.specs.Efl.{IsEfl, IsJudged, first_part, unbuilt_place};
 ghost use Rattle.front.specs.Translated.{Refused};
 
-use efl_parse::parse;
+use efl_grammar::parse;
 use efl_scoped::scope;
 use efl_tree::{EflProcedure, EflProgram};
 use ground::{Fault, FaultKind, List, Place, Refusal, Token};

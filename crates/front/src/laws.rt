@@ -1,8 +1,6 @@
 // The laws of whole programs and of verdicts. The functions do nothing: their contracts are the laws.
 ghost use Rattle.front.specs.Laws.{AcceptedHasNone, OneFirstFault, OneMeaning, OneVerdict, UnitsServe};
 
-use rat_grammar::answers_are_published;
-
 /// A program of Ratfor has at most one first fault.
 pub fn one_first_fault()
     ensures { OneFirstFault }
@@ -27,7 +25,8 @@ pub fn units_serve()
 pub fn one_verdict()
     ensures { OneVerdict }
 {
-    answers_are_published();
+    rat_grammar::answers_are_published();
+    efl_grammar::answers_are_published();
     one_first_fault();
     accepted_has_none();
     one_meaning();

@@ -1,10 +1,10 @@
 -- Why `program_of` keeps its clauses. The laws of the parser's limits speak of what the table accepts.
 use Rattle.rat_tree.specs.Views.{program_of}
-use Rattle.front.proofs.Ending.{ends_ratfor}
+use Rattle.front.proofs.Ending.{ends}
 use Rattle.front.proofs.ratfor.program_of.Goals as goal
 
 pub parse-requires : goal.parse-requires
-parse-requires c = ends_ratfor c.args.tokens.items c.requires.ends
+parse-requires c = ends c.args.tokens.items c.requires.ends
 
 pub made_of-requires-clause-room : goal.made_of-requires-clause-room
 made_of-requires-clause-room c =
