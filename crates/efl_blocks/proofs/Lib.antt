@@ -1,0 +1,6 @@
+-- The lemmas of efl_blocks.
+pub mod LaterLemmas
+pub mod WithinLemmas
+pub mod MemberLemmas
+pub mod ShapeLemmas
+pub mod DeclaredLemmas

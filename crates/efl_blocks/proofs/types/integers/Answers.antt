@@ -1,0 +1,7 @@
+-- It has no bounds.
+use Rattle.std.proofs.Common.{refl}
+use Rattle.efl_scoped.specs.Seen.{table_of}
+use Rattle.efl_blocks.proofs.types.integers.Goals as goal
+
+pub returns : goal.returns
+returns c = λ y. record { made = (refl, refl); told = c.integer.ensures (table_of y.numbers) }

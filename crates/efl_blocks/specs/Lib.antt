@@ -1,0 +1,4 @@
+-- The definitions that the contracts of efl_blocks cite.
+pub mod Within
+pub mod Made
+pub mod DeclaredViews
