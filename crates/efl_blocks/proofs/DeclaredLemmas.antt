@@ -11,7 +11,7 @@ use Rattle.efl_tree.specs.declared.declaration.EflGroup as decl_groups
 use Rattle.efl_tree.specs.declared.declaration.EflDeclKind as decl_kinds
 use Rattle.efl_tree.specs.declared.declaration.EflDeclKind.TheVariants as memory
 use Rattle.efl_tree.specs.Views.{decl_kind_of}
-use Rattle.efl_tree.specs.Syntax.{Text, EflVar, EflType, Shape, EflGroups, NoGroup, AndGroup, EflPreset, EflDeclKind, Implicit, Initial, Variables, Area, Structure, EflDecl}
+use Rattle.efl_tree.specs.Syntax.{Text, EflVar, EflType, EflGroups, NoGroup, AndGroup, EflPreset, EflDeclKind, Implicit, Initial, Variables, Area, Structure, EflDecl}
 use Rattle.efl_scope.specs.DataTypes.{DataType, NoType}
 use Rattle.efl_scope.specs.Scopes.{Variable, variable, Meaning, IsVariable, variable_of, in_block, data_type, shape, behind, behind_groups, behind_declaration, group_variables, declared_by, declared_in, untyped, naming, block_with, entering, of_bounds}
 use Rattle.efl_scope.specs.Scopes as scopes

@@ -1,12 +1,10 @@
 -- What stands in memory stays there while types are made.
 use Rattle.std.proofs.Common.{◌≡◌, ℕ, List, [], ◌∷◌, Option, Some, None, refl, sym, subst}
 use Rattle.std.specs.List.{slice_get}
-use Rattle.efl_tree.specs.Syntax.{Text}
 use Rattle.efl_tree.specs.declared.declaration.EflBound.{EflBound}
 use Rattle.efl_scope.specs.DataTypes.{DataType, Scalar, Structured, Array, NoType, Members, NoMember, AndMember}
 use Rattle.efl_scope.specs.Scopes.{Meaning, IsVariable, IsStructure, meaning, in_block}
 use Rattle.efl_scope.specs.Scopes as scopes
-use Rattle.efl_scoped.specs.Numbers.{Table}
 use Rattle.efl_scoped.specs.Told.{Tells}
 use Rattle.efl_scoped.specs.Seen.{table_of}
 use Rattle.efl_scoped.proofs.WordLemmas.{grows_same, grows_on}
@@ -20,8 +18,8 @@ use Rattle.efl_expressions.specs.declared.names.Meaning as meanings
 use Rattle.efl_expressions.specs.declared.names.Meaning.TheVariants as meant
 use Rattle.efl_expressions.specs.declared.names.Block.{Block}
 use Rattle.efl_expressions.specs.declared.names.Blocks.{Blocks}
-use Rattle.efl_expressions.specs.TypeViews.{IsThere, Is, AreMembers}
-use Rattle.efl_expressions.specs.NameViews.{entry_in, meaning_in, IsMeaning, IsMeaningIfAny, Know}
+use Rattle.efl_expressions.specs.TypeViews.{IsThere, Is}
+use Rattle.efl_expressions.specs.NameViews.{entry_in, meaning_in, IsMeaningIfAny, Know}
 use Rattle.efl_blocks.specs.declared.types.Types.{Types}
 use Rattle.efl_blocks.specs.Within.{IsIn, AreIn, Later, Within}
 

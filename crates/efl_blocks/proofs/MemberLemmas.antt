@@ -1,10 +1,10 @@
 -- Members and structures that come.
-use Rattle.std.proofs.Common.{◌≡◌, ◌≢◌, ◌+◌, ◌<◌, ◌≤◌, ℕ, length, take, get_or, Bool, true, false, ◌&&◌, List, [], ◌∷◌, ◌++◌, Option, Some, None, refl, sym, ap, subst, ◌∙◌, arith}
+use Rattle.std.proofs.Common.{◌≡◌, ◌≢◌, ◌+◌, ◌<◌, ◌≤◌, ℕ, length, Bool, true, false, ◌&&◌, List, [], ◌∷◌, ◌++◌, Some, refl, sym, ap, subst, ◌∙◌, arith}
 use Rattle.std.specs.List.{slice_get}
 use Rattle.std.proofs.Math.Seq.{get_or-append_seam}
 use Rattle.std.proofs.lemmas.List.{length-append, get_or_append_left}
 use Rattle.std.proofs.lemmas.Option.{slice_get_within, slice_get-get_or, get_or_from_slice_get}
-use Rattle.efl_tree.specs.Syntax.{Text, EflVar}
+use Rattle.efl_tree.specs.Syntax.{EflVar}
 use Rattle.efl_tree.specs.declared.declaration.EflBound.{EflBound}
 use Rattle.efl_scope.specs.DataTypes.{DataType, Scalar, Structured, Array, NoType, Members, NoMember, AndMember, are_sound, all_places}
 use Rattle.efl_scope.specs.Scopes.{members_of, bounded, of_bounds}
@@ -19,7 +19,7 @@ use Rattle.efl_expressions.specs.declared.types.Element.{Element}
 use Rattle.efl_expressions.specs.declared.types.Element.TheVariants as elements
 use Rattle.efl_expressions.specs.declared.types.Structure.{Structure}
 use Rattle.efl_expressions.specs.declared.types.Member.{Member}
-use Rattle.efl_expressions.specs.TypeViews.{IsThere, Is, AreMembers, IsType}
+use Rattle.efl_expressions.specs.TypeViews.{IsThere, Is}
 use Rattle.efl_blocks.specs.declared.types.Types.{Types}
 use Rattle.efl_blocks.specs.Within.{IsIn, AreIn, Later, IsPlain}
 use Rattle.efl_blocks.specs.Made.{joined, TakesBounds, AddsMembers, TakesMembers, AddsStructure}

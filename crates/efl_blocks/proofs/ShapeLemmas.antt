@@ -1,8 +1,8 @@
 -- Types that texts give, as their groups come.
-use Rattle.std.proofs.Common.{◌≡◌, List, [], ◌∷◌, Option, refl, sym, ap, subst, ◌∙◌}
+use Rattle.std.proofs.Common.{◌≡◌, List, [], Option, refl, sym, ap, subst, ◌∙◌}
 use Rattle.ground.specs.declared.place.Place.{Place}
 use Rattle.efl_tree.specs.Syntax.{Text, EflVar, EflType, Shape, EflGroups, NoGroup, AndGroup}
-use Rattle.efl_scope.specs.DataTypes.{DataType, Structured, Members, NoMember}
+use Rattle.efl_scope.specs.DataTypes.{DataType, Members, NoMember}
 use Rattle.efl_scope.specs.Scopes.{data_type, shape, behind, behind_groups, members_of}
 use Rattle.efl_scope.specs.Scopes as scopes
 use Rattle.efl_scoped.specs.declared.summaries.Summary.{Summary}

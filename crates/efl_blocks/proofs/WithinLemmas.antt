@@ -7,7 +7,7 @@ use Rattle.std.proofs.lemmas.Slice.Eq.{bytes_eq-Decides}
 use Rattle.efl_scope.proofs.TableLemmas.{bytes_eq-turned}
 use Rattle.rule_table.specs.Words.{find_map}
 use Rattle.efl_tree.specs.Syntax.{Text, EflType, Integer, Logical, Real, Complex, Named, Shape}
-use Rattle.efl_scope.specs.DataTypes.{DataType, Structured, Members}
+use Rattle.efl_scope.specs.DataTypes.{Structured, Members}
 use Rattle.efl_scope.specs.Scopes.{Variable, Shaped, Meaning, IsVariable, IsStructure, structure_of, variable_of, in_block, meaning, knowing, data_type, structured, shape_named}
 use Rattle.efl_scope.specs.Scopes as scopes
 use Rattle.efl_scoped.specs.Seen.{table_of}
@@ -16,7 +16,7 @@ use Rattle.efl_expressions.specs.declared.names.Meaning as meanings
 use Rattle.efl_expressions.specs.declared.names.Meaning.TheVariants as m
 use Rattle.efl_expressions.specs.declared.names.Block.{Block}
 use Rattle.efl_expressions.specs.declared.names.Blocks.{Blocks}
-use Rattle.efl_expressions.specs.NameViews.{entry_in, meaning_in, IsMeaningIfAny, Know}
+use Rattle.efl_expressions.specs.NameViews.{entry_in, meaning_in, IsMeaningIfAny}
 use Rattle.efl_blocks.specs.declared.types.Types.{Types}
 use Rattle.efl_blocks.specs.Within.{IsIn, IsPlain, Within, learned, learned_if, is_structure_in}
 

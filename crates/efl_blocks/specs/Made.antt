@@ -1,5 +1,5 @@
 -- What making types does to those that are there and to blocks, whatever they were before.
-use Rattle.std.specs.Prelude.{◌≡◌, List, [], ◌∷◌}
+use Rattle.std.specs.Prelude.{List}
 use Rattle.efl_tree.specs.declared.declaration.EflBound.{EflBound}
 use Rattle.efl_tree.specs.Syntax.{EflVar, EflType, EflGroups}
 use Rattle.efl_scope.specs.DataTypes.{DataType, Structured, Members, NoMember, AndMember}

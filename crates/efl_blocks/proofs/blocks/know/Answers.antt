@@ -2,7 +2,7 @@
 use Rattle.std.proofs.Common.{sym, ◌∙◌}
 use Rattle.std.proofs.lemmas.Map.Text.{hash_map_updates_str}
 use Rattle.efl_expressions.specs.NameViews.{entry_in}
-use Rattle.efl_blocks.proofs.WithinLemmas.{learned_now, learned_still}
+use Rattle.efl_blocks.proofs.WithinLemmas.{learned_now}
 use Rattle.efl_blocks.proofs.blocks.know.Goals as goal
 
 pub returns-in_ok-insert : goal.returns-in_ok-insert

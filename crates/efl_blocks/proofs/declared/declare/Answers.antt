@@ -1,7 +1,6 @@
 -- Each kind of declaration.
 use Rattle.std.proofs.Common.{map, sym, subst}
 use Rattle.std.proofs.lemmas.Result.{on_ok_weaker}
-use Rattle.efl_tree.specs.Syntax as efl
 use Rattle.efl_tree.specs.Views.{type_of, groups_of, vars_of, preset_of, decl_kind_of}
 use Rattle.efl_blocks.specs.DeclaredViews.{Declares, AddsList, AddsGroups, KnowsStructure}
 use Rattle.efl_blocks.proofs.DeclaredLemmas.{implicit_declared, initial_declared, variables_declared, area_declared, structure_declared}

@@ -1,5 +1,5 @@
 -- Types, and one group more.
-use Rattle.std.proofs.Common.{◌+◌, [], drop, subst, sym, refl, ap, inl, inr}
+use Rattle.std.proofs.Common.{◌+◌, drop, subst, sym, refl, inl, inr}
 use Rattle.std.proofs.lemmas.Result.{IfOk-weaker}
 use Rattle.std.proofs.lemmas.List.{drop_all}
 use Rattle.efl_tree.specs.Syntax as efl

@@ -1,5 +1,5 @@
 -- One member more.
-use Rattle.std.proofs.Common.{◌+◌, ◌∷◌, [], ◌++◌, drop, refl, sym, subst}
+use Rattle.std.proofs.Common.{◌+◌, drop, refl, sym, subst}
 use Rattle.std.proofs.lemmas.List.{drop_all}
 use Rattle.efl_tree.specs.Views.{var_of, vars_of}
 use Rattle.efl_scope.proofs.TreeLemmas.{drop_next}
