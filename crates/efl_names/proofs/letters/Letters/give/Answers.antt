@@ -1,5 +1,5 @@
 -- One letter more.
-use Rattle.std.proofs.Common.{◌≡◌, ◌+◌, ◌<◌, ◌≤◌, ℕ, nat_eq, Some, cond, refl, ap, sym, arith, ◌∙◌}
+use Rattle.std.proofs.Common.{◌≡◌, ◌+◌, ◌≤◌, nat_eq, Some, cond, refl, ap, arith, ◌∙◌}
 use Rattle.efl_names.specs.NameViews.{letter_in}
 use Rattle.efl_names.proofs.NameLemmas.{letters_begun, letters_next, letters_ended}
 use Rattle.efl_names.proofs.letters.Letters.give.Goals as goal
