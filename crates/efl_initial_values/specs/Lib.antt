@@ -1,0 +1,4 @@
+-- The definitions that the contracts of efl_initial_values cite.
+pub mod Offsets
+pub mod Filling
+pub mod Fits
