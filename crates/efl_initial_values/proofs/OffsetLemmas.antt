@@ -1,6 +1,6 @@
 -- Where places are, counted up to the limit.
-use Rattle.std.proofs.Common.{◌≡◌, ◌≢◌, ◌≤◌, ◌<◌, ℕ, zero, suc, ◌+◌, ◌*◌, min, nat_eq, Bool, true, false, List, [], ◌∷◌, length, drop, get_or, Option, Some, None, refl, sym, ap, subst, ◌∙◌, arith, if◌then◌else◌}
-use Rattle.std.specs.Prelude.{ℤ, neg_ℤ, is_none}
+use Rattle.std.proofs.Common.{◌≡◌, ◌≢◌, ◌≤◌, ◌<◌, ℕ, zero, suc, ◌+◌, ◌*◌, min, nat_eq, Bool, true, false, List, [], ◌∷◌, length, drop, get_or, Option, Some, None, refl, sym, ap, ◌∙◌, arith}
+use Rattle.std.specs.Prelude.{neg_ℤ}
 use Rattle.std.specs.Option.{option_map, option_and_then}
 use Rattle.std.specs.List.{slice_get}
 use Rattle.std.proofs.lemmas.List.{drop_all}
@@ -10,7 +10,7 @@ use Rattle.efl_tree.specs.declared.declaration.EflBound.{EflBound}
 use Rattle.efl_tree.specs.declared.expression.EflExpr.{EflExpr}
 use Rattle.efl_tree.specs.Syntax.{EflExprs, NoExpr, AndExpr, Int, Plus, Minus}
 use Rattle.efl_tree.specs.Syntax as efl
-use Rattle.efl_tree.specs.Views.{expr_of, exprs_of}
+use Rattle.efl_tree.specs.Views.{exprs_of}
 use Rattle.efl_scope.specs.DataTypes.{low_of, many_from}
 use Rattle.efl_types.specs.Signatures.{many}
 use Rattle.efl_types.specs.Presets.{constant, steps_to, plus, elements_before}

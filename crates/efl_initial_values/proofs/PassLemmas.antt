@@ -1,6 +1,5 @@
 -- Values that go over the places of types in memory.
-use Rattle.std.proofs.Common.{◌≡◌, ◌≢◌, ◌≤◌, ◌<◌, ℕ, zero, suc, ◌+◌, ◌*◌, ◌-◌, ◌/◌, min, max, nat_lt, nat_le, Bool, true, false, not, ◌&&◌, List, [], ◌∷◌, ◌++◌, length, drop, get_or, Option, Some, None, refl, sym, ap, subst, ◌∙◌, append_assoc, arith}
-use Rattle.std.specs.List.{slice_get}
+use Rattle.std.proofs.Common.{◌≡◌, ◌≢◌, ◌≤◌, ◌<◌, ℕ, zero, suc, ◌+◌, ◌*◌, ◌-◌, ◌/◌, min, nat_lt, nat_le, true, false, List, [], ◌∷◌, ◌++◌, length, drop, get_or, Option, Some, None, refl, sym, ap, subst, ◌∙◌, append_assoc, arith}
 use Rattle.std.proofs.lemmas.List.{drop_all, drop_more}
 use Rattle.std.proofs.lemmas.Nat.{div-mul-add}
 use Rattle.std.proofs.Math.Nat.{div-mul-le_self, mul-le-mul_right}
@@ -8,9 +7,8 @@ use Rattle.ground.specs.declared.value.Kind.{Kind}
 use Rattle.efl_tree.specs.declared.declaration.EflBound.{EflBound}
 use Rattle.efl_scope.specs.DataTypes.{DataType, Scalar, Structured, Array, NoType, Members, NoMember, AndMember, elements, places, all_places, is_large}
 use Rattle.efl_types.specs.Presets.{repeated, kinds_of, kinds_in, misfit}
-use Rattle.efl_types.specs.Expressions.{element_of}
 use Rattle.efl_scoped.specs.Numbers.{Table}
-use Rattle.efl_scoped.specs.Told.{Tells, capped}
+use Rattle.efl_scoped.specs.Told.{capped}
 use Rattle.efl_expressions.specs.declared.types.Structure.{Structure}
 use Rattle.efl_expressions.specs.declared.types.Member.{Member}
 use Rattle.efl_expressions.specs.declared.types.DataType as types

@@ -1,5 +1,5 @@
 -- Places of types in memory, as members, subscripts and steps lead on.
-use Rattle.std.proofs.Common.{◌≡◌, ◌≢◌, ◌≤◌, ◌<◌, ℕ, zero, suc, ◌+◌, ◌*◌, ◌==◌, min, Bool, true, false, List, [], ◌∷◌, length, drop, get_or, Option, Some, None, refl, sym, ap, subst, ◌∙◌, arith, if◌then◌else◌}
+use Rattle.std.proofs.Common.{◌≡◌, ◌≢◌, ◌≤◌, ◌<◌, ℕ, suc, ◌+◌, ◌*◌, ◌==◌, min, Bool, true, false, List, [], ◌∷◌, length, drop, get_or, Option, Some, None, refl, sym, ap, subst, ◌∙◌, arith, if◌then◌else◌}
 use Rattle.std.specs.Option.{option_map}
 use Rattle.std.specs.Str.{bytes_eq}
 use Rattle.std.proofs.lemmas.List.{drop_all, drop_more}
@@ -20,7 +20,7 @@ use Rattle.efl_types.specs.Types.{subscripted, member_type}
 use Rattle.efl_types.specs.Expressions.{element_of}
 use Rattle.efl_types.specs.Presets.{plus, elements_before, places_before, before_member, member_offset, offset_behind, offset}
 use Rattle.efl_scoped.specs.Numbers.{Table}
-use Rattle.efl_scoped.specs.Told.{capped, Tells}
+use Rattle.efl_scoped.specs.Told.{capped}
 use Rattle.efl_scoped.proofs.CountLemmas.{capped_times, times_capped}
 use Rattle.efl_expressions.specs.declared.types.Structure.{Structure}
 use Rattle.efl_expressions.specs.declared.types.Member.{Member}
@@ -29,7 +29,7 @@ use Rattle.efl_expressions.specs.declared.types.Element.TheVariants as e
 use Rattle.efl_expressions.specs.TypeViews.{Is, AreMembers, IsType}
 use Rattle.efl_expressions.proofs.TypeLemmas.{IsOther}
 use Rattle.efl_initial_values.specs.declared.offsets.Reached.{Reached}
-use Rattle.efl_initial_values.specs.Offsets.{on_from, LeadsTo, GoesOn, IsElement, ReachesElement}
+use Rattle.efl_initial_values.specs.Offsets.{on_from, GoesOn, IsElement, ReachesElement}
 use Rattle.efl_initial_values.proofs.OffsetLemmas.{on_from_zero, on_from_counted, on_from_all, some_of}
 
 -- ---- members ----

@@ -2,7 +2,7 @@
 use Rattle.std.proofs.Common.{◌≡◌, ◌≤◌, List, ◌++◌, Option, is_none, nat_lt, nat_eq, sum_by, Bool, false, not, ◌&&◌, ◌||◌, ℕ, sym, ap, ◌∙◌, arith}
 use Rattle.std.specs.List.{list_any}
 use Rattle.efl_tree.specs.Syntax.{EflPreset, EflProcedure}
-use Rattle.efl_scope.specs.DataTypes.{DataType, places, is_large}
+use Rattle.efl_scope.specs.DataTypes.{DataType, places}
 use Rattle.efl_scope.specs.Scopes.{meaning}
 use Rattle.efl_types.specs.declared.rule.TypeRule.{TypeRule}
 use Rattle.efl_types.specs.declared.rule.TypeRule.TheVariants.{TypeClash, WrongCount, BadConstant, NotAssignable}
@@ -11,7 +11,6 @@ use Rattle.efl_types.specs.Types.{target_type, is_single}
 use Rattle.efl_types.specs.Expressions.{when, place_faults, store_faults}
 use Rattle.efl_types.specs.Presets.{first_name, may_begin, offset, kinds_from, misfit, overflows, preset_faults}
 use Rattle.efl_scoped.specs.Numbers.{Table}
-use Rattle.efl_scoped.specs.Told.{capped}
 use Rattle.efl_expressions.specs.declared.types.Structure.{Structure}
 use Rattle.efl_expressions.specs.declared.types.DataType as types
 use Rattle.efl_expressions.specs.FirstRule.{or_lower, first_rule}

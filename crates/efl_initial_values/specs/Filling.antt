@@ -3,7 +3,7 @@ use Rattle.std.specs.Prelude.{◌≡◌, ℕ, ◌-◌, true, List, [], ◌∷◌
 use Rattle.ground.specs.declared.value.Kind.{Kind}
 use Rattle.efl_tree.specs.declared.declaration.EflConst.{EflConst}
 use Rattle.efl_scope.specs.DataTypes.{DataType, Scalar, Structured, Array, NoType, Members, NoMember, AndMember}
-use Rattle.efl_types.specs.Presets.{misfit, repeated}
+use Rattle.efl_types.specs.Presets.{misfit}
 use Rattle.efl_initial_values.specs.declared.values.Next.{Next}
 use Rattle.efl_initial_values.specs.declared.values.Progress.{Progress}
 

@@ -33,7 +33,11 @@ pub fn offset(structures: &Structures, kind: &DataType, place: &EflPlace) -> Opt
 }
 
 /// The number of what steps lead to.
-fn offset_behind<'a>(structures: &Structures<'a>, first: Reached<'a>, steps: &[EflStep]) -> Option<u64>
+fn offset_behind<'a>(
+    structures: &Structures<'a>,
+    first: Reached<'a>,
+    steps: &[EflStep],
+) -> Option<u64>
     ensures { (f : Table) (t : TypeSeen) → IsType f structures.now.list.items t first.entry.kind → result ≡ on_from first.entry.before (offset_behind_seen t (steps_of steps.now)) }
 {
     let mut reached = first;
@@ -52,11 +56,21 @@ fn go_on<'a>(structures: &Structures<'a>, from: &Reached<'a>, step: &EflStep) ->
 {
     match step {
         EflStep::Overlay(_) => None,
-        EflStep::Member(name, subscripts) => to_member(structures, from, name.as_bytes(), subscripts),
+        EflStep::Member(name, subscripts) => to_member(
+            structures,
+            from,
+            name.as_bytes(),
+            subscripts,
+        ),
     }
 }
 
-fn to_member<'a>(structures: &Structures<'a>, from: &Reached<'a>, name: &[u8], subscripts: &[EflExpr]) -> Option<Reached<'a>>
+fn to_member<'a>(
+    structures: &Structures<'a>,
+    from: &Reached<'a>,
+    name: &[u8],
+    subscripts: &[EflExpr],
+) -> Option<Reached<'a>>
     ensures { (f : Table) (t : TypeSeen) → IsType f structures.now.list.items t from.now.kind → GoesOn f structures.now.list.items t from.now.before (MemberStep name.now (exprs_of subscripts.now)) result }
 {
     match member_offset(structures, name, &from.kind) {
@@ -70,7 +84,12 @@ fn to_member<'a>(structures: &Structures<'a>, from: &Reached<'a>, name: &[u8], s
 }
 
 /// From a place to one of its elements, where subscripts stand.
-fn to_element<'a>(structures: &Structures<'a>, before: u64, kind: &DataType<'a>, subscripts: &[EflExpr]) -> Option<Reached<'a>>
+fn to_element<'a>(
+    structures: &Structures<'a>,
+    before: u64,
+    kind: &DataType<'a>,
+    subscripts: &[EflExpr],
+) -> Option<Reached<'a>>
     ensures { (f : Table) (t : TypeSeen) → IsType f structures.now.list.items t kind.now → ReachesElement f structures.now.list.items t before (exprs_of subscripts.now) result }
 {
     match places_before(structures, kind, subscripts) {

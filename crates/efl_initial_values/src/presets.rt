@@ -44,7 +44,15 @@ pub fn preset_rule(
 {
     let found = offset(structures, variable, &preset.place);
     let unlisted = lower(place, unlisted_rule(preset.listed, target));
-    values_rule(structures, variable, target, found, &preset.values, may_begin, unlisted)
+    values_rule(
+        structures,
+        variable,
+        target,
+        found,
+        &preset.values,
+        may_begin,
+        unlisted,
+    )
 }
 
 fn unlisted_rule(listed: bool, target: &DataType) -> Option<TypeRule>
@@ -77,8 +85,14 @@ fn values_rule(
         found ≡ option_map capped o → first_rule rs ≡ before →
         result ≡ first_rule (rs ++ when (overflows_seen t (sum_by (λ c. c.0) values.now) o) rules.WrongCount ++ when (list_any (λ c. nat_eq c.0 0) values.now || misfit (kinds_from o t p) values.now) rules.BadConstant ++ when (is_none o || not may_begin) rules.NotAssignable) }
 {
-    let many = rule_if(overflows(variable.summary.places, count_values(values), found), TypeRule::WrongCount);
-    let bad = rule_if(has_bad_value(structures, variable, target, found, values), TypeRule::BadConstant);
+    let many = rule_if(
+        overflows(variable.summary.places, count_values(values), found),
+        TypeRule::WrongCount,
+    );
+    let bad = rule_if(
+        has_bad_value(structures, variable, target, found, values),
+        TypeRule::BadConstant,
+    );
     let barred = rule_if(is_barred(found, may_begin), TypeRule::NotAssignable);
     let counted = lower(before, many);
     let valued = lower(counted, bad);
@@ -106,7 +120,13 @@ fn is_barred(found: Option<u64>, may_begin: bool) -> bool
 }
 
 /// Whether a count is zero, or a value of another kind than its place.
-fn has_bad_value(structures: &Structures, variable: &DataType, target: &DataType, found: Option<u64>, values: &[(u32, EflConst)]) -> bool
+fn has_bad_value(
+    structures: &Structures,
+    variable: &DataType,
+    target: &DataType,
+    found: Option<u64>,
+    values: &[(u32, EflConst)],
+) -> bool
     ensures { (f : Table) (t p : TypeSeen) (o : Option ℕ) → IsSmall f structures.now.list.items t variable.now → IsSmall f structures.now.list.items p target.now → found ≡ option_map capped o →
         result ≡ (list_any (λ c. nat_eq c.0 0) values.now || misfit (kinds_from o t p) values.now) }
 {
@@ -116,7 +136,13 @@ fn has_bad_value(structures: &Structures, variable: &DataType, target: &DataType
     misfits_from(structures, variable, target, found, values)
 }
 
-fn misfits_from(structures: &Structures, variable: &DataType, target: &DataType, found: Option<u64>, values: &[(u32, EflConst)]) -> bool
+fn misfits_from(
+    structures: &Structures,
+    variable: &DataType,
+    target: &DataType,
+    found: Option<u64>,
+    values: &[(u32, EflConst)],
+) -> bool
     ensures { (f : Table) (t p : TypeSeen) (o : Option ℕ) → IsSmall f structures.now.list.items t variable.now → IsSmall f structures.now.list.items p target.now → found ≡ option_map capped o →
         result ≡ misfit (kinds_from o t p) values.now }
 {

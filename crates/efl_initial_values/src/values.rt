@@ -26,13 +26,25 @@ pub struct Progress {
 }
 
 /// Whether a value misfits, where they fill a variable from the place with this number on.
-pub fn misfits(structures: &Structures, kind: &DataType, from: u64, values: &[(u32, EflConst)]) -> bool
+pub fn misfits(
+    structures: &Structures,
+    kind: &DataType,
+    from: u64,
+    values: &[(u32, EflConst)],
+) -> bool
     ensures { (f : Table) (t : TypeSeen) → IsType f structures.now.list.items t kind.now → is_large t ≡ false → result ≡ misfit (drop from (kinds_of t)) values.now }
 {
     let next = Next { number: 0, used: 0 };
     let progress = Progress { skip: from, next };
     let depth = structures.list.len();
-    match pass_elements(structures, values, progress, kind.element, kind.summary.places, depth) {
+    match pass_elements(
+        structures,
+        values,
+        progress,
+        kind.element,
+        kind.summary.places,
+        depth,
+    ) {
         None => true,
         Some(_passed) => false,
     }
@@ -62,7 +74,15 @@ fn pass_elements(
                 if depth == 0 {
                     return Some(from);
                 }
-                pass_structures(structures, values, from, &structure.members, structure.summary.places, total, depth - 1)
+                pass_structures(
+                    structures,
+                    values,
+                    from,
+                    &structure.members,
+                    structure.summary.places,
+                    total,
+                    depth - 1,
+                )
             }
         },
     }
@@ -117,7 +137,14 @@ fn pass_members(
 {
     let mut progress = from;
     for member in members {
-        match pass_elements(structures, values, progress, member.kind.element, member.kind.summary.places, depth) {
+        match pass_elements(
+            structures,
+            values,
+            progress,
+            member.kind.element,
+            member.kind.summary.places,
+            depth,
+        ) {
             None => return None,
             Some(passed) => progress = passed,
         }

@@ -1,7 +1,6 @@
 -- One preset more is counted.
-use Rattle.std.proofs.Common.{◌≡◌, sym, ap, subst, ◌∙◌, arith}
-use Rattle.efl_scoped.specs.Told.{capped}
-use Rattle.efl_initial_values.proofs.CountLemmas.{counted, preset_counted, presets_counted}
+use Rattle.std.proofs.Common.{arith}
+use Rattle.efl_initial_values.proofs.CountLemmas.{preset_counted, presets_counted}
 use Rattle.efl_initial_values.proofs.counts.count_presets.Goals as goal
 
 pub loop-preset-preserved : goal.loop-preset-preserved

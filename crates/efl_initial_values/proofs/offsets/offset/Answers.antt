@@ -1,11 +1,7 @@
 -- The element of the first name, and the steps behind it.
-use Rattle.std.proofs.Common.{◌≡◌, sym, ap, ◌∙◌, Some, None}
-use Rattle.std.specs.Option.{option_map}
-use Rattle.efl_tree.specs.Views.{exprs_of, steps_of, place_of}
+use Rattle.efl_tree.specs.Views.{exprs_of}
 use Rattle.efl_types.specs.Signatures.{many}
 use Rattle.efl_types.specs.Types.{subscripted}
-use Rattle.efl_types.specs.Presets.{plus, offset, offset_behind, places_before}
-use Rattle.efl_scoped.specs.Told.{capped}
 use Rattle.efl_initial_values.proofs.PlaceLemmas.{offset_none, offset_some}
 use Rattle.efl_initial_values.proofs.offsets.offset.Goals as goal
 

@@ -1,5 +1,5 @@
 -- Where the element is, and what it is.
-use Rattle.std.proofs.Common.{◌≡◌, sym, subst, refl}
+use Rattle.std.proofs.Common.{sym, subst, refl}
 use Rattle.efl_tree.specs.Views.{exprs_of}
 use Rattle.efl_types.specs.Types.{subscripted}
 use Rattle.efl_types.specs.Presets.{places_before}

@@ -1,11 +1,11 @@
 -- The place goes first, and its values behind it.
-use Rattle.std.proofs.Common.{◌≡◌, ◌++◌, not, ◌&&◌, sym, ap, subst, ◌∙◌}
+use Rattle.std.proofs.Common.{◌++◌, not, ◌&&◌}
 use Rattle.efl_tree.specs.Views.{preset_of}
 use Rattle.efl_types.specs.declared.rule.TypeRule.TheVariants.{TypeClash}
 use Rattle.efl_types.specs.Signatures.{variable_type}
 use Rattle.efl_types.specs.Types.{target_type, is_single}
 use Rattle.efl_types.specs.Expressions.{when, place_faults, store_faults}
-use Rattle.efl_types.specs.Presets.{first_name, offset, preset_faults}
+use Rattle.efl_types.specs.Presets.{first_name, offset}
 use Rattle.efl_initial_values.proofs.PresetLemmas.{lower_more, rule_of_preset}
 use Rattle.efl_initial_values.proofs.presets.preset_rule.Goals as goal
 

@@ -1,5 +1,5 @@
 -- One rule after the other.
-use Rattle.std.proofs.Common.{◌≡◌, ◌++◌, nat_eq, not, ◌||◌, is_none, sum_by, sym, ap, ◌∙◌}
+use Rattle.std.proofs.Common.{◌++◌, nat_eq, not, ◌||◌, is_none, sum_by, sym, ap, ◌∙◌}
 use Rattle.std.specs.List.{list_any}
 use Rattle.efl_types.specs.declared.rule.TypeRule.TheVariants.{WrongCount, BadConstant, NotAssignable}
 use Rattle.efl_types.specs.Expressions.{when}

@@ -1,7 +1,6 @@
 -- Members and elements one after the other.
-use Rattle.std.proofs.Common.{◌≡◌, ◌*◌, [], drop, sym, ap, subst, refl, ◌∙◌, arith}
+use Rattle.std.proofs.Common.{◌≡◌, [], drop, sym, subst, refl, ◌∙◌, arith}
 use Rattle.std.proofs.lemmas.List.{drop_all}
-use Rattle.efl_scope.specs.DataTypes.{all_places}
 use Rattle.efl_types.specs.Presets.{repeated, kinds_of, kinds_in}
 use Rattle.efl_expressions.specs.TypeViews.{AreMembers}
 use Rattle.efl_expressions.proofs.TypeLemmas.{structure_is, scalar_is, nothing_is, is_there, one_got, none_got}

@@ -1,5 +1,5 @@
 -- A value fills places until it is used up.
-use Rattle.std.proofs.Common.{◌<◌, ◌≤◌, [], ◌∷◌, ◌++◌, length, sym, ap, ◌∙◌, rules, arith}
+use Rattle.std.proofs.Common.{◌<◌, ◌≤◌, [], ◌∷◌, ◌++◌, length, sym, ap, ◌∙◌, rules}
 use Rattle.efl_types.specs.Presets.{repeated, misfit}
 use Rattle.efl_initial_values.specs.Filling.{used_up}
 use Rattle.efl_initial_values.proofs.KindLemmas.{over_misfit, over_all, over_part, over_done}
