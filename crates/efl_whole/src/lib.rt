@@ -1,0 +1,14 @@
+//! Whole EFL programs: procedures have names of their own, there is one main, and no call leads back to its procedure.
+#![tactic(auto)]
+
+mod calls;
+mod checking;
+mod expressions;
+mod listing;
+mod names;
+mod numbers;
+mod procedures;
+mod roles;
+mod statements;
+
+pub use checking::whole;
