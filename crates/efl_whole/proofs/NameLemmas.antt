@@ -1,5 +1,5 @@
 -- Names that are taken by the numbers of procedures, and mains that come.
-use Rattle.std.proofs.Common.{◌≡◌, ◌<◌, ◌+◌, ℕ, zero, suc, Bool, true, false, cond, ◌||◌, List, [], ◌∷◌, ◌++◌, length, Option, Some, None, refl, sym, ap, ◌∙◌, arith}
+use Rattle.std.proofs.Common.{◌≡◌, ◌+◌, ℕ, suc, Bool, true, false, cond, ◌||◌, List, [], ◌∷◌, ◌++◌, length, Option, Some, None, refl, sym, ap, ◌∙◌, arith}
 use Rattle.std.specs.Prelude.{is_none, is_some, option_map, if◌then◌else◌}
 use Rattle.std.specs.List.{list_any, cons_option}
 use Rattle.std.specs.Str.{bytes_eq}
@@ -10,7 +10,7 @@ use Rattle.ground.specs.declared.place.Place.{Place}
 use Rattle.efl_tree.specs.Syntax.{Text, EflProcedure}
 use Rattle.efl_scope.specs.ScopeRules.{holds}
 use Rattle.efl_types.specs.Signatures.{known}
-use Rattle.efl_types.specs.Whole.{number_of, is_taken, names_before, first_taken, begins_at, mains, main_fault}
+use Rattle.efl_types.specs.Whole.{number_of, is_taken, names_before, first_taken, mains, main_fault}
 use Rattle.efl_whole.specs.Names.{takes_name, taken_from, main_behind}
 
 -- a procedure has the name

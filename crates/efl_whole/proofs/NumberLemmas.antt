@@ -1,10 +1,10 @@
 -- What comes into tables: a structure among roles, a procedure's number, a range of letters.
 use Rattle.std.proofs.Common.{◌≡◌, ◌<◌, ◌+◌, ◌∙◌, ◌∷◌, ◌++◌, [], ℕ, Bool, true, false, cond, List, length, map, take, get_or, Option, None, Some, refl, sym, ap, arith}
-use Rattle.std.specs.Prelude.{nat_le, ◌&&◌, if◌then◌else◌}
+use Rattle.std.specs.Prelude.{if◌then◌else◌}
 use Rattle.std.specs.Option.{option_or}
 use Rattle.std.specs.Str.{bytes_eq}
 use Rattle.std.proofs.lemmas.List.{length-map, map-append, take_more, length-take-le}
-use Rattle.rule_table.specs.Words.{is_some_and, first_place}
+use Rattle.rule_table.specs.Words.{is_some_and}
 use Rattle.rule_table.proofs.WordLemmas.{first_place-push}
 use Rattle.efl_tree.specs.declared.procedure.EflProcedure as memory
 use Rattle.efl_tree.specs.Syntax.{Text, EflProcedure}

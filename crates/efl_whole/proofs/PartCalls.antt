@@ -1,5 +1,5 @@
 -- The calls that a walk finds are those of a program's parts.
-use Rattle.std.proofs.Common.{◌≡◌, ◌<◌, ◌+◌, ℕ, zero, suc, ℤ, Bool, true, false, ◌||◌, List, [], ◌∷◌, ◌++◌, length, Option, Some, None, map, refl, sym, ap, subst, ◌∙◌, arith}
+use Rattle.std.proofs.Common.{◌≡◌, ◌<◌, ◌+◌, ℕ, zero, suc, ℤ, Bool, true, false, ◌||◌, List, [], ◌∷◌, ◌++◌, length, Option, Some, None, map, refl, sym, ap, ◌∙◌, arith}
 use Rattle.std.specs.Prelude.{unwrap_or, option_map, filter_map, flat_map, cond, if◌then◌else◌, ⊤}
 use Rattle.std.specs.List.{slice_get, cons_option}
 use Rattle.std.proofs.lemmas.List.{append-nil, append_assoc}
@@ -16,12 +16,12 @@ use Rattle.efl_scope.specs.DataTypes.{DataType, Scalar, Structured, Array, NoTyp
 use Rattle.efl_scope.specs.Scopes.{Blocks, Meaning, IsVariable, IsStructure, meaning, behind, behind_declaration, outer}
 use Rattle.efl_scope.specs.Scopes as scopes
 use Rattle.efl_scope.specs.Parts.{Form, Header, Declares, Groups, States, Until, Chooses, Around, Part, part, among, into, in_loop, in_list, opening, opened, names_of, names_by, shapes_in, groups_in, members_in, area_groups, groups_by, declarations_in, parts_of, parts_within, parts_in, clauses_in, header_type_groups, around_unit, parts_by, parts_from, program_parts}
-use Rattle.efl_scope.specs.Uses.{Use, Named, Applied, Laid, uses_of, uses_by, uses_declared, uses_in}
+use Rattle.efl_scope.specs.Uses.{Use, Named, Applied, Laid, uses_of, uses_declared, uses_in}
 use Rattle.efl_types.specs.Signatures.{Names, applied_by, applied_as}
 use Rattle.efl_types.specs.Types.{calls}
 use Rattle.efl_types.specs.TypeRules as rules
-use Rattle.efl_types.specs.Whole.{number_of, called_by, called_in, CallAt, calls_in, program_calls, edges_of}
-use Rattle.efl_whole.specs.Roles.{Roles, no_role, inside, behind_kind, behind_all, Listed, listed}
+use Rattle.efl_types.specs.Whole.{number_of, called_by, CallAt, calls_in, program_calls, edges_of}
+use Rattle.efl_whole.specs.Roles.{Roles, behind_kind, behind_all, listed}
 use Rattle.efl_whole.specs.Calls.{Calls, no_calls, Site, calling, called_as, using, using_all, entering, declaration_calls, declarations_calls, statement_calls, within_calls, statements_calls, clauses_calls, outside, procedure_calls, procedures_calls}
 use Rattle.efl_whole.proofs.Meanings.{kind_role, role_of, roles_by, Heads, heads_roles, kind_heads, all_heads, entering_heads, outer_roles, outer_heads}
 

@@ -1,5 +1,5 @@
 -- The first fault of a whole program by what its parts tell.
-use Rattle.std.proofs.Common.{◌≡◌, ◌<◌, ◌+◌, ℕ, zero, suc, List, [], ◌∷◌, length, get_or, Option, Some, None, map, refl, sym, ap, subst, ◌∙◌, arith}
+use Rattle.std.proofs.Common.{◌≡◌, ◌<◌, ℕ, zero, suc, List, [], ◌∷◌, length, get_or, Option, Some, None, map, refl, sym, ap, subst, ◌∙◌, arith}
 use Rattle.std.specs.Prelude.{option_map}
 use Rattle.std.specs.List.{slice_get}
 use Rattle.std.proofs.lemmas.List.{length-map}
@@ -7,11 +7,8 @@ use Rattle.ground.specs.Faults.{fault_at}
 use Rattle.ground.specs.declared.place.Place.{Place}
 use Rattle.ground.specs.declared.fault.Fault.{Fault}
 use Rattle.ground.specs.declared.fault.FaultKind.TheVariants.{Recursion}
-use Rattle.call_cycles.specs.declared.edge.Edge.{Edge}
 use Rattle.call_cycles.specs.Cycles.{IsFirstOnCycle, HasNoCycle, AreWithin}
-use Rattle.efl_tree.specs.declared.procedure.EflProcedure as memory
 use Rattle.efl_tree.specs.Syntax.{Text, EflProgram}
-use Rattle.efl_tree.specs.Views.{procedure_of}
 use Rattle.efl_types.specs.Whole.{number_of, CallAt, program_calls, edges_of, count_fault, IsRecursion, TellsCalls, TellsWhole}
 use Rattle.efl_whole.specs.Calls.{Calls, no_calls, procedures_calls}
 use Rattle.efl_whole.proofs.PartCalls.{edges_within, found_edges, found_places}

@@ -1,6 +1,6 @@
 -- Calls and where a part is, in memory.
 use Rattle.std.specs.Prelude.{ℕ, Option, Some, None, Box}
-use Rattle.std.specs.HashMap.{HashMap, get_by}
+use Rattle.std.specs.HashMap.{get_by}
 use Rattle.std.specs.Str.{bytes_eq}
 use Rattle.std.specs.declared.alloc.Global.{Global}
 use Rattle.ground.specs.declared.place.Place.{Place}

@@ -6,7 +6,7 @@ use Rattle.ground.specs.declared.fault.Refusal.{Refusal}
 use Rattle.ground.specs.declared.fault.Refusal.TheVariants.{Fault as AFault, Memory}
 use Rattle.efl_tree.specs.Syntax.{Text, EflProcedure, EflProgram}
 use Rattle.efl_types.specs.Signatures.{known}
-use Rattle.efl_types.specs.Whole.{number_of, begins_at, main_fault, TellsWhole}
+use Rattle.efl_types.specs.Whole.{begins_at, main_fault, TellsWhole}
 
 -- an earlier procedure, or an intrinsic function, has the name of the procedure with this number
 abbrev pub takes_name : (Text → Option ℕ) → ℕ → Option Text → Bool
