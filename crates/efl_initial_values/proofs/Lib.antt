@@ -6,3 +6,4 @@ pub mod OffsetLemmas
 pub mod PlaceLemmas
 pub mod CountLemmas
 pub mod PresetLemmas
+pub mod FillLemmas

@@ -2,3 +2,4 @@
 pub mod Offsets
 pub mod Filling
 pub mod Fits
+pub mod Fills

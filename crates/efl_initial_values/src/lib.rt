@@ -1,13 +1,16 @@
-//! The initial values of EFL: which place of its variable a preset begins at, whether its values fit, and the first rule that it breaks.
+//! The initial values of EFL: which place of its variable a preset begins at, whether its values fit, the first rule that it breaks, and
+//! whether an earlier one filled its places.
 #![tactic(auto)]
 
 mod counts;
+mod fills;
 mod offsets;
 mod presets;
 mod subscripts;
 mod values;
 
 pub use counts::{count_presets, count_values, passes_limit};
+pub use fills::Fills;
 pub use offsets::offset;
 pub use presets::preset_rule;
 pub use values::misfits;
