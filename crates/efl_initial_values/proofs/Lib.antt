@@ -7,3 +7,4 @@ pub mod PlaceLemmas
 pub mod CountLemmas
 pub mod PresetLemmas
 pub mod FillLemmas
+pub mod RoomLemmas

@@ -1,10 +1,21 @@
 // Which places presets have filled so far, by ranges of the places of each owner.
 ghost use Rattle.std.specs.Prelude.{◌≡◌, ◌<◌, ◌+◌, ◌^◌, ℕ, false, nat_lt, not, List, [], ◌∷◌, OnOk, IfOk};
 ghost use Rattle.std.specs.List.{list_any};
+ghost use Rattle.std.specs.Option.{option_map};
 ghost use Rattle.rule_table.specs.Words.{is_some_and};
-ghost use Rattle.efl_types.specs.Presets.{Owner, Filled, meet};
+ghost use Rattle.efl_tree.specs.Syntax.{EflProcedure};
+ghost use Rattle.efl_tree.specs.Views.{preset_of};
+ghost use Rattle.efl_scope.specs.Scopes.{meaning};
+ghost use Rattle.efl_types.specs.Signatures.{Names, variable_type};
+ghost use Rattle.efl_types.specs.Presets.{Owner, Filled, meet, first_name, before_variable, filled_from, offset as offset_seen};
+ghost use Rattle.efl_scoped.specs.Numbers.{Table};
+ghost use Rattle.efl_initial_values.specs.Fits.{IsSmall};
 ghost use Rattle.efl_initial_values.specs.Fills.{ends_of, AreNumbers, Notes, LastBefore, Meets, Extends};
 
+use crate::counts::count_values;
+use crate::offsets::offset;
+use efl_expressions::{DataType, Structures};
+use efl_tree::EflPreset;
 use std::alloc::{AllocError, Global};
 use std::collections::BTreeMap;
 
@@ -77,5 +88,34 @@ impl Fills {
             None => false,
             Some(last) => *last >= end,
         }
+    }
+}
+
+/// A range of places of an owner.
+#[derive(Clone, Copy, Drop)]
+pub struct Range {
+    pub first: u64,
+    pub many: u64,
+}
+
+/// The places that a preset fills: those from its place on, up to the end of its variable, which stands behind so many places of its owner.
+pub fn filled(
+    structures: &Structures,
+    variable: &DataType,
+    preset: &EflPreset,
+    before: u64,
+) -> Option<Range>
+    requires { before + 32768 < 2 ^ 64 }
+    ensures { (f : Table) (k : ℕ) (u : EflProcedure) (n : Names) → let p = preset_of preset.now in let x = first_name p.place in
+        IsSmall f structures.now.list.items (variable_type n x) variable.now → before ≡ before_variable u (meaning n.blocks x) →
+        (option_map (λ r. r.first) result ≡ option_map (λ i. (filled_from k u n p i).first) (offset_seen (variable_type n x) p.place)) ×
+        (option_map (λ r. r.many) result ≡ option_map (λ i. (filled_from k u n p i).many) (offset_seen (variable_type n x) p.place)) }
+{
+    match offset(structures, variable, &preset.place) {
+        None => None,
+        Some(offset) => Some(Range {
+            first: before.saturating_add(offset),
+            many: count_values(&preset.values).min(variable.summary.places.saturating_sub(offset)),
+        }),
     }
 }
