@@ -4,3 +4,5 @@ pub mod WithinLemmas
 pub mod MemberLemmas
 pub mod ShapeLemmas
 pub mod DeclaredLemmas
+pub mod OuterLemmas
+pub mod ProcedureLemmas

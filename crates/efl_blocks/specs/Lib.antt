@@ -2,3 +2,5 @@
 pub mod Within
 pub mod Made
 pub mod DeclaredViews
+pub mod OuterViews
+pub mod ProcedureViews

@@ -3,8 +3,12 @@
 
 mod blocks;
 mod declared;
+mod outer;
+mod procedures;
 mod types;
 
 pub use blocks::{know, know_if_any, named};
-pub use declared::{know_structure, open_block};
+pub use declared::{declare, know_structure, name_declared, open_block};
+pub use outer::{Outer, open_outer};
+pub use procedures::{Procedures, names_within, open_procedures, outcome_of};
 pub use types::{Types, make_structure, make_type, with_bounds};
