@@ -160,39 +160,39 @@ variables_ended y z k old new vs all = record {
   adds = λ home q t ws plain made are. let at = all.left home q t ws plain made are in subst (λ us. AreVariables z us new) (sym (append-nil at.0) ∙ at.2) at.1;
 }
 
-pub list_added : (y z w : Types) (known after old new : Block) (outside : Blocks) (t : EflType) (vs : List EflVar) (d : types.DataType) → MakesType y known outside t z after d →
-    AddsVariables z d old vs w new → AddsList y known outside old t vs w after new
-list_added y z w known after old new outside t vs d made added = record {
+pub list_added : (y z w : Types) (known after old new : Block) (beyond : Blocks) (t : EflType) (vs : List EflVar) (d : types.DataType) → MakesType y known beyond t z after d →
+    AddsVariables z d old vs w new → AddsList y known beyond old t vs w after new
+list_added y z w known after old new beyond t vs d made added = record {
   later = later_on y z w made.later added.later;
-  knows = λ bs is. within_later z w added.later (behind bs t) after outside (made.knows bs is);
+  knows = λ bs is. within_later z w added.later (behind bs t) after beyond (made.knows bs is);
   adds = λ home q bs ws is are. added.adds home q (data_type bs t) ws (type_plain bs t) (made.makes bs is) (variables_later y z ws old made.later are);
 }
 
 -- ---- groups ----
 
-pub record GroupsAt (gs : EflGroups) (bs : scopes.Blocks) (q : Text) (ws : List Variable) (z : Types) (after : Block) (outside : Blocks) (rest : EflGroups) (now : Block) : Type 0 where
+pub record GroupsAt (gs : EflGroups) (bs : scopes.Blocks) (q : Text) (ws : List Variable) (z : Types) (after : Block) (beyond : Blocks) (rest : EflGroups) (now : Block) : Type 0 where
   pub blocks : scopes.Blocks
-  pub knows : Within z blocks after outside
+  pub knows : Within z blocks after beyond
   pub ahead : behind_groups bs gs ≡ behind_groups blocks rest
   pub before : List Variable
   pub are : AreVariables z before now
   pub whole : before ++ group_variables q blocks rest ≡ ws ++ group_variables q bs gs
 
-pub record GroupsLeft (y : Types) (known : Block) (outside : Blocks) (old : Block) (gs : EflGroups) (z : Types) (after : Block) (rest : EflGroups) (now : Block) : Type 0 where
+pub record GroupsLeft (y : Types) (known : Block) (beyond : Blocks) (old : Block) (gs : EflGroups) (z : Types) (after : Block) (rest : EflGroups) (now : Block) : Type 0 where
   pub later : Later y z
-  pub blocks : (bs : scopes.Blocks) → Within y bs known outside → (cs : scopes.Blocks) × Within z cs after outside × (behind_groups bs gs ≡ behind_groups cs rest)
-  pub left : (q : Text) (bs : scopes.Blocks) (ws : List Variable) → Within y bs known outside → AreVariables y ws old → GroupsAt gs bs q ws z after outside rest now
+  pub blocks : (bs : scopes.Blocks) → Within y bs known beyond → (cs : scopes.Blocks) × Within z cs after beyond × (behind_groups bs gs ≡ behind_groups cs rest)
+  pub left : (q : Text) (bs : scopes.Blocks) (ws : List Variable) → Within y bs known beyond → AreVariables y ws old → GroupsAt gs bs q ws z after beyond rest now
 
-pub groups_begun : (y : Types) (known old : Block) (outside : Blocks) (gs : EflGroups) → GroupsLeft y known outside old gs y known gs old
-groups_begun y known old outside gs = record {
+pub groups_begun : (y : Types) (known old : Block) (beyond : Blocks) (gs : EflGroups) → GroupsLeft y known beyond old gs y known gs old
+groups_begun y known old beyond gs = record {
   later = later_same y;
   blocks = λ bs is. (bs, is, refl);
   left = λ q bs ws is are. record { blocks = bs; knows = is; ahead = refl; before = ws; are = are; whole = refl };
 }
 
-pub group_passed : (y z w : Types) (known between after old now new : Block) (outside : Blocks) (gs : EflGroups) (t : EflType) (vs : List EflVar) (p : Place) (rest : EflGroups) →
-    GroupsLeft y known outside old gs z between (AndGroup t vs p rest) now → AddsList z between outside now t vs w after new → GroupsLeft y known outside old gs w after rest new
-group_passed y z w known between after old now new outside gs t vs p rest passed added = record {
+pub group_passed : (y z w : Types) (known between after old now new : Block) (beyond : Blocks) (gs : EflGroups) (t : EflType) (vs : List EflVar) (p : Place) (rest : EflGroups) →
+    GroupsLeft y known beyond old gs z between (AndGroup t vs p rest) now → AddsList z between beyond now t vs w after new → GroupsLeft y known beyond old gs w after rest new
+group_passed y z w known between after old now new beyond gs t vs p rest passed added = record {
   later = later_on y z w passed.later added.later;
   blocks = λ bs is. let at = passed.blocks bs is in (behind at.0 t, added.knows at.0 at.1, at.2);
   left = λ q bs ws is are.
@@ -207,69 +207,69 @@ group_passed y z w known between after old now new outside gs t vs p rest passed
       };
 }
 
-pub groups_ended : (y z : Types) (known after old new : Block) (outside : Blocks) (gs : EflGroups) → GroupsLeft y known outside old gs z after NoGroup new → AddsGroups y known outside old gs z after new
-groups_ended y z known after old new outside gs all = record {
+pub groups_ended : (y z : Types) (known after old new : Block) (beyond : Blocks) (gs : EflGroups) → GroupsLeft y known beyond old gs z after NoGroup new → AddsGroups y known beyond old gs z after new
+groups_ended y z known after old new beyond gs all = record {
   later = all.later;
-  knows = λ bs is. let at = all.blocks bs is in subst (λ cs. Within z cs after outside) (sym at.2) at.1;
+  knows = λ bs is. let at = all.blocks bs is in subst (λ cs. Within z cs after beyond) (sym at.2) at.1;
   adds = λ q bs ws is are. let at = all.left q bs ws is are in subst (λ us. AreVariables z us new) (sym (append-nil at.before) ∙ at.whole) at.are;
 }
 
 -- ---- declarations ----
 
-pub quiet : (y z : Types) (known after old : Block) (outside : Blocks) (k : EflDeclKind) → Later y z → ((bs : scopes.Blocks) → Within y bs known outside → Within z (behind_declaration bs k) after outside) →
-    ((home : List ℕ) (bs : scopes.Blocks) → declared_by home bs k ≡ []) → Declares y known outside old k z after old
-quiet y z known after old outside k later knows none = record {
+pub quiet : (y z : Types) (known after old : Block) (beyond : Blocks) (k : EflDeclKind) → Later y z → ((bs : scopes.Blocks) → Within y bs known beyond → Within z (behind_declaration bs k) after beyond) →
+    ((home : List ℕ) (bs : scopes.Blocks) → declared_by home bs k ≡ []) → Declares y known beyond old k z after old
+quiet y z known after old beyond k later knows none = record {
   later = later;
   knows = knows;
   adds = λ home bs ws is are. subst (λ us. AreVariables z us old) (sym (ap (λ us. ws ++ us) (none home bs) ∙ append-nil ws)) (variables_later y z ws old later are);
 }
 
-pub implicit_declared : (y z : Types) (known after old : Block) (outside : Blocks) (rs : List (ℕ × ℕ)) (t : EflType) (d : types.DataType) → MakesType y known outside t z after d →
-    Declares y known outside old (Implicit rs t) z after old
-implicit_declared y z known after old outside rs t d made = quiet y z known after old outside (Implicit rs t) made.later made.knows (λ home bs. refl)
+pub implicit_declared : (y z : Types) (known after old : Block) (beyond : Blocks) (rs : List (ℕ × ℕ)) (t : EflType) (d : types.DataType) → MakesType y known beyond t z after d →
+    Declares y known beyond old (Implicit rs t) z after old
+implicit_declared y z known after old beyond rs t d made = quiet y z known after old beyond (Implicit rs t) made.later made.knows (λ home bs. refl)
 
-pub initial_declared : (y : Types) (known old : Block) (outside : Blocks) (ps : List EflPreset) → Declares y known outside old (Initial ps) y known old
-initial_declared y known old outside ps = quiet y y known known old outside (Initial ps) (later_same y) (λ bs is. is) (λ home bs. refl)
+pub initial_declared : (y : Types) (known old : Block) (beyond : Blocks) (ps : List EflPreset) → Declares y known beyond old (Initial ps) y known old
+initial_declared y known old beyond ps = quiet y y known known old beyond (Initial ps) (later_same y) (λ bs is. is) (λ home bs. refl)
 
-pub variables_declared : (y z : Types) (known after old new : Block) (outside : Blocks) (q : Option Text) (t : EflType) (vs : List EflVar) → AddsList y known outside old t vs z after new →
-    Declares y known outside old (Variables q t vs) z after new
-variables_declared y z known after old new outside q t vs added = record {
+pub variables_declared : (y z : Types) (known after old new : Block) (beyond : Blocks) (q : Option Text) (t : EflType) (vs : List EflVar) → AddsList y known beyond old t vs z after new →
+    Declares y known beyond old (Variables q t vs) z after new
+variables_declared y z known after old new beyond q t vs added = record {
   later = added.later;
   knows = added.knows;
   adds = λ home bs ws is are. added.adds home q bs ws is are;
 }
 
-pub area_declared : (y z : Types) (known after old new : Block) (outside : Blocks) (q : Text) (gs : EflGroups) → AddsGroups y known outside old gs z after new →
-    Declares y known outside old (Area q gs) z after new
-area_declared y z known after old new outside q gs added = record { later = added.later; knows = added.knows; adds = λ home bs ws is are. added.adds q bs ws is are }
+pub area_declared : (y z : Types) (known after old new : Block) (beyond : Blocks) (q : Text) (gs : EflGroups) → AddsGroups y known beyond old gs z after new →
+    Declares y known beyond old (Area q gs) z after new
+area_declared y z known after old new beyond q gs added = record { later = added.later; knows = added.knows; adds = λ home bs ws is are. added.adds q bs ws is are }
 
-pub structure_declared : (y z : Types) (known after old : Block) (outside : Blocks) (x : Text) (gs : EflGroups) → KnowsStructure y known outside x gs z after →
-    Declares y known outside old (Structure x gs) z after old
-structure_declared y z known after old outside x gs seen = quiet y z known after old outside (Structure x gs) seen.later seen.knows (λ home bs. refl)
+pub structure_declared : (y z : Types) (known after old : Block) (beyond : Blocks) (x : Text) (gs : EflGroups) → KnowsStructure y known beyond x gs z after →
+    Declares y known beyond old (Structure x gs) z after old
+structure_declared y z known after old beyond x gs seen = quiet y z known after old beyond (Structure x gs) seen.later seen.knows (λ home bs. refl)
 
-pub structure_known : (y z : Types) (known between after : Block) (outside : Blocks) (x : Text) (gs : EflGroups) (d : types.DataType) → MakesStructure y known outside gs z between d →
-    ((q : Text) → entry_in after q ≡ learned (bytes_eq q x) d (entry_in between q)) → KnowsStructure y known outside x gs z after
-structure_known y z known between after outside x gs d made comes = record {
+pub structure_known : (y z : Types) (known between after : Block) (beyond : Blocks) (x : Text) (gs : EflGroups) (d : types.DataType) → MakesStructure y known beyond gs z between d →
+    ((q : Text) → entry_in after q ≡ learned (bytes_eq q x) d (entry_in between q)) → KnowsStructure y known beyond x gs z after
+structure_known y z known between after beyond x gs d made comes = record {
   later = made.later;
-  knows = λ bs is. within_learned z (behind_groups bs gs) between after outside (Some x) (shape bs gs) d (made.knows bs is) (made.makes bs is) comes;
+  knows = λ bs is. within_learned z (behind_groups bs gs) between after beyond (Some x) (shape bs gs) d (made.knows bs is) (made.makes bs is) comes;
 }
 
 -- ---- all declarations ----
 
-pub record DeclarationsLeft (y : Types) (known : Block) (outside : Blocks) (ds : List EflDecl) (z : Types) (after : Block) (rest : List EflDecl) (now : Block) : Type 0 where
+pub record DeclarationsLeft (y : Types) (known : Block) (beyond : Blocks) (ds : List EflDecl) (z : Types) (after : Block) (rest : List EflDecl) (now : Block) : Type 0 where
   pub later : Later y z
-  pub left : (home : List ℕ) (bs : scopes.Blocks) → Within y bs known outside →
-      (cs : scopes.Blocks) × Within z cs after outside × ((us : List Variable) × AreVariables z us now × (us ++ declared_in home cs rest ≡ declared_in home bs ds))
+  pub left : (home : List ℕ) (bs : scopes.Blocks) → Within y bs known beyond →
+      (cs : scopes.Blocks) × Within z cs after beyond × ((us : List Variable) × AreVariables z us now × (us ++ declared_in home cs rest ≡ declared_in home bs ds))
 
-pub declarations_begun : (y : Types) (known : Block) (outside : Blocks) (ds : List EflDecl) (now : Block) → ((x : Text) → entry_in now x ≡ None) → DeclarationsLeft y known outside ds y known ds now
-declarations_begun y known outside ds now none = record {
+pub declarations_begun : (y : Types) (known : Block) (beyond : Blocks) (ds : List EflDecl) (now : Block) → ((x : Text) → entry_in now x ≡ None) → DeclarationsLeft y known beyond ds y known ds now
+declarations_begun y known beyond ds now none = record {
   later = later_same y;
   left = λ home bs is. (bs, is, ([], (λ x. subst (IsMeant y None) (sym (none x)) tt), refl));
 }
 
-pub declaration_passed : (y z w : Types) (known between after now new : Block) (outside : Blocks) (ds : List EflDecl) (d : EflDecl) (rest : List EflDecl) →
-    DeclarationsLeft y known outside ds z between (d ∷ rest) now → Declares z between outside now d.kind w after new → DeclarationsLeft y known outside ds w after rest new
-declaration_passed y z w known between after now new outside ds d rest passed declared = record {
+pub declaration_passed : (y z w : Types) (known between after now new : Block) (beyond : Blocks) (ds : List EflDecl) (d : EflDecl) (rest : List EflDecl) →
+    DeclarationsLeft y known beyond ds z between (d ∷ rest) now → Declares z between beyond now d.kind w after new → DeclarationsLeft y known beyond ds w after rest new
+declaration_passed y z w known between after now new beyond ds d rest passed declared = record {
   later = later_on y z w passed.later declared.later;
   left = λ home bs is.
       let at = passed.left home bs is in (
@@ -283,9 +283,9 @@ declaration_passed y z w known between after now new outside ds d rest passed de
       );
 }
 
-pub declarations_ended : (y z : Types) (known after : Block) (outside : Blocks) (ds : List EflDecl) (new : Block) → DeclarationsLeft y known outside ds z after [] new →
-    DeclaresAll y known outside ds z new
-declarations_ended y z known after outside ds new all = record {
+pub declarations_ended : (y z : Types) (known after : Block) (beyond : Blocks) (ds : List EflDecl) (new : Block) → DeclarationsLeft y known beyond ds z after [] new →
+    DeclaresAll y known beyond ds z new
+declarations_ended y z known after beyond ds new all = record {
   later = all.later;
   declares = λ home bs is. let at = all.left home bs is in subst (λ us. AreVariables z us new) (sym (append-nil at.2.0) ∙ at.2.2) at.2.1;
 }
@@ -297,9 +297,9 @@ pub names_stand : (y : Types) (empty known : Block) (ds : List EflDecl) → ((x 
 names_stand y empty known ds none named =
     subst (λ vs. AreVariables y vs known) (sym (untyped_all [] [] ds)) (named y [] (λ x. subst (IsMeant y None) (sym (none x)) tt))
 
-pub block_opened : (y z : Types) (empty known new : Block) (outside : Blocks) (ds : List EflDecl) → ((x : Text) → entry_in empty x ≡ None) → NamesAll empty (declared_names ds) known →
-    DeclaresAll y known outside ds z new → Opens y outside ds z new
-block_opened y z empty known new outside ds none named declared = record { later = declared.later; opens = opens }
+pub block_opened : (y z : Types) (empty known new : Block) (beyond : Blocks) (ds : List EflDecl) → ((x : Text) → entry_in empty x ≡ None) → NamesAll empty (declared_names ds) known →
+    DeclaresAll y known beyond ds z new → Opens y beyond ds z new
+block_opened y z empty known new beyond ds none named declared = record { later = declared.later; opens = opens }
   where
-    opens : (home : List ℕ) (bs : scopes.Blocks) → Know (table_of y.numbers) y.structures.list.items bs outside → Within z (entering home ds bs) new outside
-    opens home bs known_out = (declared.declares home (naming ds ∷ bs) (names_stand y empty known ds none named, known_out), know_later y z declared.later bs outside known_out)
+    opens : (home : List ℕ) (bs : scopes.Blocks) → Know (table_of y.numbers) y.structures.list.items bs beyond → Within z (entering home ds bs) new beyond
+    opens home bs known_out = (declared.declares home (naming ds ∷ bs) (names_stand y empty known ds none named, known_out), know_later y z declared.later bs beyond known_out)

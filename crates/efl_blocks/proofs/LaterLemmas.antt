@@ -84,6 +84,6 @@ module _ (y z : Types) (more : Later y z) where
   pub know_later : (bs : scopes.Blocks) (blocks : Blocks) → Know (table_of y.numbers) y.structures.list.items bs blocks → Know (table_of z.numbers) z.structures.list.items bs blocks
   know_later bs blocks known x = meaning_later (meaning bs x) (meaning_in blocks x) (known x)
 
-  pub within_later : (bs : scopes.Blocks) (block : Block) (outside : Blocks) → Within y bs block outside → Within z bs block outside
-  within_later [] block outside is = absurd is
-  within_later (b ∷ bs) block outside is = (λ x. meaning_later (in_block x b) (entry_in block x) (is.0 x), know_later bs outside is.1)
+  pub within_later : (bs : scopes.Blocks) (block : Block) (beyond : Blocks) → Within y bs block beyond → Within z bs block beyond
+  within_later [] block beyond is = absurd is
+  within_later (b ∷ bs) block beyond is = (λ x. meaning_later (in_block x b) (entry_in block x) (is.0 x), know_later bs beyond is.1)

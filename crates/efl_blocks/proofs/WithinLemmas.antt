@@ -31,10 +31,10 @@ either_meant y (Some n) k (Some o) p one two = one
 either_meant y None k (Some o) p one two = absurd one
 either_meant y (Some n) k None p one two = absurd one
 
-pub within_known : (y : Types) (bs : scopes.Blocks) (block : Block) (outside : Blocks) → Within y bs block outside →
-    (x : Text) → IsMeant y (meaning bs x) (option_or (entry_in block x) (meaning_in outside x))
-within_known y [] block outside is x = absurd is
-within_known y (b ∷ bs) block outside is x = either_meant y (in_block x b) (meaning bs x) (entry_in block x) (meaning_in outside x) (is.0 x) (is.1 x)
+pub within_known : (y : Types) (bs : scopes.Blocks) (block : Block) (beyond : Blocks) → Within y bs block beyond →
+    (x : Text) → IsMeant y (meaning bs x) (option_or (entry_in block x) (meaning_in beyond x))
+within_known y [] block beyond is x = absurd is
+within_known y (b ∷ bs) block beyond is x = either_meant y (in_block x b) (meaning bs x) (entry_in block x) (meaning_in beyond x) (is.0 x) (is.1 x)
 
 -- ---- one more structure ----
 
@@ -89,11 +89,11 @@ one_learned y None None None true ms d are others made is = made
 one_learned y None None (Some o) true ms d are others made is = absurd is
 
 -- a structure becomes known, where it has a name
-pub within_learned : (y : Types) (bs : scopes.Blocks) (block after : Block) (outside : Blocks) (o : Option Text) (ms : Members) (d : types.DataType) → Within y bs block outside →
-    IsIn y (Structured ms) d → ((x : Text) → entry_in after x ≡ learned_if o x d (entry_in block x)) → Within y (knowing o ms bs) after outside
-within_learned y [] block after outside o ms d is made comes = absurd is
-within_learned y (b ∷ bs) block after outside None ms d is made comes = (λ x. subst (IsMeant y (in_block x b)) (sym (comes x)) (is.0 x), is.1)
-within_learned y (b ∷ bs) block after outside (Some z) ms d is made comes = (each, is.1)
+pub within_learned : (y : Types) (bs : scopes.Blocks) (block after : Block) (beyond : Blocks) (o : Option Text) (ms : Members) (d : types.DataType) → Within y bs block beyond →
+    IsIn y (Structured ms) d → ((x : Text) → entry_in after x ≡ learned_if o x d (entry_in block x)) → Within y (knowing o ms bs) after beyond
+within_learned y [] block after beyond o ms d is made comes = absurd is
+within_learned y (b ∷ bs) block after beyond None ms d is made comes = (λ x. subst (IsMeant y (in_block x b)) (sym (comes x)) (is.0 x), is.1)
+within_learned y (b ∷ bs) block after beyond (Some z) ms d is made comes = (each, is.1)
   where
     each : (x : Text) →
         IsMeant y (option_or (find_map (structure_of x) (b.structures ++ record { name = z; members = ms } ∷ [])) (find_map (variable_of x) b.variables)) (entry_in after x)

@@ -46,33 +46,33 @@ pub record AddsVariables (y : Types) (k : types.DataType) (old : Block) (vs : Li
   pub adds : (home : List ℕ) (q : Option Text) (t : DataType) (ws : List Variable) → IsPlain t → IsIn y t k → AreVariables y ws old → AreVariables z (ws ++ map (variable home q t) vs) new
 
 -- of the type that a text gives
-pub record AddsList (y : Types) (known : Block) (outside : Blocks) (old : Block) (t : EflType) (vs : List EflVar) (z : Types) (after : Block) (new : Block) : Type 0 where
+pub record AddsList (y : Types) (known : Block) (beyond : Blocks) (old : Block) (t : EflType) (vs : List EflVar) (z : Types) (after : Block) (new : Block) : Type 0 where
   pub later : Later y z
-  pub knows : (bs : scopes.Blocks) → Within y bs known outside → Within z (behind bs t) after outside
-  pub adds : (home : List ℕ) (q : Option Text) (bs : scopes.Blocks) (ws : List Variable) → Within y bs known outside → AreVariables y ws old →
+  pub knows : (bs : scopes.Blocks) → Within y bs known beyond → Within z (behind bs t) after beyond
+  pub adds : (home : List ℕ) (q : Option Text) (bs : scopes.Blocks) (ws : List Variable) → Within y bs known beyond → AreVariables y ws old →
       AreVariables z (ws ++ map (variable home q (data_type bs t)) vs) new
 
-pub record AddsGroups (y : Types) (known : Block) (outside : Blocks) (old : Block) (gs : EflGroups) (z : Types) (after : Block) (new : Block) : Type 0 where
+pub record AddsGroups (y : Types) (known : Block) (beyond : Blocks) (old : Block) (gs : EflGroups) (z : Types) (after : Block) (new : Block) : Type 0 where
   pub later : Later y z
-  pub knows : (bs : scopes.Blocks) → Within y bs known outside → Within z (behind_groups bs gs) after outside
-  pub adds : (q : Text) (bs : scopes.Blocks) (ws : List Variable) → Within y bs known outside → AreVariables y ws old → AreVariables z (ws ++ group_variables q bs gs) new
+  pub knows : (bs : scopes.Blocks) → Within y bs known beyond → Within z (behind_groups bs gs) after beyond
+  pub adds : (q : Text) (bs : scopes.Blocks) (ws : List Variable) → Within y bs known beyond → AreVariables y ws old → AreVariables z (ws ++ group_variables q bs gs) new
 
 -- a structure of a block
-pub record KnowsStructure (y : Types) (known : Block) (outside : Blocks) (x : Text) (gs : EflGroups) (z : Types) (after : Block) : Type 0 where
+pub record KnowsStructure (y : Types) (known : Block) (beyond : Blocks) (x : Text) (gs : EflGroups) (z : Types) (after : Block) : Type 0 where
   pub later : Later y z
-  pub knows : (bs : scopes.Blocks) → Within y bs known outside → Within z (behind_declaration bs (Structure x gs)) after outside
+  pub knows : (bs : scopes.Blocks) → Within y bs known beyond → Within z (behind_declaration bs (Structure x gs)) after beyond
 
 -- a declaration
-pub record Declares (y : Types) (known : Block) (outside : Blocks) (old : Block) (k : EflDeclKind) (z : Types) (after : Block) (new : Block) : Type 0 where
+pub record Declares (y : Types) (known : Block) (beyond : Blocks) (old : Block) (k : EflDeclKind) (z : Types) (after : Block) (new : Block) : Type 0 where
   pub later : Later y z
-  pub knows : (bs : scopes.Blocks) → Within y bs known outside → Within z (behind_declaration bs k) after outside
-  pub adds : (home : List ℕ) (bs : scopes.Blocks) (ws : List Variable) → Within y bs known outside → AreVariables y ws old → AreVariables z (ws ++ declared_by home bs k) new
+  pub knows : (bs : scopes.Blocks) → Within y bs known beyond → Within z (behind_declaration bs k) after beyond
+  pub adds : (home : List ℕ) (bs : scopes.Blocks) (ws : List Variable) → Within y bs known beyond → AreVariables y ws old → AreVariables z (ws ++ declared_by home bs k) new
 
-pub record DeclaresAll (y : Types) (known : Block) (outside : Blocks) (ds : List EflDecl) (z : Types) (new : Block) : Type 0 where
+pub record DeclaresAll (y : Types) (known : Block) (beyond : Blocks) (ds : List EflDecl) (z : Types) (new : Block) : Type 0 where
   pub later : Later y z
-  pub declares : (home : List ℕ) (bs : scopes.Blocks) → Within y bs known outside → AreVariables z (declared_in home bs ds) new
+  pub declares : (home : List ℕ) (bs : scopes.Blocks) → Within y bs known beyond → AreVariables z (declared_in home bs ds) new
 
 -- a block before its first declaration
-pub record Opens (y : Types) (outside : Blocks) (ds : List EflDecl) (z : Types) (new : Block) : Type 0 where
+pub record Opens (y : Types) (beyond : Blocks) (ds : List EflDecl) (z : Types) (new : Block) : Type 0 where
   pub later : Later y z
-  pub opens : (home : List ℕ) (bs : scopes.Blocks) → Know (table_of y.numbers) y.structures.list.items bs outside → Within z (entering home ds bs) new outside
+  pub opens : (home : List ℕ) (bs : scopes.Blocks) → Know (table_of y.numbers) y.structures.list.items bs beyond → Within z (entering home ds bs) new beyond

@@ -20,15 +20,15 @@ joined NoMember ns = ns
 joined (AndMember x t ms) ns = AndMember x t (joined ms ns)
 
 -- the type that a text gives, and what is known behind it
-pub record MakesType (y : Types) (before : Block) (outside : Blocks) (t : EflType) (z : Types) (after : Block) (d : types.DataType) : Type 0 where
+pub record MakesType (y : Types) (before : Block) (beyond : Blocks) (t : EflType) (z : Types) (after : Block) (d : types.DataType) : Type 0 where
   pub later : Later y z
-  pub makes : (bs : scopes.Blocks) → Within y bs before outside → IsIn z (data_type bs t) d
-  pub knows : (bs : scopes.Blocks) → Within y bs before outside → Within z (behind bs t) after outside
+  pub makes : (bs : scopes.Blocks) → Within y bs before beyond → IsIn z (data_type bs t) d
+  pub knows : (bs : scopes.Blocks) → Within y bs before beyond → Within z (behind bs t) after beyond
 
-pub record MakesStructure (y : Types) (before : Block) (outside : Blocks) (gs : EflGroups) (z : Types) (after : Block) (d : types.DataType) : Type 0 where
+pub record MakesStructure (y : Types) (before : Block) (beyond : Blocks) (gs : EflGroups) (z : Types) (after : Block) (d : types.DataType) : Type 0 where
   pub later : Later y z
-  pub makes : (bs : scopes.Blocks) → Within y bs before outside → IsIn z (Structured (shape bs gs)) d
-  pub knows : (bs : scopes.Blocks) → Within y bs before outside → Within z (behind_groups bs gs) after outside
+  pub makes : (bs : scopes.Blocks) → Within y bs before beyond → IsIn z (Structured (shape bs gs)) d
+  pub knows : (bs : scopes.Blocks) → Within y bs before beyond → Within z (behind_groups bs gs) after beyond
 
 -- a type with bounds
 pub record TakesBounds (y : Types) (k : types.DataType) (bs : List EflBound) (z : Types) (d : types.DataType) : Type 0 where

@@ -41,9 +41,9 @@ IsPlain t = Unit {0}
 
 -- of each name what it means in the innermost block, and in those around it
 abbrev pub Within : Types → scopes.Blocks → Block → Blocks → Type 0
-Within y [] block outside = ⊥
-Within y (b ∷ bs) block outside =
-    ((x : Text) → IsMeaningIfAny (table_of y.numbers) y.structures.list.items (in_block x b) (entry_in block x)) × Know (table_of y.numbers) y.structures.list.items bs outside
+Within y [] block beyond = ⊥
+Within y (b ∷ bs) block beyond =
+    ((x : Text) → IsMeaningIfAny (table_of y.numbers) y.structures.list.items (in_block x b) (entry_in block x)) × Know (table_of y.numbers) y.structures.list.items bs beyond
 
 -- a structure that becomes known goes before a variable, and not before another structure
 abbrev pub learned : Bool → types.DataType → Option Meaning → Option Meaning

@@ -12,10 +12,10 @@ use efl_tree::EflName;
 use std::alloc::AllocError;
 
 /// The type that a structure's name gives in a block and those around it.
-pub fn named<'c, 'a>(name: &[u8], block: &'c Block<'a>, outside: &'c Blocks<'c, 'a>) -> DataType<'a>
-    ensures { (y : collections.Types) (bs : BlocksSeen) → Within y bs block.now outside.now → IsIn y (structured (shape_named bs name.now)) result }
+pub fn named<'c, 'a>(name: &[u8], block: &'c Block<'a>, beyond: &'c Blocks<'c, 'a>) -> DataType<'a>
+    ensures { (y : collections.Types) (bs : BlocksSeen) → Within y bs block.now beyond.now → IsIn y (structured (shape_named bs name.now)) result }
 {
-    let blocks = Blocks::Inside(block, outside);
+    let blocks = Blocks::Inside(block, beyond);
     structure_named(&blocks, name)
 }
 

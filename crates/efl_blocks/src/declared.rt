@@ -14,14 +14,14 @@ use std::alloc::{AllocError, Global};
 pub fn open_block<'a>(
     alloc: Global,
     list: &'a [EflDecl],
-    outside: &Blocks<'_, 'a>,
+    beyond: &Blocks<'_, 'a>,
     types: &mut Types<'a>,
 ) -> Result<Block<'a>, AllocError>
-    ensures { IfOk result (λ block. Opens types.old outside.now (decls_of list.now) types.new block) }
+    ensures { IfOk result (λ block. Opens types.old beyond.now (decls_of list.now) types.new block) }
 {
     let mut known = Block::new(alloc);
     name_declared(list, &mut known)?;
-    declare_all(alloc, list, &*outside, &mut known, types)
+    declare_all(alloc, list, &*beyond, &mut known, types)
 }
 
 /// The names of variables come, without types.
@@ -66,22 +66,15 @@ fn name_variables<'a>(list: &'a [EflVar], block: &mut Block<'a>) -> Result<(), A
 fn declare_all<'a>(
     alloc: Global,
     list: &'a [EflDecl],
-    outside: &Blocks<'_, 'a>,
+    beyond: &Blocks<'_, 'a>,
     known: &mut Block<'a>,
     types: &mut Types<'a>,
 ) -> Result<Block<'a>, AllocError>
-    ensures { IfOk result (λ block. DeclaresAll types.old known.old outside.now (decls_of list.now) types.new block) }
+    ensures { IfOk result (λ block. DeclaresAll types.old known.old beyond.now (decls_of list.now) types.new block) }
 {
     let mut block = Block::new(alloc);
     for declaration in list {
-        declare(
-            alloc,
-            &declaration.kind,
-            &*outside,
-            known,
-            &mut block,
-            types,
-        )?;
+        declare(alloc, &declaration.kind, &*beyond, known, &mut block, types)?;
     }
     Ok(block)
 }
@@ -90,27 +83,27 @@ fn declare_all<'a>(
 pub fn declare<'a>(
     alloc: Global,
     kind: &'a EflDeclKind,
-    outside: &Blocks<'_, 'a>,
+    beyond: &Blocks<'_, 'a>,
     known: &mut Block<'a>,
     block: &mut Block<'a>,
     types: &mut Types<'a>,
 ) -> Result<(), AllocError>
-    ensures { OnOk result (Declares types.old known.old outside.now block.old (decl_kind_of kind.now) types.new known.new block.new) }
+    ensures { OnOk result (Declares types.old known.old beyond.now block.old (decl_kind_of kind.now) types.new known.new block.new) }
 {
     match kind {
         EflDeclKind::Implicit(_, kind) => {
-            make_type(alloc, kind, &*outside, known, types)?;
+            make_type(alloc, kind, &*beyond, known, types)?;
             Ok(())
         }
         EflDeclKind::Initial(_) => Ok(()),
         EflDeclKind::Variables(_, kind, list) => {
-            declare_list(alloc, kind, list, &*outside, known, block, types)
+            declare_list(alloc, kind, list, &*beyond, known, block, types)
         }
         EflDeclKind::Area(_, groups) => {
-            declare_groups(alloc, groups, &*outside, known, block, types)
+            declare_groups(alloc, groups, &*beyond, known, block, types)
         }
         EflDeclKind::Structure(name, groups) => {
-            know_structure(alloc, name, groups, &*outside, known, types)
+            know_structure(alloc, name, groups, &*beyond, known, types)
         }
     }
 }
@@ -120,32 +113,32 @@ pub fn know_structure<'a>(
     alloc: Global,
     name: &'a EflName,
     groups: &'a [EflGroup],
-    outside: &Blocks<'_, 'a>,
+    beyond: &Blocks<'_, 'a>,
     known: &mut Block<'a>,
     types: &mut Types<'a>,
 ) -> Result<(), AllocError>
-    ensures { OnOk result (KnowsStructure types.old known.old outside.now name.now (groups_of groups.now) types.new known.new) }
+    ensures { OnOk result (KnowsStructure types.old known.old beyond.now name.now (groups_of groups.now) types.new known.new) }
 {
-    let made = make_structure(alloc, groups, &*outside, known, types)?;
+    let made = make_structure(alloc, groups, &*beyond, known, types)?;
     know(name.as_bytes(), made, known)
 }
 
 fn declare_groups<'a>(
     alloc: Global,
     groups: &'a [EflGroup],
-    outside: &Blocks<'_, 'a>,
+    beyond: &Blocks<'_, 'a>,
     known: &mut Block<'a>,
     block: &mut Block<'a>,
     types: &mut Types<'a>,
 ) -> Result<(), AllocError>
-    ensures { OnOk result (AddsGroups types.old known.old outside.now block.old (groups_of groups.now) types.new known.new block.new) }
+    ensures { OnOk result (AddsGroups types.old known.old beyond.now block.old (groups_of groups.now) types.new known.new block.new) }
 {
     for group in groups {
         declare_list(
             alloc,
             &group.kind,
             &group.variables,
-            &*outside,
+            &*beyond,
             known,
             block,
             types,
@@ -158,14 +151,14 @@ fn declare_list<'a>(
     alloc: Global,
     kind: &'a EflType,
     list: &'a [EflVar],
-    outside: &Blocks<'_, 'a>,
+    beyond: &Blocks<'_, 'a>,
     known: &mut Block<'a>,
     block: &mut Block<'a>,
     types: &mut Types<'a>,
 ) -> Result<(), AllocError>
-    ensures { OnOk result (AddsList types.old known.old outside.now block.old (type_of kind.now) (vars_of list.now) types.new known.new block.new) }
+    ensures { OnOk result (AddsList types.old known.old beyond.now block.old (type_of kind.now) (vars_of list.now) types.new known.new block.new) }
 {
-    let made = make_type(alloc, kind, &*outside, known, types)?;
+    let made = make_type(alloc, kind, &*beyond, known, types)?;
     add_variables(made, list, block, types)
 }
 

@@ -28,19 +28,19 @@ pub struct Types<'a> {
 pub fn make_type<'a>(
     alloc: Global,
     kind: &'a EflType,
-    outside: &Blocks<'_, 'a>,
+    beyond: &Blocks<'_, 'a>,
     block: &mut Block<'a>,
     types: &mut Types<'a>,
 ) -> Result<DataType<'a>, AllocError>
-    ensures { IfOk result (λ d. MakesType types.old block.old outside.now (type_of kind.now) types.new block.new d) }
+    ensures { IfOk result (λ d. MakesType types.old block.old beyond.now (type_of kind.now) types.new block.new d) }
 {
     match kind {
         EflType::Integer => Ok(integers()),
         EflType::Logical => Ok(truths()),
         EflType::Real(_) | EflType::Complex(_) => Ok(nothing()),
-        EflType::Named(name) => Ok(named(name.as_bytes(), &*block, &*outside)),
+        EflType::Named(name) => Ok(named(name.as_bytes(), &*block, &*beyond)),
         EflType::Shape(name, groups) => {
-            let made = make_structure(alloc, groups, &*outside, block, types)?;
+            let made = make_structure(alloc, groups, &*beyond, block, types)?;
             know_if_any(name, made, block)?;
             Ok(made)
         }
@@ -52,11 +52,11 @@ pub fn make_type<'a>(
 pub fn make_structure<'a>(
     alloc: Global,
     groups: &'a [EflGroup],
-    outside: &Blocks<'_, 'a>,
+    beyond: &Blocks<'_, 'a>,
     block: &mut Block<'a>,
     types: &mut Types<'a>,
 ) -> Result<DataType<'a>, AllocError>
-    ensures { IfOk result (λ d. MakesStructure types.old block.old outside.now (groups_of groups.now) types.new block.new d) }
+    ensures { IfOk result (λ d. MakesStructure types.old block.old beyond.now (groups_of groups.now) types.new block.new d) }
 {
     let mut so_far = Summary {
         number: BEGINNING,
@@ -65,7 +65,7 @@ pub fn make_structure<'a>(
     };
     let mut members = Vec::new(alloc);
     for group in groups {
-        let kind = make_type(alloc, &group.kind, &*outside, block, types)?;
+        let kind = make_type(alloc, &group.kind, &*beyond, block, types)?;
         so_far = take_members(so_far, kind, &group.variables, types, &mut members)?;
     }
     add_structure(so_far, members, types)

@@ -4,4 +4,4 @@ use Rattle.efl_blocks.proofs.WithinLemmas.{within_known}
 use Rattle.efl_blocks.proofs.blocks.named.Goals as goal
 
 pub returns : goal.returns
-returns c = λ y bs is. c.structure_named.ensures (table_of y.numbers) y.structures.list.items bs (within_known y bs c.args.block.now c.args.outside.now is)
+returns c = λ y bs is. c.structure_named.ensures (table_of y.numbers) y.structures.list.items bs (within_known y bs c.args.block.now c.args.beyond.now is)

@@ -5,4 +5,4 @@ use Rattle.efl_blocks.proofs.DeclaredLemmas.{GroupsLeft}
 use Rattle.efl_blocks.proofs.declared.declare_groups.Given as goal
 
 abbrev pub invariant-loop-group : goal.invariant-loop-group
-invariant-loop-group l = GroupsLeft l.fn.types l.fn.known l.outside l.fn.block (groups_of l.groups) l.types l.known (groups_of (drop l.group-index l.groups)) l.block
+invariant-loop-group l = GroupsLeft l.fn.types l.fn.known l.beyond l.fn.block (groups_of l.groups) l.types l.known (groups_of (drop l.group-index l.groups)) l.block

@@ -15,6 +15,6 @@ returns c =
     let after = c.know.new.block in
     let d = c.in_ok-made.made in
     on_ok_weaker c.know.result
-    (λ comes. structure_known c.args.types.now c.make_structure.new.types c.args.known.now between after c.args.outside.now c.args.name.now (groups_of c.args.groups.now) d c.in_ok-made.ensures
+    (λ comes. structure_known c.args.types.now c.make_structure.new.types c.args.known.now between after c.args.beyond.now c.args.name.now (groups_of c.args.groups.now) d c.in_ok-made.ensures
     (subst (λ x. (q : Text) → entry_in after q ≡ learned (bytes_eq q x) d (entry_in between q)) c.as_bytes.ensures comes))
     c.know.ensures

@@ -9,9 +9,9 @@ pub returns : goal.returns
 returns c =
     let y = c.args.types.now in
     let z = c.declare_all.new.types in
-    let outside = c.args.outside.now in
+    let beyond = c.args.beyond.now in
     let ds = decls_of c.args.list.now in
     let known = c.name_declared.new.block in
-    IfOk-weaker c.declare_all.result (λ block. DeclaresAll y known outside ds z block) (λ block. Opens y outside ds z block)
-    (λ block declared. block_opened y z c.new-known.result known block outside ds c.new-known.ensures c.in_ok-name_declared.ensures declared)
+    IfOk-weaker c.declare_all.result (λ block. DeclaresAll y known beyond ds z block) (λ block. Opens y beyond ds z block)
+    (λ block declared. block_opened y z c.new-known.result known block beyond ds c.new-known.ensures c.in_ok-name_declared.ensures declared)
     c.declare_all.ensures
