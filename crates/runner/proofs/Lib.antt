@@ -17,6 +17,7 @@ pub mod Roles
 pub mod Live
 pub mod Turn
 pub mod SpotArms
+pub mod SubscriptArms
 pub mod Moving
 pub mod Starting
 pub mod Recorded

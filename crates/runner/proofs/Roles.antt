@@ -23,6 +23,7 @@ Tells (roles.Stops n) j = j ≡ i.Halt (Some n)
 Tells roles.Leaps j = (is_leap j ≡ true) × (is_counted (Some j) ≡ false)
 Tells (roles.Spots first size) j = j ≡ i.PushSpot first size
 Tells roles.Works j = is_counted (Some j) ≡ false
+Tells roles.Operates j = is_counted (Some j) ≡ false
 Tells roles.Holds j = is_counted (Some j) ≡ false
 Tells (roles.Loops limit step to) j = j ≡ i.LoopTurn limit step to
 Tells (roles.Dummies n) j = j ≡ i.Dummy n

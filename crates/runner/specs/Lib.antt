@@ -2,6 +2,7 @@
 pub mod Words
 pub mod Work
 pub mod Reaching
+pub mod Subscripted
 pub mod Arguments
 pub mod Frames
 pub mod Running

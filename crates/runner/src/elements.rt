@@ -30,7 +30,7 @@ fn capped(number: u64) -> u64
 
 /// With one more subscript and its dimension.
 #[inline(always)]
-fn advance(reach: Reach, subscript: i32, size: i32) -> Option<Reach>
+pub(crate) fn advance(reach: Reach, subscript: i32, size: i32) -> Option<Reach>
     requires { IsCapped reach }
     ensures is { result ≡ advanced reach subscript size }
     ensures capped { IfSome result IsCapped }

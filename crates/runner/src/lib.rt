@@ -13,6 +13,7 @@ mod records;
 mod rows;
 mod run;
 mod runner;
+mod subscripts;
 mod values;
 mod words;
 

@@ -23,7 +23,7 @@ pub(crate) fn cell_at(cells: &[Cell], unit: usize) -> Cell
 
 /// The word of what a unit holds, where a content of a type is asked for.
 #[inline(always)]
-fn shown(kind: Kind, cell: Cell) -> Result<Word, Trap>
+pub(crate) fn shown(kind: Kind, cell: Cell) -> Result<Word, Trap>
     ensures { IsSmall (content_of cell) → IsMade (asked kind (content_of cell)) result }
 {
     match kind {

@@ -6,7 +6,7 @@ ghost use Rattle.stack_code.specs.Views.{code_of, instruction_of};
 ghost use Rattle.runner.specs.Work.{MayWork, Works, MayHold, Holds, IsRoomFor};
 ghost use Rattle.runner.specs.Running.{IsReady, HasRange, HasUnits, bounded, ran, role as role_for};
 ghost use Rattle.runner.specs.Endings.{IsUnread, IsRunOf, end_in};
-ghost use Rattle.runner.specs.declared.run.Role.TheVariants.{Works as works, Holds as holds};
+ghost use Rattle.runner.specs.declared.run.Role.TheVariants.{Works as works, Operates as operates, Holds as holds};
 
 use crate::branches::leap;
 use crate::elements::element;
@@ -15,6 +15,7 @@ use crate::intrinsics::known;
 use crate::loops::{loop_start, loop_turn, variable_turn};
 use crate::places::{forget, lend, load, store, variable};
 use crate::records::record_step;
+use crate::subscripts::{Subscripts, element_by_one, element_by_two, subscript, subscripts_behind};
 use crate::values::{both, minus, not, push_integer, push_spot, push_truth};
 use crate::words::{Cell, Word};
 use f66_tree::Operator;
@@ -66,6 +67,8 @@ enum Role {
     Spots(u32, u32),
     /// It works on the stack alone.
     Works,
+    /// It is an operator of two values.
+    Operates,
     /// It works on the stack and the store.
     Holds,
     /// A turn of a DO ends: the units of its limit and its step, and where the next turn begins.
@@ -99,16 +102,16 @@ fn role_of(op: &Op) -> Role
         Op::Store => Role::Holds,
         Op::Forget => Role::Holds,
         Op::Lend(_) => Role::Holds,
-        Op::Add => Role::Works,
-        Op::Sub => Role::Works,
-        Op::Mul => Role::Works,
-        Op::Div => Role::Works,
-        Op::Pow => Role::Works,
+        Op::Add => Role::Operates,
+        Op::Sub => Role::Operates,
+        Op::Mul => Role::Operates,
+        Op::Div => Role::Operates,
+        Op::Pow => Role::Operates,
         Op::Minus => Role::Works,
         Op::Not => Role::Works,
-        Op::And => Role::Works,
-        Op::Or => Role::Works,
-        Op::Compare(_) => Role::Works,
+        Op::And => Role::Operates,
+        Op::Or => Role::Operates,
+        Op::Compare(_) => Role::Operates,
         Op::Known(_, _) => Role::Works,
         Op::Jump(_) => Role::Leaps,
         Op::JumpFalse(_) => Role::Leaps,
@@ -132,7 +135,7 @@ fn role_of(op: &Op) -> Role
 
 /// Whether an integer is loaded.
 #[inline(always)]
-fn is_load(op: &Op) -> bool
+pub(crate) fn is_load(op: &Op) -> bool
     ensures { result ≡ true → instruction_of op.now ≡ Load Integer }
 {
     matches!(op, Op::LoadInt)
@@ -154,7 +157,29 @@ fn turn_behind(size: u32, op: &Op) -> Option<(u32, u32, u32)>
     }
 }
 
-/// An instruction that works on the stack alone.
+/// An operator of two values.
+#[inline(always)]
+fn operation(op: &Op, stack: &mut [Word], top: usize) -> Result<usize, Trap>
+    requires role { role_for (instruction_of op.now) ≡ operates }
+    requires work { MayWork (instruction_of op.now) stack.old top }
+    ensures works { Works (instruction_of op.now) stack.old top stack.new result }
+    ensures room { IsRoomFor stack.new result }
+{
+    match op {
+        Op::Add => both(Operator::Add, stack, top),
+        Op::Sub => both(Operator::Sub, stack, top),
+        Op::Mul => both(Operator::Mul, stack, top),
+        Op::Div => both(Operator::Div, stack, top),
+        Op::Pow => both(Operator::Power, stack, top),
+        Op::And => both(Operator::And, stack, top),
+        Op::Or => both(Operator::Or, stack, top),
+        Op::Compare(op) => both(*op, stack, top),
+        _ => unreachable!(),
+    }
+}
+
+/// Another instruction that works on the stack alone. It stands apart from the operators, since one choice among so many would not be
+/// made together with the choice of the role.
 #[inline(always)]
 fn work(op: &Op, stack: &mut [Word], top: usize) -> Result<usize, Trap>
     requires role { role_for (instruction_of op.now) ≡ works }
@@ -166,14 +191,6 @@ fn work(op: &Op, stack: &mut [Word], top: usize) -> Result<usize, Trap>
     match op {
         Op::PushInt(number) => Ok(push_integer(*number, stack, top)),
         Op::PushLog(value) => Ok(push_truth(*value, stack, top)),
-        Op::Add => both(Operator::Add, stack, top),
-        Op::Sub => both(Operator::Sub, stack, top),
-        Op::Mul => both(Operator::Mul, stack, top),
-        Op::Div => both(Operator::Div, stack, top),
-        Op::Pow => both(Operator::Power, stack, top),
-        Op::And => both(Operator::And, stack, top),
-        Op::Or => both(Operator::Or, stack, top),
-        Op::Compare(op) => both(*op, stack, top),
         Op::Minus => Ok(minus(stack, top)),
         Op::Not => Ok(not(stack, top)),
         Op::Element(count) => element(*count, stack, top),
@@ -320,11 +337,75 @@ pub(crate) fn run_code<S: Source, K: Sink>(
                         ),
                     }
                 } else {
-                    top = push_spot(first, size, stack, top);
-                    pc += 1;
+                    match subscripts_behind(size, ops, pc + 1) {
+                        Subscripts::Other => {
+                            top = push_spot(first, size, stack, top);
+                            pc += 1;
+                        }
+                        Subscripts::One(unit, extent) => match subscript(unit, cells) {
+                            Ok(value) => {
+                                match element_by_one(first, size, value, extent, stack, top) {
+                                    Ok(rest) => {
+                                        top = rest;
+                                        pc += 5;
+                                    }
+                                    Err(trap) => return over(
+                                        End::Trapped(trap, place),
+                                        left,
+                                        counted(executed, from, pc + 4),
+                                    ),
+                                }
+                            }
+                            Err(trap) => return over(
+                                End::Trapped(trap, place),
+                                left,
+                                counted(executed, from, pc + 2),
+                            ),
+                        },
+                        Subscripts::Two(one, two, rows, columns) => match subscript(one, cells) {
+                            Ok(x) => match subscript(two, cells) {
+                                Ok(y) => {
+                                    match element_by_two(
+                                        first, size, x, y, rows, columns, stack, top,
+                                    ) {
+                                        Ok(rest) => {
+                                            top = rest;
+                                            pc += 8;
+                                        }
+                                        Err(trap) => return over(
+                                            End::Trapped(trap, place),
+                                            left,
+                                            counted(executed, from, pc + 7),
+                                        ),
+                                    }
+                                }
+                                Err(trap) => return over(
+                                    End::Trapped(trap, place),
+                                    left,
+                                    counted(executed, from, pc + 4),
+                                ),
+                            },
+                            Err(trap) => return over(
+                                End::Trapped(trap, place),
+                                left,
+                                counted(executed, from, pc + 2),
+                            ),
+                        },
+                    }
                 }
             }
             Role::Works => match work(op, stack, top) {
+                Ok(rest) => {
+                    top = rest;
+                    pc += 1;
+                }
+                Err(trap) => return over(
+                    End::Trapped(trap, place),
+                    left,
+                    counted(executed, from, pc),
+                ),
+            },
+            Role::Operates => match operation(op, stack, top) {
                 Ok(rest) => {
                     top = rest;
                     pc += 1;

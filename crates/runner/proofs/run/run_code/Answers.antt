@@ -1,14 +1,19 @@
 -- Each turn of the loop: what it needs, what it keeps, and that it is nearer the end.
-use Rattle.std.proofs.Common.{suc, subst, ◌*◌, ◌≤◌, ◌<◌, ◌+◌, length, refl, sym, ap, ◌∙◌, arith, None, Some, []}
+use Rattle.std.proofs.Common.{suc, subst, ◌*◌, ◌≤◌, ◌<◌, ◌+◌, length, refl, sym, ap, ◌∙◌, arith, None, Some, [], rules, w64, to_z, of_z}
+use mir.Val.{SFits}
+use Rattle.std.proofs.lemmas.Int.{to_z-of_z}
+use Rattle.ground.specs.Arithmetic.{IsInRange}
 use Rattle.stack_code.specs.Views.{code_of, instruction_of}
 use Rattle.stack_code.specs.ValidCode.{is_counted}
 use Rattle.runner.specs.declared.run.Role.TheVariants as role
 use Rattle.runner.specs.Recording.{MayAct}
+use Rattle.runner.specs.Subscripted.{IsLaidOne, AreLaidTwo}
 use Rattle.runner.specs.Endings.{IsEnd}
 use Rattle.runner.specs.Running.{HasUnits, is_apart}
 use Rattle.runner.proofs.Measure.{nearer_begun, nearer_call, nearer_return}
 use Rattle.runner.proofs.Opening.{is_straight}
 use Rattle.runner.proofs.SpotArms as spots
+use Rattle.runner.proofs.SubscriptArms as elements
 use Rattle.runner.proofs.Turn as turn
 use Rattle.runner.proofs.Calls as calls
 use Rattle.runner.proofs.RecordArms.{may_act, acts_on, acts_over}
@@ -225,19 +230,192 @@ push_spot-top-requires-clause-work g c =
     let room = subst (λ n. suc c.args.code.now.depth * c.args.code.now.stack ≤ n) (sym c.turn.auto.stack) c.requires.ready.room in
     turn.may_work c.requires.ready.valid c.valid_is_safe.ensures c.turn.invariant.turn here room
 
-pub turn-smaller-in_default : goal.turn-smaller-in_default
-turn-smaller-in_default g c =
+pub turn-smaller-in-Other : goal.turn-smaller-in-Other
+turn-smaller-in-Other g c =
     let at = turn.stands c.requires.ready.valid c.valid_is_safe.ensures c.turn.invariant.turn c.index-ops-pc.result c.deref-ops.result.now c.deref-ops.ensures.value c.index-ops-pc.is in
     let here = at ∙ ap Some (roles.told (role.Spots c.in-Spots.first c.in-Spots.size) (instruction_of c.index-ops-pc.result) (sym c.in-Spots.is ∙ c.role_of.ensures)) in
     let room = subst (λ n. suc c.args.code.now.depth * c.args.code.now.stack ≤ n) (sym c.turn.auto.stack) c.requires.ready.room in
     turn.nearer_next c.requires.ready.valid c.valid_is_safe.ensures c.turn.invariant.turn here refl
 
-pub turn-preserved-in_default : goal.turn-preserved-in_default
-turn-preserved-in_default g c =
+pub turn-preserved-in-Other : goal.turn-preserved-in-Other
+turn-preserved-in-Other g c =
     let at = turn.stands c.requires.ready.valid c.valid_is_safe.ensures c.turn.invariant.turn c.index-ops-pc.result c.deref-ops.result.now c.deref-ops.ensures.value c.index-ops-pc.is in
     let here = at ∙ ap Some (roles.told (role.Spots c.in-Spots.first c.in-Spots.size) (instruction_of c.index-ops-pc.result) (sym c.in-Spots.is ∙ c.role_of.ensures)) in
     let room = subst (λ n. suc c.args.code.now.depth * c.args.code.now.stack ≤ n) (sym c.turn.auto.stack) c.requires.ready.room in
     keeps_on c.turn.invariant (turn.works_on c.requires.ready.valid c.valid_is_safe.ensures c.turn.invariant.turn here refl c.push_spot-top.ensures.works c.push_spot-top.ensures.room)
+
+pub subscript-requires : goal.subscript-requires
+subscript-requires g c =
+    let at = turn.stands c.requires.ready.valid c.valid_is_safe.ensures c.turn.invariant.turn c.index-ops-pc.result c.deref-ops.result.now c.deref-ops.ensures.value c.index-ops-pc.is in
+    let here = at ∙ ap Some (roles.told (role.Spots c.in-Spots.first c.in-Spots.size) (instruction_of c.index-ops-pc.result) (sym c.in-Spots.is ∙ c.role_of.ensures)) in
+    let room = subst (λ n. suc c.args.code.now.depth * c.args.code.now.stack ≤ n) (sym c.turn.auto.stack) c.requires.ready.room in
+    let by = elements.subscripts_in c.deref-ops.result.now c.args.code.now (c.turn.pc + 1) _ _ c.deref-ops.ensures.value c.in-One.is c.subscripts_behind.ensures in
+    elements.first_unit c.requires.ready.valid c.valid_is_safe.ensures c.requires.ready.few c.turn.invariant.turn room c.in-Spots.first c.in-Spots.size here c.in-One.unit by.subscript
+
+pub returns-in-Err-subscript : goal.returns-in-Err-subscript
+returns-in-Err-subscript g c =
+    let at = turn.stands c.requires.ready.valid c.valid_is_safe.ensures c.turn.invariant.turn c.index-ops-pc.result c.deref-ops.result.now c.deref-ops.ensures.value c.index-ops-pc.is in
+    let here = at ∙ ap Some (roles.told (role.Spots c.in-Spots.first c.in-Spots.size) (instruction_of c.index-ops-pc.result) (sym c.in-Spots.is ∙ c.role_of.ensures)) in
+    let room = subst (λ n. suc c.args.code.now.depth * c.args.code.now.stack ≤ n) (sym c.turn.auto.stack) c.requires.ready.room in
+    let by = elements.subscripts_in c.deref-ops.result.now c.args.code.now (c.turn.pc + 1) _ _ c.deref-ops.ensures.value c.in-One.is c.subscripts_behind.ensures in
+    answered g.S.Source.left g.K.Sink.puts g.S.Source.faults g.K.Sink.faults c.args.input.now c.turn.input c.args.out.now c.turn.out c.args.code.now c.args.steps _ _ _ _ c.over-in-Err-subscript.ensures (whole c.turn.invariant c.requires.unread _ _ _ (elements.first_undefined c.requires.ready.valid c.valid_is_safe.ensures c.requires.ready.few c.turn.invariant.turn room c.in-Spots.first c.in-Spots.size here c.in-One.unit by.subscript c.counted-in-Err-subscript.ensures c.in-Err-subscript.ensures))
+
+pub element_by_one-requires-clause-some : goal.element_by_one-requires-clause-some
+element_by_one-requires-clause-some g c =
+    let at = turn.stands c.requires.ready.valid c.valid_is_safe.ensures c.turn.invariant.turn c.index-ops-pc.result c.deref-ops.result.now c.deref-ops.ensures.value c.index-ops-pc.is in
+    let here = at ∙ ap Some (roles.told (role.Spots c.in-Spots.first c.in-Spots.size) (instruction_of c.index-ops-pc.result) (sym c.in-Spots.is ∙ c.role_of.ensures)) in
+    let room = subst (λ n. suc c.args.code.now.depth * c.args.code.now.stack ≤ n) (sym c.turn.auto.stack) c.requires.ready.room in
+    (spots.ranges c.requires.ready.valid c.valid_is_safe.ensures c.requires.ready.few c.turn.invariant.turn room c.in-Spots.first c.in-Spots.size here).0
+
+pub element_by_one-requires-clause-few : goal.element_by_one-requires-clause-few
+element_by_one-requires-clause-few g c =
+    let at = turn.stands c.requires.ready.valid c.valid_is_safe.ensures c.turn.invariant.turn c.index-ops-pc.result c.deref-ops.result.now c.deref-ops.ensures.value c.index-ops-pc.is in
+    let here = at ∙ ap Some (roles.told (role.Spots c.in-Spots.first c.in-Spots.size) (instruction_of c.index-ops-pc.result) (sym c.in-Spots.is ∙ c.role_of.ensures)) in
+    let room = subst (λ n. suc c.args.code.now.depth * c.args.code.now.stack ≤ n) (sym c.turn.auto.stack) c.requires.ready.room in
+    (spots.ranges c.requires.ready.valid c.valid_is_safe.ensures c.requires.ready.few c.turn.invariant.turn room c.in-Spots.first c.in-Spots.size here).1
+
+pub element_by_one-requires-clause-room : goal.element_by_one-requires-clause-room
+element_by_one-requires-clause-room g c =
+    let at = turn.stands c.requires.ready.valid c.valid_is_safe.ensures c.turn.invariant.turn c.index-ops-pc.result c.deref-ops.result.now c.deref-ops.ensures.value c.index-ops-pc.is in
+    let here = at ∙ ap Some (roles.told (role.Spots c.in-Spots.first c.in-Spots.size) (instruction_of c.index-ops-pc.result) (sym c.in-Spots.is ∙ c.role_of.ensures)) in
+    let room = subst (λ n. suc c.args.code.now.depth * c.args.code.now.stack ≤ n) (sym c.turn.auto.stack) c.requires.ready.room in
+    spots.has_room c.requires.ready.valid c.valid_is_safe.ensures c.requires.ready.few c.turn.invariant.turn room c.in-Spots.first c.in-Spots.size here
+
+pub element_by_one-requires-clause-extent : goal.element_by_one-requires-clause-extent
+element_by_one-requires-clause-extent g c =
+    let at = turn.stands c.requires.ready.valid c.valid_is_safe.ensures c.turn.invariant.turn c.index-ops-pc.result c.deref-ops.result.now c.deref-ops.ensures.value c.index-ops-pc.is in
+    let here = at ∙ ap Some (roles.told (role.Spots c.in-Spots.first c.in-Spots.size) (instruction_of c.index-ops-pc.result) (sym c.in-Spots.is ∙ c.role_of.ensures)) in
+    let room = subst (λ n. suc c.args.code.now.depth * c.args.code.now.stack ≤ n) (sym c.turn.auto.stack) c.requires.ready.room in
+    let by = elements.subscripts_in c.deref-ops.result.now c.args.code.now (c.turn.pc + 1) _ _ c.deref-ops.ensures.value c.in-One.is c.subscripts_behind.ensures in
+    let fits : SFits w64 c.in-One.extent = search rules in
+    subst IsInRange (sym (to_z-of_z w64 c.in-One.extent fits)) (elements.extent_small c.requires.ready.valid c.valid_is_safe.ensures c.requires.ready.few c.turn.invariant.turn room c.in-Spots.first c.in-Spots.size here c.in-One.unit by.subscript c.in-Ok-subscript.value c.in-Ok-subscript.ensures c.in-One.extent by)
+
+pub turn-smaller-in-Ok-element_by_one : goal.turn-smaller-in-Ok-element_by_one
+turn-smaller-in-Ok-element_by_one g c =
+    let at = turn.stands c.requires.ready.valid c.valid_is_safe.ensures c.turn.invariant.turn c.index-ops-pc.result c.deref-ops.result.now c.deref-ops.ensures.value c.index-ops-pc.is in
+    let here = at ∙ ap Some (roles.told (role.Spots c.in-Spots.first c.in-Spots.size) (instruction_of c.index-ops-pc.result) (sym c.in-Spots.is ∙ c.role_of.ensures)) in
+    let room = subst (λ n. suc c.args.code.now.depth * c.args.code.now.stack ≤ n) (sym c.turn.auto.stack) c.requires.ready.room in
+    let by = elements.subscripts_in c.deref-ops.result.now c.args.code.now (c.turn.pc + 1) _ _ c.deref-ops.ensures.value c.in-One.is c.subscripts_behind.ensures in
+    elements.one_nearer c.requires.ready.valid c.valid_is_safe.ensures c.requires.ready.few c.turn.invariant.turn room c.in-Spots.first c.in-Spots.size here c.in-One.unit by.subscript c.in-Ok-subscript.value c.in-Ok-subscript.ensures c.in-One.extent by
+
+pub turn-preserved-in-Ok-element_by_one : goal.turn-preserved-in-Ok-element_by_one
+turn-preserved-in-Ok-element_by_one g c =
+    let at = turn.stands c.requires.ready.valid c.valid_is_safe.ensures c.turn.invariant.turn c.index-ops-pc.result c.deref-ops.result.now c.deref-ops.ensures.value c.index-ops-pc.is in
+    let here = at ∙ ap Some (roles.told (role.Spots c.in-Spots.first c.in-Spots.size) (instruction_of c.index-ops-pc.result) (sym c.in-Spots.is ∙ c.role_of.ensures)) in
+    let room = subst (λ n. suc c.args.code.now.depth * c.args.code.now.stack ≤ n) (sym c.turn.auto.stack) c.requires.ready.room in
+    let by = elements.subscripts_in c.deref-ops.result.now c.args.code.now (c.turn.pc + 1) _ _ c.deref-ops.ensures.value c.in-One.is c.subscripts_behind.ensures in
+    let fits : SFits w64 c.in-One.extent = search rules in
+    keeps_on c.turn.invariant (elements.one_on c.requires.ready.valid c.valid_is_safe.ensures c.requires.ready.few c.turn.invariant.turn room c.in-Spots.first c.in-Spots.size here c.in-One.unit by.subscript c.in-Ok-subscript.value c.in-Ok-subscript.ensures c.in-One.extent by (c.in-Ok-element_by_one.ensures.works _ (subst (λ z. IsLaidOne c.in-Spots.first c.in-Spots.size c.in-Ok-subscript.value z c.turn.stack c.turn.top (elements.stack3 c.requires.ready.valid c.valid_is_safe.ensures c.requires.ready.few c.turn.invariant.turn room c.in-Spots.first c.in-Spots.size here c.in-One.unit by.subscript c.in-Ok-subscript.value c.in-Ok-subscript.ensures c.in-One.extent by)) (sym (to_z-of_z w64 c.in-One.extent fits)) (elements.laid_one c.requires.ready.valid c.valid_is_safe.ensures c.requires.ready.few c.turn.invariant.turn room c.in-Spots.first c.in-Spots.size here c.in-One.unit by.subscript c.in-Ok-subscript.value c.in-Ok-subscript.ensures c.in-One.extent by))) c.in-Ok-element_by_one.ensures.room)
+
+pub returns-in-Err-element_by_one : goal.returns-in-Err-element_by_one
+returns-in-Err-element_by_one g c =
+    let at = turn.stands c.requires.ready.valid c.valid_is_safe.ensures c.turn.invariant.turn c.index-ops-pc.result c.deref-ops.result.now c.deref-ops.ensures.value c.index-ops-pc.is in
+    let here = at ∙ ap Some (roles.told (role.Spots c.in-Spots.first c.in-Spots.size) (instruction_of c.index-ops-pc.result) (sym c.in-Spots.is ∙ c.role_of.ensures)) in
+    let room = subst (λ n. suc c.args.code.now.depth * c.args.code.now.stack ≤ n) (sym c.turn.auto.stack) c.requires.ready.room in
+    let by = elements.subscripts_in c.deref-ops.result.now c.args.code.now (c.turn.pc + 1) _ _ c.deref-ops.ensures.value c.in-One.is c.subscripts_behind.ensures in
+    let fits : SFits w64 c.in-One.extent = search rules in
+    answered g.S.Source.left g.K.Sink.puts g.S.Source.faults g.K.Sink.faults c.args.input.now c.turn.input c.args.out.now c.turn.out c.args.code.now c.args.steps _ _ _ _ c.over-in-Err-element_by_one.ensures (whole c.turn.invariant c.requires.unread _ _ _ (elements.one_over c.requires.ready.valid c.valid_is_safe.ensures c.requires.ready.few c.turn.invariant.turn room c.in-Spots.first c.in-Spots.size here c.in-One.unit by.subscript c.in-Ok-subscript.value c.in-Ok-subscript.ensures c.in-One.extent by c.element_by_one.new.stack c.counted-in-Err-element_by_one.ensures (c.in-Err-element_by_one.ensures.works _ (subst (λ z. IsLaidOne c.in-Spots.first c.in-Spots.size c.in-Ok-subscript.value z c.turn.stack c.turn.top (elements.stack3 c.requires.ready.valid c.valid_is_safe.ensures c.requires.ready.few c.turn.invariant.turn room c.in-Spots.first c.in-Spots.size here c.in-One.unit by.subscript c.in-Ok-subscript.value c.in-Ok-subscript.ensures c.in-One.extent by)) (sym (to_z-of_z w64 c.in-One.extent fits)) (elements.laid_one c.requires.ready.valid c.valid_is_safe.ensures c.requires.ready.few c.turn.invariant.turn room c.in-Spots.first c.in-Spots.size here c.in-One.unit by.subscript c.in-Ok-subscript.value c.in-Ok-subscript.ensures c.in-One.extent by)))))
+
+pub subscript-requires-in-Two : goal.subscript-requires-in-Two
+subscript-requires-in-Two g c =
+    let at = turn.stands c.requires.ready.valid c.valid_is_safe.ensures c.turn.invariant.turn c.index-ops-pc.result c.deref-ops.result.now c.deref-ops.ensures.value c.index-ops-pc.is in
+    let here = at ∙ ap Some (roles.told (role.Spots c.in-Spots.first c.in-Spots.size) (instruction_of c.index-ops-pc.result) (sym c.in-Spots.is ∙ c.role_of.ensures)) in
+    let room = subst (λ n. suc c.args.code.now.depth * c.args.code.now.stack ≤ n) (sym c.turn.auto.stack) c.requires.ready.room in
+    let by = elements.subscripts_in c.deref-ops.result.now c.args.code.now (c.turn.pc + 1) _ _ c.deref-ops.ensures.value c.in-Two.is c.subscripts_behind.ensures in
+    elements.first_unit c.requires.ready.valid c.valid_is_safe.ensures c.requires.ready.few c.turn.invariant.turn room c.in-Spots.first c.in-Spots.size here c.in-Two.one by.first
+
+pub returns-in-Err-subscript-2 : goal.returns-in-Err-subscript-2
+returns-in-Err-subscript-2 g c =
+    let at = turn.stands c.requires.ready.valid c.valid_is_safe.ensures c.turn.invariant.turn c.index-ops-pc.result c.deref-ops.result.now c.deref-ops.ensures.value c.index-ops-pc.is in
+    let here = at ∙ ap Some (roles.told (role.Spots c.in-Spots.first c.in-Spots.size) (instruction_of c.index-ops-pc.result) (sym c.in-Spots.is ∙ c.role_of.ensures)) in
+    let room = subst (λ n. suc c.args.code.now.depth * c.args.code.now.stack ≤ n) (sym c.turn.auto.stack) c.requires.ready.room in
+    let by = elements.subscripts_in c.deref-ops.result.now c.args.code.now (c.turn.pc + 1) _ _ c.deref-ops.ensures.value c.in-Two.is c.subscripts_behind.ensures in
+    answered g.S.Source.left g.K.Sink.puts g.S.Source.faults g.K.Sink.faults c.args.input.now c.turn.input c.args.out.now c.turn.out c.args.code.now c.args.steps _ _ _ _ c.over-in-Err-subscript-2.ensures (whole c.turn.invariant c.requires.unread _ _ _ (elements.first_undefined c.requires.ready.valid c.valid_is_safe.ensures c.requires.ready.few c.turn.invariant.turn room c.in-Spots.first c.in-Spots.size here c.in-Two.one by.first c.counted-in-Err-subscript-2.ensures c.in-Err-subscript-2.ensures))
+
+pub subscript-requires-in-Ok-subscript-2 : goal.subscript-requires-in-Ok-subscript-2
+subscript-requires-in-Ok-subscript-2 g c =
+    let at = turn.stands c.requires.ready.valid c.valid_is_safe.ensures c.turn.invariant.turn c.index-ops-pc.result c.deref-ops.result.now c.deref-ops.ensures.value c.index-ops-pc.is in
+    let here = at ∙ ap Some (roles.told (role.Spots c.in-Spots.first c.in-Spots.size) (instruction_of c.index-ops-pc.result) (sym c.in-Spots.is ∙ c.role_of.ensures)) in
+    let room = subst (λ n. suc c.args.code.now.depth * c.args.code.now.stack ≤ n) (sym c.turn.auto.stack) c.requires.ready.room in
+    let by = elements.subscripts_in c.deref-ops.result.now c.args.code.now (c.turn.pc + 1) _ _ c.deref-ops.ensures.value c.in-Two.is c.subscripts_behind.ensures in
+    elements.second_unit c.requires.ready.valid c.valid_is_safe.ensures c.requires.ready.few c.turn.invariant.turn room c.in-Spots.first c.in-Spots.size here c.in-Two.one by.first c.in-Ok-subscript-2.x c.in-Ok-subscript-2.ensures c.in-Two.two by.second
+
+pub returns-in-Err-subscript-3 : goal.returns-in-Err-subscript-3
+returns-in-Err-subscript-3 g c =
+    let at = turn.stands c.requires.ready.valid c.valid_is_safe.ensures c.turn.invariant.turn c.index-ops-pc.result c.deref-ops.result.now c.deref-ops.ensures.value c.index-ops-pc.is in
+    let here = at ∙ ap Some (roles.told (role.Spots c.in-Spots.first c.in-Spots.size) (instruction_of c.index-ops-pc.result) (sym c.in-Spots.is ∙ c.role_of.ensures)) in
+    let room = subst (λ n. suc c.args.code.now.depth * c.args.code.now.stack ≤ n) (sym c.turn.auto.stack) c.requires.ready.room in
+    let by = elements.subscripts_in c.deref-ops.result.now c.args.code.now (c.turn.pc + 1) _ _ c.deref-ops.ensures.value c.in-Two.is c.subscripts_behind.ensures in
+    answered g.S.Source.left g.K.Sink.puts g.S.Source.faults g.K.Sink.faults c.args.input.now c.turn.input c.args.out.now c.turn.out c.args.code.now c.args.steps _ _ _ _ c.over-in-Err-subscript-3.ensures (whole c.turn.invariant c.requires.unread _ _ _ (elements.second_undefined c.requires.ready.valid c.valid_is_safe.ensures c.requires.ready.few c.turn.invariant.turn room c.in-Spots.first c.in-Spots.size here c.in-Two.one by.first c.in-Ok-subscript-2.x c.in-Ok-subscript-2.ensures c.in-Two.two by.second c.counted-in-Err-subscript-3.ensures c.in-Err-subscript-3.ensures))
+
+pub element_by_two-requires-clause-some : goal.element_by_two-requires-clause-some
+element_by_two-requires-clause-some g c =
+    let at = turn.stands c.requires.ready.valid c.valid_is_safe.ensures c.turn.invariant.turn c.index-ops-pc.result c.deref-ops.result.now c.deref-ops.ensures.value c.index-ops-pc.is in
+    let here = at ∙ ap Some (roles.told (role.Spots c.in-Spots.first c.in-Spots.size) (instruction_of c.index-ops-pc.result) (sym c.in-Spots.is ∙ c.role_of.ensures)) in
+    let room = subst (λ n. suc c.args.code.now.depth * c.args.code.now.stack ≤ n) (sym c.turn.auto.stack) c.requires.ready.room in
+    (spots.ranges c.requires.ready.valid c.valid_is_safe.ensures c.requires.ready.few c.turn.invariant.turn room c.in-Spots.first c.in-Spots.size here).0
+
+pub element_by_two-requires-clause-few : goal.element_by_two-requires-clause-few
+element_by_two-requires-clause-few g c =
+    let at = turn.stands c.requires.ready.valid c.valid_is_safe.ensures c.turn.invariant.turn c.index-ops-pc.result c.deref-ops.result.now c.deref-ops.ensures.value c.index-ops-pc.is in
+    let here = at ∙ ap Some (roles.told (role.Spots c.in-Spots.first c.in-Spots.size) (instruction_of c.index-ops-pc.result) (sym c.in-Spots.is ∙ c.role_of.ensures)) in
+    let room = subst (λ n. suc c.args.code.now.depth * c.args.code.now.stack ≤ n) (sym c.turn.auto.stack) c.requires.ready.room in
+    (spots.ranges c.requires.ready.valid c.valid_is_safe.ensures c.requires.ready.few c.turn.invariant.turn room c.in-Spots.first c.in-Spots.size here).1
+
+pub element_by_two-requires-clause-room : goal.element_by_two-requires-clause-room
+element_by_two-requires-clause-room g c =
+    let at = turn.stands c.requires.ready.valid c.valid_is_safe.ensures c.turn.invariant.turn c.index-ops-pc.result c.deref-ops.result.now c.deref-ops.ensures.value c.index-ops-pc.is in
+    let here = at ∙ ap Some (roles.told (role.Spots c.in-Spots.first c.in-Spots.size) (instruction_of c.index-ops-pc.result) (sym c.in-Spots.is ∙ c.role_of.ensures)) in
+    let room = subst (λ n. suc c.args.code.now.depth * c.args.code.now.stack ≤ n) (sym c.turn.auto.stack) c.requires.ready.room in
+    spots.has_room c.requires.ready.valid c.valid_is_safe.ensures c.requires.ready.few c.turn.invariant.turn room c.in-Spots.first c.in-Spots.size here
+
+pub element_by_two-requires-clause-rows : goal.element_by_two-requires-clause-rows
+element_by_two-requires-clause-rows g c =
+    let at = turn.stands c.requires.ready.valid c.valid_is_safe.ensures c.turn.invariant.turn c.index-ops-pc.result c.deref-ops.result.now c.deref-ops.ensures.value c.index-ops-pc.is in
+    let here = at ∙ ap Some (roles.told (role.Spots c.in-Spots.first c.in-Spots.size) (instruction_of c.index-ops-pc.result) (sym c.in-Spots.is ∙ c.role_of.ensures)) in
+    let room = subst (λ n. suc c.args.code.now.depth * c.args.code.now.stack ≤ n) (sym c.turn.auto.stack) c.requires.ready.room in
+    let by = elements.subscripts_in c.deref-ops.result.now c.args.code.now (c.turn.pc + 1) _ _ c.deref-ops.ensures.value c.in-Two.is c.subscripts_behind.ensures in
+    let fits : SFits w64 c.in-Two.rows = search rules in
+    let fits1 : SFits w64 c.in-Two.columns = search rules in
+    subst IsInRange (sym (to_z-of_z w64 c.in-Two.rows fits)) (elements.rows_small c.requires.ready.valid c.valid_is_safe.ensures c.requires.ready.few c.turn.invariant.turn room c.in-Spots.first c.in-Spots.size here c.in-Two.one by.first c.in-Ok-subscript-2.x c.in-Ok-subscript-2.ensures c.in-Two.two by.second c.in-Ok-subscript-3.y c.in-Ok-subscript-3.ensures c.in-Two.rows c.in-Two.columns by)
+
+pub element_by_two-requires-clause-columns : goal.element_by_two-requires-clause-columns
+element_by_two-requires-clause-columns g c =
+    let at = turn.stands c.requires.ready.valid c.valid_is_safe.ensures c.turn.invariant.turn c.index-ops-pc.result c.deref-ops.result.now c.deref-ops.ensures.value c.index-ops-pc.is in
+    let here = at ∙ ap Some (roles.told (role.Spots c.in-Spots.first c.in-Spots.size) (instruction_of c.index-ops-pc.result) (sym c.in-Spots.is ∙ c.role_of.ensures)) in
+    let room = subst (λ n. suc c.args.code.now.depth * c.args.code.now.stack ≤ n) (sym c.turn.auto.stack) c.requires.ready.room in
+    let by = elements.subscripts_in c.deref-ops.result.now c.args.code.now (c.turn.pc + 1) _ _ c.deref-ops.ensures.value c.in-Two.is c.subscripts_behind.ensures in
+    let fits : SFits w64 c.in-Two.rows = search rules in
+    let fits1 : SFits w64 c.in-Two.columns = search rules in
+    subst IsInRange (sym (to_z-of_z w64 c.in-Two.columns fits1)) (elements.columns_small c.requires.ready.valid c.valid_is_safe.ensures c.requires.ready.few c.turn.invariant.turn room c.in-Spots.first c.in-Spots.size here c.in-Two.one by.first c.in-Ok-subscript-2.x c.in-Ok-subscript-2.ensures c.in-Two.two by.second c.in-Ok-subscript-3.y c.in-Ok-subscript-3.ensures c.in-Two.rows c.in-Two.columns by)
+
+pub turn-smaller-in-Ok-element_by_two : goal.turn-smaller-in-Ok-element_by_two
+turn-smaller-in-Ok-element_by_two g c =
+    let at = turn.stands c.requires.ready.valid c.valid_is_safe.ensures c.turn.invariant.turn c.index-ops-pc.result c.deref-ops.result.now c.deref-ops.ensures.value c.index-ops-pc.is in
+    let here = at ∙ ap Some (roles.told (role.Spots c.in-Spots.first c.in-Spots.size) (instruction_of c.index-ops-pc.result) (sym c.in-Spots.is ∙ c.role_of.ensures)) in
+    let room = subst (λ n. suc c.args.code.now.depth * c.args.code.now.stack ≤ n) (sym c.turn.auto.stack) c.requires.ready.room in
+    let by = elements.subscripts_in c.deref-ops.result.now c.args.code.now (c.turn.pc + 1) _ _ c.deref-ops.ensures.value c.in-Two.is c.subscripts_behind.ensures in
+    elements.two_nearer c.requires.ready.valid c.valid_is_safe.ensures c.requires.ready.few c.turn.invariant.turn room c.in-Spots.first c.in-Spots.size here c.in-Two.one by.first c.in-Ok-subscript-2.x c.in-Ok-subscript-2.ensures c.in-Two.two by.second c.in-Ok-subscript-3.y c.in-Ok-subscript-3.ensures c.in-Two.rows c.in-Two.columns by
+
+pub turn-preserved-in-Ok-element_by_two : goal.turn-preserved-in-Ok-element_by_two
+turn-preserved-in-Ok-element_by_two g c =
+    let at = turn.stands c.requires.ready.valid c.valid_is_safe.ensures c.turn.invariant.turn c.index-ops-pc.result c.deref-ops.result.now c.deref-ops.ensures.value c.index-ops-pc.is in
+    let here = at ∙ ap Some (roles.told (role.Spots c.in-Spots.first c.in-Spots.size) (instruction_of c.index-ops-pc.result) (sym c.in-Spots.is ∙ c.role_of.ensures)) in
+    let room = subst (λ n. suc c.args.code.now.depth * c.args.code.now.stack ≤ n) (sym c.turn.auto.stack) c.requires.ready.room in
+    let by = elements.subscripts_in c.deref-ops.result.now c.args.code.now (c.turn.pc + 1) _ _ c.deref-ops.ensures.value c.in-Two.is c.subscripts_behind.ensures in
+    let fits : SFits w64 c.in-Two.rows = search rules in
+    let fits1 : SFits w64 c.in-Two.columns = search rules in
+    keeps_on c.turn.invariant (elements.two_on c.requires.ready.valid c.valid_is_safe.ensures c.requires.ready.few c.turn.invariant.turn room c.in-Spots.first c.in-Spots.size here c.in-Two.one by.first c.in-Ok-subscript-2.x c.in-Ok-subscript-2.ensures c.in-Two.two by.second c.in-Ok-subscript-3.y c.in-Ok-subscript-3.ensures c.in-Two.rows c.in-Two.columns by (c.in-Ok-element_by_two.ensures.works _ (subst (λ z. AreLaidTwo c.in-Spots.first c.in-Spots.size c.in-Ok-subscript-2.x c.in-Ok-subscript-3.y z (to_z w64 (of_z w64 c.in-Two.columns)) c.turn.stack c.turn.top (elements.pair5 c.requires.ready.valid c.valid_is_safe.ensures c.requires.ready.few c.turn.invariant.turn room c.in-Spots.first c.in-Spots.size here c.in-Two.one by.first c.in-Ok-subscript-2.x c.in-Ok-subscript-2.ensures c.in-Two.two by.second c.in-Ok-subscript-3.y c.in-Ok-subscript-3.ensures c.in-Two.rows c.in-Two.columns by)) (sym (to_z-of_z w64 c.in-Two.rows fits)) (subst (λ z. AreLaidTwo c.in-Spots.first c.in-Spots.size c.in-Ok-subscript-2.x c.in-Ok-subscript-3.y c.in-Two.rows z c.turn.stack c.turn.top (elements.pair5 c.requires.ready.valid c.valid_is_safe.ensures c.requires.ready.few c.turn.invariant.turn room c.in-Spots.first c.in-Spots.size here c.in-Two.one by.first c.in-Ok-subscript-2.x c.in-Ok-subscript-2.ensures c.in-Two.two by.second c.in-Ok-subscript-3.y c.in-Ok-subscript-3.ensures c.in-Two.rows c.in-Two.columns by)) (sym (to_z-of_z w64 c.in-Two.columns fits1)) (elements.laid_two c.requires.ready.valid c.valid_is_safe.ensures c.requires.ready.few c.turn.invariant.turn room c.in-Spots.first c.in-Spots.size here c.in-Two.one by.first c.in-Ok-subscript-2.x c.in-Ok-subscript-2.ensures c.in-Two.two by.second c.in-Ok-subscript-3.y c.in-Ok-subscript-3.ensures c.in-Two.rows c.in-Two.columns by)))) c.in-Ok-element_by_two.ensures.room)
+
+pub returns-in-Err-element_by_two : goal.returns-in-Err-element_by_two
+returns-in-Err-element_by_two g c =
+    let at = turn.stands c.requires.ready.valid c.valid_is_safe.ensures c.turn.invariant.turn c.index-ops-pc.result c.deref-ops.result.now c.deref-ops.ensures.value c.index-ops-pc.is in
+    let here = at ∙ ap Some (roles.told (role.Spots c.in-Spots.first c.in-Spots.size) (instruction_of c.index-ops-pc.result) (sym c.in-Spots.is ∙ c.role_of.ensures)) in
+    let room = subst (λ n. suc c.args.code.now.depth * c.args.code.now.stack ≤ n) (sym c.turn.auto.stack) c.requires.ready.room in
+    let by = elements.subscripts_in c.deref-ops.result.now c.args.code.now (c.turn.pc + 1) _ _ c.deref-ops.ensures.value c.in-Two.is c.subscripts_behind.ensures in
+    let fits : SFits w64 c.in-Two.rows = search rules in
+    let fits1 : SFits w64 c.in-Two.columns = search rules in
+    answered g.S.Source.left g.K.Sink.puts g.S.Source.faults g.K.Sink.faults c.args.input.now c.turn.input c.args.out.now c.turn.out c.args.code.now c.args.steps _ _ _ _ c.over-in-Err-element_by_two.ensures (whole c.turn.invariant c.requires.unread _ _ _ (elements.two_over c.requires.ready.valid c.valid_is_safe.ensures c.requires.ready.few c.turn.invariant.turn room c.in-Spots.first c.in-Spots.size here c.in-Two.one by.first c.in-Ok-subscript-2.x c.in-Ok-subscript-2.ensures c.in-Two.two by.second c.in-Ok-subscript-3.y c.in-Ok-subscript-3.ensures c.in-Two.rows c.in-Two.columns by c.element_by_two.new.stack c.counted-in-Err-element_by_two.ensures (c.in-Err-element_by_two.ensures.works _ (subst (λ z. AreLaidTwo c.in-Spots.first c.in-Spots.size c.in-Ok-subscript-2.x c.in-Ok-subscript-3.y z (to_z w64 (of_z w64 c.in-Two.columns)) c.turn.stack c.turn.top (elements.pair5 c.requires.ready.valid c.valid_is_safe.ensures c.requires.ready.few c.turn.invariant.turn room c.in-Spots.first c.in-Spots.size here c.in-Two.one by.first c.in-Ok-subscript-2.x c.in-Ok-subscript-2.ensures c.in-Two.two by.second c.in-Ok-subscript-3.y c.in-Ok-subscript-3.ensures c.in-Two.rows c.in-Two.columns by)) (sym (to_z-of_z w64 c.in-Two.rows fits)) (subst (λ z. AreLaidTwo c.in-Spots.first c.in-Spots.size c.in-Ok-subscript-2.x c.in-Ok-subscript-3.y c.in-Two.rows z c.turn.stack c.turn.top (elements.pair5 c.requires.ready.valid c.valid_is_safe.ensures c.requires.ready.few c.turn.invariant.turn room c.in-Spots.first c.in-Spots.size here c.in-Two.one by.first c.in-Ok-subscript-2.x c.in-Ok-subscript-2.ensures c.in-Two.two by.second c.in-Ok-subscript-3.y c.in-Ok-subscript-3.ensures c.in-Two.rows c.in-Two.columns by)) (sym (to_z-of_z w64 c.in-Two.columns fits1)) (elements.laid_two c.requires.ready.valid c.valid_is_safe.ensures c.requires.ready.few c.turn.invariant.turn room c.in-Spots.first c.in-Spots.size here c.in-Two.one by.first c.in-Ok-subscript-2.x c.in-Ok-subscript-2.ensures c.in-Two.two by.second c.in-Ok-subscript-3.y c.in-Ok-subscript-3.ensures c.in-Two.rows c.in-Two.columns by))))))
 
 pub work-requires-clause-ranges : goal.work-requires-clause-ranges
 work-requires-clause-ranges g c =
@@ -265,6 +443,28 @@ pub returns-in-Err-work : goal.returns-in-Err-work
 returns-in-Err-work g c =
     let at = turn.stands c.requires.ready.valid c.valid_is_safe.ensures c.turn.invariant.turn c.index-ops-pc.result c.deref-ops.result.now c.deref-ops.ensures.value c.index-ops-pc.is in
     answered g.S.Source.left g.K.Sink.puts g.S.Source.faults g.K.Sink.faults c.args.input.now c.turn.input c.args.out.now c.turn.out c.args.code.now c.args.steps _ _ _ _ c.over-in-Err-work.ensures (whole c.turn.invariant c.requires.unread _ _ _ (turn.works_over c.requires.ready.valid c.valid_is_safe.ensures c.turn.invariant.turn at c.counted-in-Err-work.ensures c.in-Err-work.ensures.works))
+
+pub operation-requires-clause-work : goal.operation-requires-clause-work
+operation-requires-clause-work g c =
+    let at = turn.stands c.requires.ready.valid c.valid_is_safe.ensures c.turn.invariant.turn c.index-ops-pc.result c.deref-ops.result.now c.deref-ops.ensures.value c.index-ops-pc.is in
+    let room = subst (λ n. suc c.args.code.now.depth * c.args.code.now.stack ≤ n) (sym c.turn.auto.stack) c.requires.ready.room in
+    turn.may_work c.requires.ready.valid c.valid_is_safe.ensures c.turn.invariant.turn at room
+
+pub turn-smaller-in-Ok-operation : goal.turn-smaller-in-Ok-operation
+turn-smaller-in-Ok-operation g c =
+    let at = turn.stands c.requires.ready.valid c.valid_is_safe.ensures c.turn.invariant.turn c.index-ops-pc.result c.deref-ops.result.now c.deref-ops.ensures.value c.index-ops-pc.is in
+    let told = roles.told role.Operates (instruction_of c.index-ops-pc.result) (sym c.in-Operates.is ∙ c.role_of.ensures) in
+    turn.nearer_next c.requires.ready.valid c.valid_is_safe.ensures c.turn.invariant.turn at told
+
+pub turn-preserved-in-Ok-operation : goal.turn-preserved-in-Ok-operation
+turn-preserved-in-Ok-operation g c =
+    let at = turn.stands c.requires.ready.valid c.valid_is_safe.ensures c.turn.invariant.turn c.index-ops-pc.result c.deref-ops.result.now c.deref-ops.ensures.value c.index-ops-pc.is in
+    keeps_on c.turn.invariant (turn.works_on c.requires.ready.valid c.valid_is_safe.ensures c.turn.invariant.turn at (ap is_straight (sym c.role_of.ensures ∙ c.in-Operates.is)) c.in-Ok-operation.ensures.works c.in-Ok-operation.ensures.room)
+
+pub returns-in-Err-operation : goal.returns-in-Err-operation
+returns-in-Err-operation g c =
+    let at = turn.stands c.requires.ready.valid c.valid_is_safe.ensures c.turn.invariant.turn c.index-ops-pc.result c.deref-ops.result.now c.deref-ops.ensures.value c.index-ops-pc.is in
+    answered g.S.Source.left g.K.Sink.puts g.S.Source.faults g.K.Sink.faults c.args.input.now c.turn.input c.args.out.now c.turn.out c.args.code.now c.args.steps _ _ _ _ c.over-in-Err-operation.ensures (whole c.turn.invariant c.requires.unread _ _ _ (turn.works_over c.requires.ready.valid c.valid_is_safe.ensures c.turn.invariant.turn at c.counted-in-Err-operation.ensures c.in-Err-operation.ensures.works))
 
 pub hold-requires-clause-ranges : goal.hold-requires-clause-ranges
 hold-requires-clause-ranges g c =
