@@ -6,13 +6,10 @@ use Rattle.std.proofs.lemmas.List.{append-nil}
 use Rattle.ports.specs.Causes.{Rose}
 use Rattle.ports.specs.Puts.{PutsPrefix}
 use Rattle.ports.proofs.PutsInARow.{puts_on}
+use Rattle.record_flow.proofs.Puts.{none_behind}
 use Rattle.eft_top.specs.Delivery.{Delivers, IsOnItsWay}
 
-none_behind : (xs ys : List ℕ) → xs ++ ys ≡ [] → ys ≡ []
-none_behind [] ys e = e
-none_behind (x ∷ xs) ys e = absurd (cc)
-
-none_before : (xs ys : List ℕ) → xs ++ ys ≡ [] → xs ≡ []
+pub none_before : (xs ys : List ℕ) → xs ++ ys ≡ [] → xs ≡ []
 none_before [] ys e = refl
 none_before (x ∷ xs) ys e = absurd (cc)
 

@@ -37,7 +37,8 @@ use Rattle.eft_top.specs.Input.{Got, Unread, Nothing, Broken, HasGiven, HasGot, 
 use Rattle.eft_top.specs.Outcome.{Outcome, HasFault, HasText, Runs, IsRun, IsDeckRun, RunsOver, ComesOf, DeckComesOf, IsOutcomeOf, IsOutcomeBy, end_status, end_line, count_line, if_asked}
 use Rattle.eft_top.specs.Report.{ReportsRefusal, counts_at, counts_bytes, report_bytes, status_at, line_at}
 use Rattle.eft_top.specs.Story.{HasPut, HasBroken, Shows, AllPut, BrokenOff, IsUnitsRun, Prints, CameOf, NotFetched, NoMemory, Came}
-use Rattle.eft_top.proofs.Delivery.{longer}
+use Rattle.eft_top.proofs.Delivery.{longer, none_before}
+use Rattle.record_flow.proofs.Puts.{none_behind}
 
 pub if_ok : {T E : Type 0} {P Q : T → Type 0} → ((t : T) → P t → Q t) → (r : Result T E) → IfOk r P → IfOk r Q
 if_ok by (Ok t) p = by t p
@@ -57,6 +58,11 @@ counted_at counts counted is (ends.Trapped trap place) = is
 counted_at counts counted is ends.StepLimit = is
 counted_at counts counted is ends.InputFault = is
 counted_at counts counted is ends.OutputFault = refl
+
+-- each record is at least its byte 10
+no_records : (records : List Record) → output_bytes records ≡ [] → records ≡ []
+no_records [] none = refl
+no_records (r ∷ rs) none = absurd (let end : ◌≡◌ {A = List ℕ} (10 ∷ []) [] = none_behind r (10 ∷ []) (none_before (r ++ 10 ∷ []) (output_bytes rs) none) in cc)
 
 -- ---- the run of linked units ----
 
@@ -109,7 +115,7 @@ module _ {S K : Type 0} (left : S → Option (List ℕ)) (puts : K → List ℕ 
   broken_off h report status line =
       BrokenOff (Runs files limit false (if_asked count counts.0) shown)
       (record { bytes = h.got; behind = Nothing }, h.consumes, shown, counts.0, alone false h.got shown counts.0 (h.some.1, counts.1), tt, refl)
-      (record { front = subst (λ (bytes : List ℕ). PutsPrefix puts o0 bytes o1) more (longer puts failures o0 o1 (output_bytes h.written) (output_bytes begins.rest) h.sent); cause = h.out })
+      (record { some = some; front = subst (λ (bytes : List ℕ). PutsPrefix puts o0 bytes o1) more (longer puts failures o0 o1 (output_bytes h.written) (output_bytes begins.rest) h.sent); cause = h.out })
       (record { status = status; line = line })
     where
       shown : Shown
@@ -123,6 +129,9 @@ module _ {S K : Type 0} (left : S → Option (List ℕ)) (puts : K → List ℕ 
 
       more : output_bytes h.written ++ output_bytes begins.rest ≡ output_bytes shown.records
       more = sym (flat_map-append (λ record_bytes. record_bytes ++ 10 ∷ []) h.written begins.rest) ∙ ap output_bytes begins.is
+
+      some : output_bytes shown.records ≢ []
+      some none = h.wanted (no_records h.written (none_before (output_bytes h.written) (output_bytes begins.rest) (more ∙ none)))
 
   pub run_shows : (end : TheEnd) → StreamsTo left puts faults failures i0 i1 o0 o1 made limit begun executed end → (report : Report) → report.status ≡ status_at end → report_bytes report ≡ counts_before Counted end ++ line_at files limit end → Shown1 report
   run_shows ends.Done h report status line = whole (Ended Done) h report (ap Some status) line

@@ -415,9 +415,9 @@ module _ (asks : Command → Type 0) (files : Option (List ℕ → Option (List 
     line_shown (Asked command asked came) = said_of command came
 
   -- what was to be shown where a put failed: on diag of a line that is not empty, or on out
-  module _ (out diag : List ℕ → Type 0) (so : (some : Got) → given some → got some) (sends : (bytes : List ℕ) → put bytes → out bytes) (breaks : (bytes : List ℕ) → broken bytes → out bytes) (failed : (report_bytes report ≢ []) ⊎ (report.status ≡ OutputFault)) (d : diag (report_bytes report)) where
-    on_diag : (report.status ≡ OutputFault → ⊥) → ((report_bytes report ≢ []) × diag (report_bytes report)) ⊎ diag output_fault_line
-    on_diag other = elim failed [ inl some ↦ inl (some, d) | inr e ↦ absurd (other e) ]
+  module _ (out diag : List ℕ → Type 0) (so : (some : Got) → given some → got some) (sends : (bytes : List ℕ) → put bytes → out bytes) (breaks : (bytes : List ℕ) → broken bytes → out bytes × (bytes ≢ [])) (failed : (report_bytes report ≢ []) ⊎ (report.status ≡ OutputFault)) (d : diag (report_bytes report)) where
+    on_diag : (bytes : List ℕ) → (report.status ≡ OutputFault → ⊥) → ((report_bytes report ≢ []) × diag (report_bytes report)) ⊎ ((bytes ≢ []) × diag output_fault_line)
+    on_diag bytes other = elim failed [ inl some ↦ inl (some, d) | inr e ↦ absurd (other e) ]
 
     planned_by : (command : Command) → asks command → Some1 command → WasToShow asks files got out diag
     planned_by command asked (AllPut o is sent shows) = record {
@@ -425,21 +425,21 @@ module _ (asks : Command → Type 0) (files : Option (List ℕ → Option (List 
       line = report_bytes report;
       planned = inr (o, (command, asked, outcome_too given got so command files o is), refl, shows.line);
       on_out = sends (out_of o) sent;
-      on_diag = on_diag (λ e. subst IsOfText e (outcome_of_text o report.status shows.status));
+      on_diag = on_diag (out_of o) (λ e. subst IsOfText e (outcome_of_text o report.status shows.status));
     }
     planned_by command asked (BrokenOff o is broke says) = record {
       bytes = out_of o;
       line = diag_line o;
       planned = inr (o, (command, asked, is), refl, refl);
-      on_out = breaks (out_of o) broke;
-      on_diag = inr (subst diag says.line d);
+      on_out = (breaks (out_of o) broke).0;
+      on_diag = inr ((breaks (out_of o) broke).1, subst diag says.line d);
     }
 
     planned_of : (command : Command) → asks command → CameOf command files before now given got put broken report → WasToShow asks files got out diag
-    planned_of command asked (NotFetched rose none says) = record { bytes = []; line = report_bytes report; planned = inl (refl, inr (inl says.line)); on_out = sends [] none; on_diag = on_diag (λ e. let f = sym says.status ∙ e in cc) }
-    planned_of command asked (NoMemory none says) = record { bytes = []; line = report_bytes report; planned = inl (refl, inr (inr (inl says.line))); on_out = sends [] none; on_diag = on_diag (λ e. let f = sym says.status ∙ e in cc) }
+    planned_of command asked (NotFetched rose none says) = record { bytes = []; line = report_bytes report; planned = inl (refl, inr (inl says.line)); on_out = sends [] none; on_diag = on_diag [] (λ e. let f = sym says.status ∙ e in cc) }
+    planned_of command asked (NoMemory none says) = record { bytes = []; line = report_bytes report; planned = inl (refl, inr (inr (inl says.line))); on_out = sends [] none; on_diag = on_diag [] (λ e. let f = sym says.status ∙ e in cc) }
     planned_of command asked (Came same shows) = planned_by command asked shows
 
     pub planned : CameOfWords asks files before now given got put broken report → WasToShow asks files got out diag
-    planned (BadWords none nothing says) = record { bytes = []; line = report_bytes report; planned = inl (refl, inl says.line); on_out = sends [] nothing; on_diag = on_diag (λ e. let f = sym says.status ∙ e in cc) }
+    planned (BadWords none nothing says) = record { bytes = []; line = report_bytes report; planned = inl (refl, inl says.line); on_out = sends [] nothing; on_diag = on_diag [] (λ e. let f = sym says.status ∙ e in cc) }
     planned (Asked command asked came) = planned_of command asked came

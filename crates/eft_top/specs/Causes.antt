@@ -96,11 +96,12 @@ IsLineOf line [] = ⊥
 IsLineOf line (one ∷ others) = (line ≡ one) ⊎ IsLineOf line others
 
 -- What out and diag were to get where a put failed: a line that says all, or the bytes and the line of an outcome; and what they got of
--- it. Diag got a front of a line that is not empty, or of the line of the failure.
+-- it. Diag got a front of a line that is not empty; or it was a put on out that failed, of bytes that are some, and diag got a front of
+-- the line of that failure.
 pub record WasToShow (asks : Command → Type 0) (files : Option (List ℕ → Option (List ℕ))) (given : Got → Type 0) (out diag : List ℕ → Type 0) : Type 0 where
   pub bytes : List ℕ
   pub line : List ℕ
   pub planned : ((bytes ≡ []) × IsLineOf line (usage_line ∷ library_fault_line ∷ memory_line ∷ []))
       ⊎ ((outcome : Outcome) × IsOutcome asks files given outcome × (bytes ≡ out_of outcome) × (line ≡ diag_line outcome))
   pub on_out : out bytes
-  pub on_diag : ((line ≢ []) × diag line) ⊎ diag output_fault_line
+  pub on_diag : ((line ≢ []) × diag line) ⊎ ((bytes ≢ []) × diag output_fault_line)

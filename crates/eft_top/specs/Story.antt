@@ -1,5 +1,5 @@
 -- What came of a call before its lines were put.
-use Rattle.std.specs.Prelude.{◌≡◌, ◌⊎◌, ℕ, List, []}
+use Rattle.std.specs.Prelude.{◌≡◌, ◌≢◌, ◌⊎◌, ℕ, List, []}
 use Rattle.std.specs.declared.option.Option.{Option}
 use Rattle.ports.specs.Causes.{Rose}
 use Rattle.ports.specs.Puts.{PutsPrefix}
@@ -19,8 +19,9 @@ pub record HasPut {K : Type 0} (puts : K → List ℕ → K → Type 0) (faults 
   pub all : puts before bytes after
   pub steady : faults after ≡ faults before
 
--- a front of these bytes was put, and then a put has failed
+-- a front of these bytes, of which there are some, was put, and then a put has failed
 pub record HasBroken {K : Type 0} (puts : K → List ℕ → K → Type 0) (faults : K → ℕ) (before after : K) (bytes : List ℕ) : Type 0 where
+  pub some : bytes ≢ []
   pub front : PutsPrefix puts before bytes after
   pub cause : Rose (faults before) (faults after)
 
