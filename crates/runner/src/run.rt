@@ -446,7 +446,10 @@ pub(crate) fn run_code<S: Source, K: Sink>(
                 executed = counted(executed, from, pc);
                 pc = resume.at;
                 from = resume.at;
-                place = resume.place;
+                place = Place {
+                    file: resume.place.file,
+                    line: resume.place.line,
+                };
                 level -= 1;
                 base -= code.dummies as usize;
             }

@@ -72,13 +72,10 @@ fn is_element(ops: &[Op], at: usize, count: u8) -> bool
 /// The subscripts from here on, where the first is this variable.
 #[inline(always)]
 fn two_at(ops: &[Op], at: usize, one: u32) -> Subscripts
-    requires few { at < 2 ^ 63 }
+    requires within { at + 6 < length ops.now }
     requires one { IsVariable (code_of ops.now) at one }
     ensures { AreSubscripts (code_of ops.now) at result }
 {
-    if at + 6 >= ops.len() {
-        return Subscripts::Other;
-    }
     match variable_at(ops, at + 2) {
         None => Subscripts::Other,
         Some(two) => match integer_at(ops, at + 4) {
@@ -97,13 +94,13 @@ fn two_at(ops: &[Op], at: usize, one: u32) -> Subscripts
     }
 }
 
-/// The subscripts from here on.
+/// The subscripts from here on. The code's length is looked at once, for two of them: of the last few instructions none is found.
 #[inline(always)]
 fn subscripts_at(ops: &[Op], at: usize) -> Subscripts
     requires few { at < 2 ^ 63 }
     ensures { AreSubscripts (code_of ops.now) at result }
 {
-    if at + 3 >= ops.len() {
+    if at + 6 >= ops.len() {
         return Subscripts::Other;
     }
     match variable_at(ops, at) {
