@@ -1,0 +1,2 @@
+-- The lemmas of efl_names.
+pub mod NameLemmas
