@@ -17,7 +17,7 @@ use std::collections::HashMap;
 /// The types that rules give to letters. Contracts see by `AreLetters` which rules they are.
 #[derive(Drop)]
 pub struct Letters<'a> {
-    pub table: HashMap<u8, DataType<'a>>,
+    pub table: HashMap<usize, DataType<'a>>,
 }
 
 impl<'a> Letters<'a> {
@@ -34,7 +34,7 @@ impl<'a> Letters<'a> {
     pub fn give(&mut self, first: u8, last: u8, kind: DataType<'a>) -> Result<(), AllocError>
         ensures { OnOk result ((c : ℕ) → letter_in self.new c ≡ (if nat_le first c && nat_le c last then Some kind.entry else letter_in self.old c)) }
     {
-        for letter in first..=last {
+        for letter in first as usize..last as usize + 1 {
             self.table.insert(letter, kind)?;
         }
         Ok(())
@@ -53,7 +53,7 @@ impl<'a> Letters<'a> {
     fn by_letter(&self, letter: u8) -> DataType<'a>
         ensures { (f : Table) (ss : List structures.Structure) (rules : List Implied) → AreLetters f ss rules self.now → IsType f ss (by_letter rules letter) result }
     {
-        match self.table.get(&letter) {
+        match self.table.get(&(letter as usize)) {
             Some(kind) => *kind,
             None => plain(letter),
         }

@@ -94,7 +94,10 @@ fn undeclared_rule(kind: &DataType) -> Option<TypeRule>
     ensures { (f : Table) (ss : List structures.Structure) (t : TypeSeen) → IsType f ss t kind.now → result ≡ first_rule (undeclared_faults t None) }
 {
     let missing = rule_if(lacks_type(form(kind)), TypeRule::OutOfProfileType);
-    lower(missing, rule_if(is_large(kind.summary), TypeRule::LargeVariable))
+    lower(
+        missing,
+        rule_if(is_large(kind.summary), TypeRule::LargeVariable),
+    )
 }
 
 /// Whether something has more places than a variable may have.
