@@ -9,7 +9,7 @@ mod stores;
 mod typed;
 
 pub use actuals::{called_type, gives_value};
-pub use expressions::{check, check_actuals, check_place};
+pub use expressions::{check, check_actuals, check_place, check_value};
 pub use places::Placed;
 pub use stores::{store_rule, stored_form};
 pub use typed::{Typed, checked};
