@@ -1,0 +1,2 @@
+-- The lemmas of efl_statements.
+mod ActLemmas
