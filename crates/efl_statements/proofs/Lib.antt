@@ -1,2 +1,4 @@
 -- The lemmas of efl_statements.
 mod ActLemmas
+mod WidthLemmas
+mod KindLemmas

@@ -2,5 +2,7 @@
 #![tactic(auto)]
 
 mod acts;
+mod items;
+mod statements;
 
-pub use acts::{act_rule, return_rule};
+pub use statements::statement_rule;

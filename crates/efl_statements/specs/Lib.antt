@@ -1,0 +1,2 @@
+-- The definitions that the contracts of efl_statements cite.
+pub mod Widths
