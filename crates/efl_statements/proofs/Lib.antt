@@ -2,3 +2,4 @@
 mod ActLemmas
 mod WidthLemmas
 mod KindLemmas
+mod BoundLemmas

@@ -1,2 +1,3 @@
 -- The definitions that the contracts of efl_statements cite.
 pub mod Widths
+pub mod Bounds
