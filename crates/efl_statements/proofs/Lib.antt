@@ -3,3 +3,4 @@ mod ActLemmas
 mod WidthLemmas
 mod KindLemmas
 mod BoundLemmas
+mod ClauseLemmas
