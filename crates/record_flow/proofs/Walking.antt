@@ -21,6 +21,7 @@ use Rattle.record_flow.specs.declared.flow.Stop.TheVariants as stops
 use Rattle.record_flow.specs.Flows.{State, files, tape, Reads, Flows, AreSteady}
 use Rattle.record_flow.specs.Steps.{Walk, GoesOn, IsTurned, IsStep, IsBrokenAt}
 use Rattle.record_flow.proofs.Taking.{reads_on, flows_nothing, flows_on, flows_end}
+use Rattle.record_flow.proofs.Puts.{none_behind}
 
 -- what came and went since a step began, and the walk goes on from here
 pub record Since {S K : Type 0} (left : S → Option (List ℕ)) (puts : K → List ℕ → K → Type 0) (faults : S → ℕ) (failures : K → ℕ) (i0 i1 : S) (o0 o1 : K) (walk : Walk) (fs : Fields) (old now : State) : Type 0 where
@@ -117,4 +118,5 @@ module _ {S K : Type 0} (left : S → Option (List ℕ)) (puts : K → List ℕ 
         t.4 ∙ s.steady.input,
         subst (λ n. Rose n (failures o2)) s.steady.out t.5,
         λ unread written. puts_more unread written t.0 t.1 t.6,
+        λ none. let one : t.0 ∷ [] ≡ [] = none_behind s.put (t.0 ∷ []) none in cc,
       )

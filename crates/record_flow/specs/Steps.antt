@@ -1,5 +1,5 @@
 -- What a step with the records answers, and what came and went with it.
-use Rattle.std.specs.Prelude.{◌≡◌, ℕ, Bool, true, false, List, [], ◌∷◌, ◌++◌, length, nat_le, Result, Ok, Err}
+use Rattle.std.specs.Prelude.{◌≡◌, ◌≢◌, ℕ, Bool, true, false, List, [], ◌∷◌, ◌++◌, length, nat_le, Result, Ok, Err}
 use Rattle.std.specs.declared.option.Option.{Option}
 use Rattle.ground.specs.declared.trap.Trap.{Trap}
 use Rattle.ground.specs.declared.trap.Trap.TheVariants.{EndOfInput}
@@ -79,7 +79,7 @@ IfGoesOn _ P = Unit {0}
 abbrev pub IsBrokenAt : Move → Trap → List Record → Type 0
 IsBrokenAt m e written = (t : Tape) × (m ≡ Breaks e t) × (t.written ≡ written)
 
--- a step goes well, or is trapped; or a read failed where it asked for a record, or a put of what it writes
+-- a step goes well, or is trapped; or a read failed where it asked for a record, or a put of what it writes, which is some record
 abbrev pub IsStep : {S K : Type 0} → (S → Option (List ℕ)) → (K → List ℕ → K → Type 0) → (S → ℕ) → (K → ℕ) → S → S → K → K → (Tape → Move) → Fields → State → State → Result (Unit {0}) Stop → Type 0
 IsStep left puts faults failures i0 i1 o0 o1 move fs old new (Ok u) =
     (taken : List Record) × (put : List Record) × Flows left puts i0 i1 o0 o1 old.intake new.intake taken put × AreSteady faults failures i0 i1 o0 o1
@@ -93,6 +93,7 @@ IsStep left puts faults failures i0 i1 o0 o1 move fs old new (Err Input) =
 IsStep left puts faults failures i0 i1 o0 o1 move fs old new (Err Output) =
     (taken : List Record) × (put : List Record) × Reads left i0 i1 old.intake new.intake taken × PutsPrefix puts o0 (output_bytes put) o1 × (faults i1 ≡ faults i0) × Rose (failures o0) (failures o1)
     × ((unread written : List Record) → AfterMove (λ t. IsPrefix (written ++ put) t.written) (move (tape fs old.stand (taken ++ unread) written)))
+    × (put ≢ [])
 
 -- a statement begins, whatever statement was before it
 abbrev pub IsOpened : {S : Type 0} → (S → Option (List ℕ)) → (S → ℕ) → S → S → Way → Fields → State → State → Result (Unit {0}) Stop → Type 0
