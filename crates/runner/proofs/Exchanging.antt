@@ -43,7 +43,7 @@ module _ {S K : Type 0} (left : S → Option (List ℕ)) (puts : K → List ℕ 
   pub not_found : (stop : Stop) → IsStep left puts faults failures i0 i1 o0 o1 (due kind) fs old mid (Err stop) → IsExchange left puts faults failures i0 i1 o0 o1 go word fs old mid cells cells (Err stop)
   not_found (stops.Trapped e) s = (s.0, s.1, s.2, s.3, λ p place w unread written m shows f. let b = s.4 unread written m in record { state = record { store = w.state.store; tape = b.0 }; is = edits way kind p place w _ (Breaks e b.0) f.taped b.1; shows = b.2 })
   not_found stops.Input s = (s.0, s.1, s.2, s.3, s.4, s.5, λ p place w written shows f. let b = s.6 written in record { state = record { store = w.state.store; tape = b.0 }; is = edits way kind p place w _ (Breaks EndOfInput b.0) f.taped b.1; shows = b.2 })
-  not_found stops.Output s = (s.0, s.1, s.2, s.3, s.4, s.5, λ p place w unread written shows f. let e = edits way kind p place w _ _ f.taped refl in subst (AreWritten (written ++ s.1)) (sym e) (written_by way kind p place (written ++ s.1) w _ (s.6 unread written) (subst GoesRight e f.right)))
+  not_found stops.Output s = (s.0, s.1, s.2, s.3, s.4, s.5, λ p place w unread written shows f. let e = edits way kind p place w _ _ f.taped refl in subst (AreWritten (written ++ s.1)) (sym e) (written_by way kind p place (written ++ s.1) w _ (s.6 unread written) (subst GoesRight e f.right)), s.7)
 
   module _ (new : flows.State) (cells1 : List Cell) (s : IsStep left puts faults failures i0 i1 o0 o1 (due kind) fs old mid (Ok tt)) (same : new.intake ≡ mid.intake) where
     flows_there : Flows left puts i0 i1 o0 o1 old.intake new.intake s.0 s.1

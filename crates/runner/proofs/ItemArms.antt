@@ -97,6 +97,7 @@ module _ {S K : Type 0} (left : S → Option (List ℕ)) (puts : K → List ℕ 
         let r = spotted s w f.stand f.fine in
         let c = x.6 r.spot s.frame.place w unread written r.shows (meets s w (x.0 ++ unread) written f) in
         subst (HasWritten (written ++ x.1)) (sym r.is) (written_first (written ++ x.1) (go r.spot s.frame.place w) (next s r.below) c),
+    x.7,
   )
 
 -- ---- the statement that is open ----

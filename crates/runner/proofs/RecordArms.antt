@@ -18,6 +18,7 @@ use Rattle.record_flow.specs.declared.flow.Stop.TheVariants as stops
 use Rattle.record_flow.specs.Flows.{State}
 use Rattle.record_flow.proofs.AllRecords.{all_records, all_later, all_cut}
 use Rattle.record_flow.proofs.Taking.{reads_on, flows_on}
+use Rattle.record_flow.proofs.Puts.{none_behind}
 use Rattle.stack_code.specs.declared.valid.Code.{Code}
 use Rattle.stack_code.specs.Instructions.{Instruction}
 use Rattle.stack_code.specs.Safety.{ValidIsSafe}
@@ -145,6 +146,7 @@ module _ {S K : Type 0} {left : S → Option (List ℕ)} {puts : K → List ℕ 
           written = u.written ++ a.1;
           consumes = f.consumes;
           sent = puts_on puts in_a_row o0 o1 o2 (output_bytes u.written) (output_bytes a.1) [] (output_bytes (u.written ++ a.1)) u.flows.sent a.3 (flat_map-append (λ record_bytes. record_bytes ++ 10 ∷ []) u.written a.1 ∙ ap (λ (l : List ℕ). output_bytes u.written ++ l) (sym (append-nil (output_bytes a.1))));
+          some = λ none. a.7 (none_behind u.written a.1 none);
           input = a.4 ∙ u.steady.input;
           out = subst (λ n. Rose n (failures o2)) u.steady.out a.5;
           begins = λ x count r. run_begins a.0 (u.written ++ a.1) unread (a.6 (u.turn.held (a.0 ++ unread)).core (u.turn.held (a.0 ++ unread)).world unread u.written (faces (a.0 ++ unread))) x count (subst (λ l. Runs (program code) l steps x count) (all_records first.intake new.intake f.got (u.taken ++ a.0) fresh.hand f.takes) r);

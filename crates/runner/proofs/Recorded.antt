@@ -104,4 +104,4 @@ module _ {S K : Type 0} (left : S → Option (List ℕ)) (puts : K → List ℕ 
     pub finish_stops : (stop : Stop) → IsStep left puts faults failures i0 i1 o0 o1 closed fs old new (Err stop) → IsActed left puts faults failures i0 i1 o0 o1 plans i.Finish after hand old new buffer top cells buffer cells (Err stop)
     finish_stops (stops.Trapped e) s = (s.0, s.1, s.2, s.3, λ c w unread written m f. let b = s.4 unread written m in by_breaks (closes c w f.stand) (seen c w written (s.0 ++ unread) f) b.1 b.2)
     finish_stops stops.Input s = (s.0, s.1, s.2, s.3, s.4, s.5, λ c w written f. let b = s.6 written in by_breaks (closes c w f.stand) (seen c w written (s.0 ++ []) f) b.1 b.2)
-    finish_stops stops.Output s = (s.0, s.1, s.2, s.3, s.4, s.5, λ c w unread written f. by_written (closes c w f.stand) (seen c w written (s.0 ++ unread) f) (written ++ s.1) f.fine (s.6 unread written))
+    finish_stops stops.Output s = (s.0, s.1, s.2, s.3, s.4, s.5, λ c w unread written f. by_written (closes c w f.stand) (seen c w written (s.0 ++ unread) f) (written ++ s.1) f.fine (s.6 unread written), s.7)

@@ -20,6 +20,7 @@ use Rattle.record_flow.specs.declared.flow.Stop.TheVariants as stops
 use Rattle.record_flow.specs.Flows as flows
 use Rattle.record_flow.specs.Flows.{tape, Flows, AreSteady}
 use Rattle.record_flow.proofs.Taking.{reads_on, flows_on, flows_nothing}
+use Rattle.record_flow.proofs.Puts.{none_behind}
 use Rattle.stack_code.specs.Safety.{IsWithin}
 use Rattle.stack_code.specs.StackMachine.{Spot, At, shift, edited, row}
 use Rattle.runner.specs.declared.words.Word.{Word}
@@ -258,4 +259,5 @@ module _ {S K : Type 0} (left : S → Option (List ℕ)) (puts : K → List ℕ 
               let v = later w x.store now fs (t.0 ++ unread) (written ++ s.put) in
               let c = t.6 x.spot place v unread (written ++ s.put) x.shows x.meets in
               subst (AreWritten (written ++ (s.put ++ t.1))) (sym x.is) (written_on (written ++ (s.put ++ t.1)) (edited place way k x.spot v) place way k p rest (index + 1) (subst (λ ws. AreWritten ws (edited place way k x.spot v)) (append_assoc written s.put t.1) c)),
+          λ none. t.7 (none_behind s.put t.1 none),
         )

@@ -1,5 +1,5 @@
 -- How a run over a source and a sink ends.
-use Rattle.std.specs.Prelude.{◌≡◌, ℕ, Bool, true, false, List, [], ◌++◌}
+use Rattle.std.specs.Prelude.{◌≡◌, ◌≢◌, ℕ, Bool, true, false, List, [], ◌++◌}
 use Rattle.std.specs.declared.option.Option.{Option}
 use Rattle.std.specs.Io.KnownBytes.{Consumes, IsAtEnd}
 use Rattle.ground.specs.declared.place.Place.{Place}
@@ -47,12 +47,13 @@ pub record IsCutOff {S K : Type 0} (left : S → Option (List ℕ)) (puts : K �
   pub out : failures o1 ≡ failures o0
   pub runs : RunsTo (program c) (got_records true got) steps written (Ended (Trapped EndOfInput place)) rest shown
 
--- a put has failed, of records with which those that the machine writes begin
+-- a put has failed, of records with which those that the machine writes begin, at least one
 pub record IsBrokenOff {S K : Type 0} (left : S → Option (List ℕ)) (puts : K → List ℕ → K → Type 0) (faults : S → ℕ) (failures : K → ℕ) (i0 i1 : S) (o0 o1 : K) (c : Code) (steps : ℕ) : Type 0 where
   pub got : List ℕ
   pub written : List Record
   pub consumes : Consumes (left i0) (left i1) got
   pub sent : PutsPrefix puts o0 (output_bytes written) o1
+  pub some : written ≢ []
   pub input : faults i1 ≡ faults i0
   pub out : Rose (failures o0) (failures o1)
   pub begins : (a : Shown) (count : ℕ) → Runs (program c) (input_records got) steps a count → IsPrefix written a.records

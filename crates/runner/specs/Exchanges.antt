@@ -1,5 +1,5 @@
 -- What an item of a READ or WRITE at a spot does, with the records and the store.
-use Rattle.std.specs.Prelude.{◌≡◌, ℕ, ◌++◌, List, [], length, Result, Ok, Err, ⊤}
+use Rattle.std.specs.Prelude.{◌≡◌, ◌≢◌, ℕ, ◌++◌, List, [], length, Result, Ok, Err, ⊤}
 use Rattle.std.specs.declared.option.Option.{Option}
 use Rattle.ground.specs.declared.place.Place.{Place}
 use Rattle.ground.specs.declared.trap.Trap.{Trap}
@@ -95,3 +95,4 @@ IsExchange left puts faults failures i0 i1 o0 o1 go word fs old new cells cells1
 IsExchange left puts faults failures i0 i1 o0 o1 go word fs old new cells cells1 (Err stops.Output) =
     (taken : List Record) × (put : List Record) × Reads left i0 i1 old.intake new.intake taken × PutsPrefix puts o0 (output_bytes put) o1 × (faults i1 ≡ faults i0) × Rose (failures o0) (failures o1)
     × ((p : Spot) (place : Place) (w : World) (unread written : List Record) → Shows (At p) word → Meets (go p place) cells (tape fs old.stand (taken ++ unread) written) w → AreWritten (written ++ put) (go p place w))
+    × (put ≢ [])

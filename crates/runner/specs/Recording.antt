@@ -1,5 +1,5 @@
 -- What an instruction does that has to do with records, over a source and a sink.
-use Rattle.std.specs.Prelude.{◌≡◌, ℕ, ◌-◌, ◌≤◌, ◌<◌, ◌++◌, Bool, true, false, List, [], length, Option, Some, None, Result, Ok, Err, slice_get}
+use Rattle.std.specs.Prelude.{◌≡◌, ◌≢◌, ℕ, ◌-◌, ◌≤◌, ◌<◌, ◌++◌, Bool, true, false, List, [], length, Option, Some, None, Result, Ok, Err, slice_get}
 use Rattle.ground.specs.declared.trap.Trap.{Trap}
 use Rattle.ground.specs.declared.trap.Trap.TheVariants.{EndOfInput, BadUnit}
 use Rattle.f66_tree.specs.declared.editing.Way.{Way}
@@ -82,6 +82,7 @@ IsActed left puts faults failures i0 i1 o0 o1 plans j after hand old new buffer 
 IsActed left puts faults failures i0 i1 o0 o1 plans j after hand old new buffer top cells buffer1 cells1 (Err stops.Output) =
     (taken : List Record) × (put : List Record) × Reads left i0 i1 old.intake new.intake taken × PutsPrefix puts o0 (output_bytes put) o1 × (faults i1 ≡ faults i0) × Rose (failures o0) (failures o1)
     × ((s : Core) (w : World) (unread written : List Record) → Faces plans j buffer top cells (tape_at hand written (taken ++ unread)) s w → HasWritten (written ++ put) (act plans (Some j) s w))
+    × (put ≢ [])
 
 -- whatever statement is open where the instruction stands
 abbrev pub Acts : {S K : Type 0} → (S → Option (List ℕ)) → (K → List ℕ → K → Type 0) → (S → ℕ) → (K → ℕ) → S → S → K → K → List Fields → Instruction → ℕ → flows.State → flows.State → List Word → ℕ → List Cell → List Word → List Cell → Result (ℕ × ℕ) Stop → Type 0
