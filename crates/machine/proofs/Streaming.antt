@@ -86,6 +86,7 @@ module _ {S K : Type 0} (left : S → Option (List ℕ)) (puts : K → List ℕ 
       written = h.written;
       consumes = h.consumes;
       sent = h.sent;
+      wanted = h.some;
       input = h.input;
       out = h.out;
       some = codes.some (input_records h.got) steps;

@@ -1,5 +1,5 @@
 -- What a run of linked units comes to over a source and a sink.
-use Rattle.std.specs.Prelude.{◌≡◌, ℕ, Bool, true, List, ◌++◌, Option}
+use Rattle.std.specs.Prelude.{◌≡◌, ◌≢◌, ℕ, Bool, true, List, [], ◌++◌, Option}
 use Rattle.std.specs.Io.KnownBytes.{Consumes, IsAtEnd}
 use Rattle.ground.specs.declared.place.Place.{Place}
 use Rattle.ground.specs.declared.trap.Trap.TheVariants.{EndOfInput}
@@ -40,12 +40,13 @@ pub record RunsCutOff {S K : Type 0} (left : S → Option (List ℕ)) (puts : K 
   pub runs : IsRunOf made (got_records true got) steps (record { records = written; end = Ended (Trapped EndOfInput place); work = begun })
   pub counts : Executes made (got_records true got) steps (record { records = written; end = Ended (Trapped EndOfInput place); work = begun }) executed
 
--- a put has failed, of records with which those begin that the units write over what was got
+-- a put has failed, of records with which those begin that the units write over what was got, at least one
 pub record RunsBrokenOff {S K : Type 0} (left : S → Option (List ℕ)) (puts : K → List ℕ → K → Type 0) (faults : S → ℕ) (failures : K → ℕ) (i0 i1 : S) (o0 o1 : K) (made : Program) (steps : ℕ) : Type 0 where
   pub got : List ℕ
   pub written : List Record
   pub consumes : Consumes (left i0) (left i1) got
   pub sent : PutsPrefix puts o0 (output_bytes written) o1
+  pub wanted : written ≢ []
   pub input : faults i1 ≡ faults i0
   pub out : Rose (failures o0) (failures o1)
   pub some : (shown : Shown) × IsRunOf made (input_records got) steps shown
