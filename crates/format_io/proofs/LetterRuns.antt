@@ -1,12 +1,11 @@
 -- Edits A1 that come next with nothing between them, and the characters that go by them.
-use Rattle.std.specs.Prelude.{◌≡◌, ℕ, zero, suc, ◌+◌, ◌-◌, ◌<◌, ◌≤◌, List, [], ◌∷◌, ◌++◌, refl, pos, Ok, Err, Option, Some, None, length, take, drop, map, set, replicate, get_or, slice_get, All, if◌then◌else◌}
+use Rattle.std.specs.Prelude.{◌≡◌, ℕ, zero, suc, ◌+◌, ◌-◌, ◌<◌, ◌≤◌, List, [], ◌∷◌, ◌++◌, refl, pos, Ok, Err, Option, Some, None, length, take, drop, set, replicate, get_or, slice_get, All, if◌then◌else◌}
 use Rattle.std.proofs.Common.{sym, ◌∙◌, ap, subst, arith, append_assoc, append-nil, length-append, drop-cons}
 use Rattle.std.proofs.Math.Seq.{set-append_seam}
-use Rattle.std.proofs.lemmas.List.{length-map, map-append, length-take-le, take-append-drop, take-append-le, drop-append-le}
-use Rattle.std.proofs.lemmas.List.Elements.{All-head, All-tail}
+use Rattle.std.proofs.lemmas.List.{length-take-le, take_more, take-append-drop, take-append-le, drop-append-le}
+use Rattle.std.proofs.lemmas.List.Elements.{All-head, All-tail, All-push}
 use Rattle.std.proofs.lemmas.Bool.{le-leb}
 use Rattle.ground.specs.declared.trap.Trap.TheVariants.{BadCharacter, LongRecord}
-use Rattle.ground.specs.declared.value.Value.{Value}
 use Rattle.f66_tree.specs.declared.editing.EditKind.TheVariants.{Letter}
 use Rattle.f66_tree.specs.declared.editing.Way.{Way}
 use Rattle.f66_tree.specs.declared.editing.Way.TheVariants.{Reading, Writing}
@@ -20,7 +19,7 @@ use Rattle.format_io.specs.declared.code.Laid.{Laid}
 use Rattle.format_io.specs.declared.code.Piece.{Piece}
 use Rattle.format_io.specs.Places.{Stand, hand_of, moves_at, visible, format, IsPlan, step_of}
 use Rattle.format_io.specs.Answers.{line_in}
-use Rattle.format_io.specs.Letters.{IsLetter, cell_of, PutsLetters, TakesLetters, LettersNext}
+use Rattle.format_io.specs.Letters.{IsLetter, PutsLetters, TakesLetters, LettersNext}
 use Rattle.format_io.proofs.Plans.{once_more}
 
 -- ---- edits ahead ----
@@ -103,11 +102,12 @@ seam_set xs old i x d n lt =
     ∙ sym (append_assoc xs (x ∷ []) behind)
     ∙ ap (λ v. (xs ++ x ∷ []) ++ drop v old) (let e : suc i ≡ i + 1 = omega arith in e)
 
--- the next cell takes a character
-pub cell_set : (cs : List ℕ) (cells : List (Option Value)) (i c : ℕ) → length cs ≡ i → i < length cells
-    → set (map cell_of cs ++ drop i cells) i (cell_of c) ≡ map cell_of (cs ++ c ∷ []) ++ drop (i + 1) cells
-cell_set cs cells i c n lt =
-    seam_set (map cell_of cs) cells i (cell_of c) None (length-map cs cell_of ∙ n) lt ∙ ap (λ v. v ++ drop (i + 1) cells) (sym (map-append cell_of cs (c ∷ [])))
+-- one character more of a text comes to the front of some bytes
+pub front_set : (text bytes : List ℕ) (i : ℕ) → i < length text → i < length bytes → set (take i text ++ drop i bytes) i (get_or text i 0) ≡ take (i + 1) text ++ drop (i + 1) bytes
+front_set text bytes i lt fits = seam_set (take i text) bytes i (get_or text i 0) 0 (length-take-le i text (omega arith)) fits ∙ ap (λ v. v ++ drop (i + 1) bytes) (sym (take_more text i 0 lt))
+
+pub letters_more : (text : List ℕ) (i : ℕ) → i < length text → All IsLetter (take i text) → IsLetter (get_or text i 0) → All IsLetter (take (i + 1) text)
+letters_more text i lt all is = subst (All IsLetter) (sym (take_more text i 0 lt)) (All-push IsLetter (take i text) (get_or text i 0) all is)
 
 drop_next : (n : ℕ) (line : List ℕ) → drop n (drop 1 line) ≡ drop (suc n) line
 drop_next zero line = refl
@@ -219,16 +219,15 @@ takes_laid fs w pc past counts output new input m old cs k laid is ew le between
     subst (λ s. TakesLetters cs (hand_of fs old) (hand_of fs s)) (ap (λ v. moved old k (drop v old.line)) n ∙ sym (moved_in w pc past k counts output new input m old is ew e))
     (takes_run fs old cs k ew (λ lt. between (omega arith)) (onward k le) n all (came ∙ ap (field k) line_is ∙ ap (λ v. field v old.line) (sym n)))
 
--- ---- the first cells ----
+-- ---- the front of some bytes ----
 
-pub cells_taken : (cells : List (Option Value)) (most k : ℕ) (cs : List ℕ) → k ≤ length (take most cells) → take k (take most cells) ≡ map cell_of cs → (take k cells ≡ map cell_of cs) × (length cs ≡ k)
-cells_taken cells most k cs le e = (
-  ap (take k) (sym (take-append-drop most cells)) ∙ take-append-le k (take most cells) (drop most cells) le ∙ e,
-  sym (length-map cs cell_of) ∙ ap length (sym e) ∙ length-take-le k (take most cells) le,
-)
+pub front_taken : (text : List ℕ) (most k : ℕ) → k ≤ length (take most text) → take k (take most text) ≡ take k text
+front_taken text most k le = sym (take-append-le k (take most text) (drop most text) le) ∙ ap (take k) (take-append-drop most text)
 
-pub cells_back : (cells new : List (Option Value)) (most k : ℕ) (cs : List ℕ) → k ≤ length (take most cells) → new ≡ map cell_of cs ++ drop k (take most cells)
-    → new ++ drop most cells ≡ map cell_of cs ++ drop k cells
-cells_back cells new most k cs le e =
-    ap (λ v. v ++ drop most cells) e ∙ append_assoc (map cell_of cs) (drop k (take most cells)) (drop most cells)
-    ∙ ap (λ v. map cell_of cs ++ v) (sym (drop-append-le k (take most cells) (drop most cells) le) ∙ ap (drop k) (take-append-drop most cells))
+pub front_length : (text : List ℕ) (most k : ℕ) → k ≤ length (take most text) → length (take k text) ≡ k
+front_length text most k le = ap length (sym (front_taken text most k le)) ∙ length-take-le k (take most text) le
+
+pub front_back : (bytes new cs : List ℕ) (most k : ℕ) → k ≤ length (take most bytes) → new ≡ cs ++ drop k (take most bytes) → new ++ drop most bytes ≡ cs ++ drop k bytes
+front_back bytes new cs most k le e =
+    ap (λ v. v ++ drop most bytes) e ∙ append_assoc cs (drop k (take most bytes)) (drop most bytes)
+    ∙ ap (λ v. cs ++ v) (sym (drop-append-le k (take most bytes) (drop most bytes) le) ∙ ap (drop k) (take-append-drop most bytes))

@@ -1,8 +1,6 @@
 -- Characters that go out or come in one after the other, each by an edit A1.
-use Rattle.std.specs.Prelude.{◌≡◌, ℕ, ◌+◌, true, List, [], ◌∷◌, ◌++◌, replicate, pos, Ok, Option, Some}
+use Rattle.std.specs.Prelude.{◌≡◌, ℕ, ◌+◌, true, List, [], ◌∷◌, ◌++◌, replicate, pos, Ok}
 use Rattle.ground.specs.declared.value.Kind.TheVariants.{Integer}
-use Rattle.ground.specs.declared.value.Value.{Value}
-use Rattle.ground.specs.declared.value.Value.TheVariants.{Int}
 use Rattle.f66_tree.specs.declared.editing.EditKind.TheVariants.{Letter}
 use Rattle.f66_tree.specs.declared.editing.Turn.TheVariants.{Ready}
 use Rattle.f66_tree.specs.Fields.{Fields, Takes}
@@ -12,10 +10,6 @@ use Rattle.format_io.specs.Places.{Stand, hand_of}
 
 abbrev pub IsLetter : ℕ → Type 0
 IsLetter c = is_character c ≡ true
-
--- a place that holds the code of a character
-abbrev pub cell_of : ℕ → Option Value
-cell_of c = Some (Int (pos c))
 
 -- for each character in turn an edit A1 is ready, and the character goes out by it
 abbrev pub PutsLetters : List ℕ → Hand → Hand → Type 0

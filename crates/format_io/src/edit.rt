@@ -1,11 +1,11 @@
 // A READ or WRITE in the middle of its list: the record in hand, and the place in the format.
-ghost use Rattle.std.specs.Prelude.{◌≡◌, ◌+◌, ◌<◌, ◌≤◌, ◌++◌, ℕ, true, List, OnOk, All, length, take, drop, map, replicate};
+ghost use Rattle.std.specs.Prelude.{◌≡◌, ◌+◌, ◌<◌, ◌≤◌, ◌++◌, ℕ, true, List, OnOk, All, length, take, drop, replicate};
 ghost use Rattle.f66_tree.specs.declared.editing.EditKind.TheVariants.{Letter};
 ghost use Rattle.f66_tree.specs.Fields.{Fields, Takes};
 ghost use Rattle.f66_tree.specs.declared.editing.Mark.TheVariants.{Between};
 ghost use Rattle.f66_tree.specs.declared.editing.Way.TheVariants.{Reading, Writing};
 ghost use Rattle.f66_tree.specs.Turns.{started, with_record, next_turn, last_turn, is_over, suits, width_of, put_whole, put_truth, put_letter, take_whole, take_truth, take_letter};
-ghost use Rattle.format_io.specs.Letters.{IsLetter, cell_of, PutsLetters, TakesLetters, LettersNext};
+ghost use Rattle.format_io.specs.Letters.{IsLetter, PutsLetters, TakesLetters, LettersNext};
 ghost use Rattle.format_io.specs.Places.{Stand, hand_of, format, IsPlan, step_of};
 ghost use Rattle.format_io.specs.Answers.{line_in, Answers, opened, due_of, StepsTo, EndsTo, ClosesTo, Puts};
 
@@ -16,7 +16,7 @@ use crate::input::Input;
 use crate::output::Output;
 use crate::walk::{Walk, advance, op_at};
 use f66_tree::{EditKind, Mark, Turn, Way};
-use ground::{Kind, Memory, Trap, Value};
+use ground::{Kind, Memory, Trap};
 use std::alloc::Global;
 use std::marker::Model;
 
@@ -298,50 +298,51 @@ impl Edit {
         0
     }
 
-    /// The characters of the first of these cells go out, as many as come with nothing between them and have room. How
-    /// many.
-    pub fn put_letters(&mut self, plan: &Plan, cells: &[Option<Value>]) -> usize
+    /// The characters at the front of a text go out, as many as come with nothing between them and have room. How many.
+    pub fn put_letters(&mut self, plan: &Plan, text: &[u8]) -> usize
         requires { self.old.way ≡ Writing }
         ensures same_way { self.new.way ≡ self.old.way }
-        ensures within { result ≤ length cells.now }
-        ensures letters { (cs : List ℕ) × All IsLetter cs × (take result cells.now ≡ map cell_of cs) × PutsLetters cs (hand_of plan.now self.old) (hand_of plan.now self.new) }
+        ensures within { result ≤ length text.now }
+        ensures letters { All IsLetter (take result text.now) }
+        ensures put { PutsLetters (take result text.now) (hand_of plan.now self.old) (hand_of plan.now self.new) }
     {
-        self.put_laid(&plan.laid, cells)
+        self.put_laid(&plan.laid, text)
     }
 
-    fn put_laid(&mut self, plan: &Laid, cells: &[Option<Value>]) -> usize
+    fn put_laid(&mut self, plan: &Laid, text: &[u8]) -> usize
         requires plan { IsPlan plan.now }
         requires way { self.old.way ≡ Writing }
         ensures same_way { self.new.way ≡ self.old.way }
-        ensures within { result ≤ length cells.now }
-        ensures letters { (cs : List ℕ) × All IsLetter cs × (take result cells.now ≡ map cell_of cs) × PutsLetters cs (hand_of (format plan.now) self.old) (hand_of (format plan.now) self.new) }
+        ensures within { result ≤ length text.now }
+        ensures letters { All IsLetter (take result text.now) }
+        ensures put { PutsLetters (take result text.now) (hand_of (format plan.now) self.old) (hand_of (format plan.now) self.new) }
     {
-        let most = cells.len().min(self.letters_laid(plan) as usize);
-        let count = self.output.letters(&cells[..most]);
+        let most = text.len().min(self.letters_laid(plan) as usize);
+        let count = self.output.letters(&text[..most]);
         self.walk.past += count as u16;
         count
     }
 
-    /// The next characters of the record come into the first of these cells, as many as come with nothing between them. How
+    /// The next characters of the record come into the first of these bytes, as many as come with nothing between them. How
     /// many.
-    pub fn take_letters(&mut self, plan: &Plan, cells: &mut [Option<Value>]) -> usize
+    pub fn take_letters(&mut self, plan: &Plan, bytes: &mut [u8]) -> usize
         requires { self.old.way ≡ Reading }
         ensures same_way { self.new.way ≡ self.old.way }
-        ensures within { result ≤ length cells.old }
-        ensures letters { (cs : List ℕ) × All IsLetter cs × (length cs ≡ result) × (cells.new ≡ map cell_of cs ++ drop result cells.old) × TakesLetters cs (hand_of plan.now self.old) (hand_of plan.now self.new) }
+        ensures within { result ≤ length bytes.old }
+        ensures letters { (cs : List ℕ) × All IsLetter cs × (length cs ≡ result) × (bytes.new ≡ cs ++ drop result bytes.old) × TakesLetters cs (hand_of plan.now self.old) (hand_of plan.now self.new) }
     {
-        self.take_laid(&plan.laid, cells)
+        self.take_laid(&plan.laid, bytes)
     }
 
-    fn take_laid(&mut self, plan: &Laid, cells: &mut [Option<Value>]) -> usize
+    fn take_laid(&mut self, plan: &Laid, bytes: &mut [u8]) -> usize
         requires plan { IsPlan plan.now }
         requires way { self.old.way ≡ Reading }
         ensures same_way { self.new.way ≡ self.old.way }
-        ensures within { result ≤ length cells.old }
-        ensures letters { (cs : List ℕ) × All IsLetter cs × (length cs ≡ result) × (cells.new ≡ map cell_of cs ++ drop result cells.old) × TakesLetters cs (hand_of (format plan.now) self.old) (hand_of (format plan.now) self.new) }
+        ensures within { result ≤ length bytes.old }
+        ensures letters { (cs : List ℕ) × All IsLetter cs × (length cs ≡ result) × (bytes.new ≡ cs ++ drop result bytes.old) × TakesLetters cs (hand_of (format plan.now) self.old) (hand_of (format plan.now) self.new) }
     {
-        let most = cells.len().min(self.letters_laid(plan) as usize);
-        let count = self.input.letters(&mut cells[..most]);
+        let most = bytes.len().min(self.letters_laid(plan) as usize);
+        let count = self.input.letters(&mut bytes[..most]);
         self.input.skip(count as u16);
         self.walk.past += count as u16;
         count

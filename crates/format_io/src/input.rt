@@ -1,9 +1,9 @@
 // The record in hand of a READ: what of it is not read yet, and the contents of its fields.
-ghost use Rattle.std.specs.Prelude.{◌≡◌, ℕ, ◌≤◌, List, [], ◌++◌, length, take, drop, map, get_or, All, IfOk};
-ghost use Rattle.format_io.specs.Letters.{IsLetter, cell_of};
+ghost use Rattle.std.specs.Prelude.{◌≡◌, ℕ, ◌≤◌, List, [], ◌++◌, length, take, drop, get_or, All, IfOk};
+ghost use Rattle.format_io.specs.Letters.{IsLetter};
 ghost use Rattle.f66_tree.specs.Fielded.{field, unblanked, in_magnitude, digit, digits_of, ranged, sign_of, digits_from, whole_of, truth_of, letter_of};
 
-use ground::{Trap, Value};
+use ground::Trap;
 use std::alloc::{AllocError, Global};
 use std::marker::Model;
 
@@ -204,20 +204,21 @@ impl Input {
         }
     }
 
-    /// The next characters come into these cells, as many as are letters. How many.
-    pub fn letters(&self, cells: &mut [Option<Value>]) -> usize
-        ensures within { result ≤ length cells.old }
-        ensures came { (cs : List ℕ) × All IsLetter cs × (cs ≡ field result self.now) × (cells.new ≡ map cell_of cs ++ drop result cells.old) }
+    /// The next characters come into these bytes, as many as are letters. How many.
+    pub fn letters(&self, bytes: &mut [u8]) -> usize
+        ensures within { result ≤ length bytes.old }
+        ensures letters { All IsLetter (field result self.now) }
+        ensures came { bytes.new ≡ field result self.now ++ drop result bytes.old }
     {
         let line = self.as_slice();
-        for i in 0..cells.len() {
+        for i in 0..bytes.len() {
             let code = column(line, i);
             if code < 32 || code > 126 {
                 return i;
             }
-            cells[i] = Some(Value::Int(code as i64));
+            bytes[i] = code;
         }
-        cells.len()
+        bytes.len()
     }
 
     /// The code of the next character.

@@ -1,37 +1,28 @@
 // The record in hand of a WRITE: at most 132 characters, and what edits put at its end.
-ghost use Rattle.std.specs.Prelude.{◌≡◌, ℕ, ◌+◌, ◌<◌, ◌≤◌, List, [], ◌∷◌, ◌++◌, length, take, drop, map, replicate, nat_le, All, IfSome};
+ghost use Rattle.std.specs.Prelude.{◌≡◌, ℕ, ◌+◌, ◌<◌, ◌≤◌, List, [], ◌∷◌, ◌++◌, length, take, drop, replicate, nat_le, All};
 ghost use Rattle.f66_tree.specs.Fielded.{whole_text, truth_text};
 ghost use Rattle.f66_tree.specs.Turns.{extended, with_letter};
 ghost use Rattle.format_io.specs.Answers.{Writes};
-ghost use Rattle.format_io.specs.Letters.{IsLetter, cell_of};
+ghost use Rattle.format_io.specs.Letters.{IsLetter};
 
-use ground::{Trap, Value};
+use ground::Trap;
 use itoa::Buffer;
 use std::marker::Model;
 
-/// The character whose code a cell holds.
-fn letter_in(cell: &Option<Value>) -> Option<u8>
-    ensures { IfSome result (λ c. IsLetter c × (cell.now ≡ cell_of c)) }
-{
-    match cell {
-        Some(Value::Int(code)) if 32 <= *code && *code <= 126 => Some(*code as u8),
-        _ => None,
-    }
-}
-
-/// The characters of the first of these cells come to the first of these bytes, as many as hold codes of characters and
-/// have room. How many.
-fn letters_into(bytes: &mut [u8], cells: &[Option<Value>]) -> usize
-    ensures within { result ≤ length cells.now }
+/// The characters at the front of a text come to the first of these bytes, as many as there are and have room. How many.
+fn letters_into(bytes: &mut [u8], text: &[u8]) -> usize
+    ensures within { result ≤ length text.now }
     ensures room { length bytes.new ≡ length bytes.old }
-    ensures letters { (cs : List ℕ) × All IsLetter cs × (take result cells.now ≡ map cell_of cs) × (bytes.new ≡ cs ++ drop result bytes.old) }
+    ensures letters { All IsLetter (take result text.now) }
+    ensures bytes { bytes.new ≡ take result text.now ++ drop result bytes.old }
 {
-    let most = cells.len().min(bytes.len());
+    let most = text.len().min(bytes.len());
     for i in 0..most {
-        let Some(byte) = letter_in(&cells[i]) else {
+        let code = text[i];
+        if code < 32 || code > 126 {
             return i;
-        };
-        bytes[i] = byte;
+        }
+        bytes[i] = code;
     }
     most
 }
@@ -164,13 +155,14 @@ impl Output {
         Ok(())
     }
 
-    /// The characters of the first of these cells go to the end, as many as hold codes of characters and have room. How many.
-    pub fn letters(&mut self, cells: &[Option<Value>]) -> usize
-        ensures within { result ≤ length cells.now }
+    /// The characters at the front of a text go to the end, as many as there are and have room. How many.
+    pub fn letters(&mut self, text: &[u8]) -> usize
+        ensures within { result ≤ length text.now }
         ensures room { 0 < result → length self.new ≤ 132 }
-        ensures pushed { (cs : List ℕ) × All IsLetter cs × (take result cells.now ≡ map cell_of cs) × (self.new ≡ self.old ++ cs) }
+        ensures letters { All IsLetter (take result text.now) }
+        ensures pushed { self.new ≡ self.old ++ take result text.now }
     {
-        let count = letters_into(&mut self.bytes[self.len..], cells);
+        let count = letters_into(&mut self.bytes[self.len..], text);
         self.len += count;
         count
     }

@@ -1,5 +1,5 @@
 // The records of a run as they come and go, and the statement that reads or writes them.
-ghost use Rattle.std.specs.Prelude.{◌≡◌, ◌<◌, ◌≤◌, ◌+◌, ◌++◌, ◌∷◌, ℕ, List, [], All, IfOk, OnOk, OnErr, length, take as first, drop, map, replicate, true, false};
+ghost use Rattle.std.specs.Prelude.{◌≡◌, ◌<◌, ◌≤◌, ◌+◌, ◌++◌, ◌∷◌, ℕ, List, [], All, IfOk, OnOk, OnErr, length, take as first, drop, replicate, true, false};
 ghost use Rattle.ground.specs.declared.value.Value.TheVariants.{Int, Log};
 ghost use Rattle.f66_tree.specs.declared.editing.Way.TheVariants.{Reading, Writing};
 ghost use Rattle.f66_tree.specs.declared.editing.Mark.TheVariants.{Between};
@@ -8,7 +8,7 @@ ghost use Rattle.f66_tree.specs.Fields.{Fields, Takes};
 ghost use Rattle.f66_tree.specs.Turns.{is_over};
 ghost use Rattle.f66_tree.specs.World.{Record};
 ghost use Rattle.f66_tree.specs.Records.{due, put, take, closed};
-ghost use Rattle.format_io.specs.Letters.{IsLetter, cell_of};
+ghost use Rattle.format_io.specs.Letters.{IsLetter};
 ghost use Rattle.format_io.specs.Places.{hand_of};
 ghost use Rattle.ports.specs.Puts.{PutsPrefix};
 ghost use Rattle.ports.specs.Causes.{HasCause};
@@ -339,29 +339,29 @@ impl Flow {
         self.edit.letters_ahead(plan)
     }
 
-    /// The characters of the first of these cells go out, as many as come with nothing between them and have room. How
-    /// many.
-    pub fn put_letters(&mut self, plan: &Plan, cells: &[Option<Value>]) -> usize
+    /// The characters at the front of a text go out, as many as come with nothing between them and have room. How many.
+    pub fn put_letters(&mut self, plan: &Plan, text: &[u8]) -> usize
         requires { self.old.stand.way ≡ Writing }
         ensures way { self.new.stand.way ≡ self.old.stand.way }
         ensures going { is_over self.old.stand.mark ≡ false → is_over self.new.stand.mark ≡ false }
         ensures intake { self.new.intake ≡ self.old.intake }
-        ensures within { result ≤ length cells.now }
-        ensures letters { (cs : List ℕ) × All IsLetter cs × (first result cells.now ≡ map cell_of cs) × ((unread written : List Record) → SendsLetters cs (tape plan.now self.old.stand unread written) (tape plan.now self.new.stand unread written)) }
+        ensures within { result ≤ length text.now }
+        ensures letters { All IsLetter (first result text.now) }
+        ensures sent { (unread written : List Record) → SendsLetters (first result text.now) (tape plan.now self.old.stand unread written) (tape plan.now self.new.stand unread written) }
     {
-        self.edit.put_letters(plan, cells)
+        self.edit.put_letters(plan, text)
     }
 
-    /// The next characters of the record come into the first of these cells, as many as come with nothing between them. How
+    /// The next characters of the record come into the first of these bytes, as many as come with nothing between them. How
     /// many.
-    pub fn take_letters(&mut self, plan: &Plan, cells: &mut [Option<Value>]) -> usize
+    pub fn take_letters(&mut self, plan: &Plan, bytes: &mut [u8]) -> usize
         requires { self.old.stand.way ≡ Reading }
         ensures way { self.new.stand.way ≡ self.old.stand.way }
         ensures going { is_over self.old.stand.mark ≡ false → is_over self.new.stand.mark ≡ false }
         ensures intake { self.new.intake ≡ self.old.intake }
-        ensures within { result ≤ length cells.old }
-        ensures letters { (cs : List ℕ) × All IsLetter cs × (length cs ≡ result) × (cells.new ≡ map cell_of cs ++ drop result cells.old) × ((unread written : List Record) → GetsLetters cs (tape plan.now self.old.stand unread written) (tape plan.now self.new.stand unread written)) }
+        ensures within { result ≤ length bytes.old }
+        ensures letters { (cs : List ℕ) × All IsLetter cs × (length cs ≡ result) × (bytes.new ≡ cs ++ drop result bytes.old) × ((unread written : List Record) → GetsLetters cs (tape plan.now self.old.stand unread written) (tape plan.now self.new.stand unread written)) }
     {
-        self.edit.take_letters(plan, cells)
+        self.edit.take_letters(plan, bytes)
     }
 }

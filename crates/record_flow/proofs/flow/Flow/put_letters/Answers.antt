@@ -1,5 +1,5 @@
 -- Characters that go out one after the other are steps that the definition has.
-use Rattle.std.proofs.Common.{◌∙◌, ap, subst}
+use Rattle.std.proofs.Common.{◌∙◌, ap, subst, take}
 use Rattle.f66_tree.specs.Turns.{is_over}
 use Rattle.format_io.specs.Places.{hand_of}
 use Rattle.record_tape.specs.Letters.{SendsLetters}
@@ -10,11 +10,11 @@ use Rattle.record_flow.proofs.flow.Flow.put_letters.Goals as goal
 pub returns-clause-going : goal.returns-clause-going
 returns-clause-going c going =
     let fs = c.args.plan.now in
-    let l = c.put_letters.ensures.letters in
-    puts_go l.0 (hand_of fs c.self.inside.edit) (hand_of fs c.put_letters.new.self) l.3 (ap (λ s. is_over s.stand.mark) c.self.view_is ∙ going)
+    puts_go (take c.put_letters.result c.args.text.now) (hand_of fs c.self.inside.edit) (hand_of fs c.put_letters.new.self) c.put_letters.ensures.put (ap (λ s. is_over s.stand.mark) c.self.view_is ∙ going)
 
-pub returns-clause-letters : goal.returns-clause-letters
-returns-clause-letters c =
+pub returns-clause-sent : goal.returns-clause-sent
+returns-clause-sent c = λ unread written.
     let fs = c.args.plan.now in
-    let l = c.put_letters.ensures.letters in
-    (l.0, l.1, l.2, λ unread written. subst (λ s. SendsLetters l.0 (tape fs s.stand unread written) (tape fs c.put_letters.new.self unread written)) c.self.view_is (sends l.0 (hand_of fs c.self.inside.edit) (hand_of fs c.put_letters.new.self) (files unread written) l.3))
+    let cs = take c.put_letters.result c.args.text.now in
+    subst (λ s. SendsLetters cs (tape fs s.stand unread written) (tape fs c.put_letters.new.self unread written)) c.self.view_is
+    (sends cs (hand_of fs c.self.inside.edit) (hand_of fs c.put_letters.new.self) (files unread written) c.put_letters.ensures.put)

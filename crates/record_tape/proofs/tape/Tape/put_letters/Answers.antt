@@ -1,5 +1,5 @@
 -- Characters that go out one after the other are steps that the definition has.
-use Rattle.std.proofs.Common.{◌∙◌, ap, subst}
+use Rattle.std.proofs.Common.{◌∙◌, ap, subst, take}
 use Rattle.f66_tree.specs.Turns.{is_over}
 use Rattle.f66_tree.specs.Editing.{Files}
 use Rattle.format_io.specs.Places.{hand_of}
@@ -11,13 +11,12 @@ use Rattle.record_tape.proofs.tape.Tape.put_letters.Goals as goal
 pub returns-clause-going : goal.returns-clause-going
 returns-clause-going c going =
     let fs = c.args.plan.now in
-    let l = c.put_letters.ensures.letters in
-    puts_go l.0 (hand_of fs c.self.inside.edit) (hand_of fs c.put_letters.new.self) l.3 (ap (λ s. is_over s.stand.mark) c.self.view_is ∙ going)
+    puts_go (take c.put_letters.result c.args.text.now) (hand_of fs c.self.inside.edit) (hand_of fs c.put_letters.new.self) c.put_letters.ensures.put (ap (λ s. is_over s.stand.mark) c.self.view_is ∙ going)
 
-pub returns-clause-letters : goal.returns-clause-letters
-returns-clause-letters c =
+pub returns-clause-sent : goal.returns-clause-sent
+returns-clause-sent c =
     let fs = c.args.plan.now in
     let f : Files = record { unread = c.self.inside.input; written = c.self.inside.records } in
-    let l = c.put_letters.ensures.letters in
-    let sent = sends l.0 (hand_of fs c.self.inside.edit) (hand_of fs c.put_letters.new.self) f l.3 in
-    (l.0, l.1, l.2, subst (λ s. SendsLetters l.0 (seen fs s) (seen fs (record { unread = f.unread; written = f.written; stand = c.put_letters.new.self }))) c.self.view_is sent)
+    let cs = take c.put_letters.result c.args.text.now in
+    let sent = sends cs (hand_of fs c.self.inside.edit) (hand_of fs c.put_letters.new.self) f c.put_letters.ensures.put in
+    subst (λ s. SendsLetters cs (seen fs s) (seen fs (record { unread = f.unread; written = f.written; stand = c.put_letters.new.self }))) c.self.view_is sent
