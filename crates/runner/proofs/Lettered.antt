@@ -1,27 +1,27 @@
 -- Units of a row that come or go as characters, several at once.
 use Rattle.std.proofs.Common.{◌≡◌, ℕ, zero, suc, ◌+◌, ◌<◌, ◌≤◌, Bool, true, false, ◌&&◌, List, [], ◌∷◌, ◌++◌, length, map, take, drop, set, get_or, Some, None, All, refl, sym, ap, ◌∙◌, subst, append_assoc, length-append, drop-cons, arith, nat_le}
-use Rattle.std.specs.Prelude.{pos, Option, if◌then◌else◌}
+use Rattle.std.specs.Prelude.{pos, negsuc, if◌then◌else◌}
 use Rattle.std.proofs.Math.Seq.{set-append_seam}
 use Rattle.std.proofs.lemmas.Bool.{lt-ltb, leb-true, true≢false}
-use Rattle.std.proofs.lemmas.List.{length-map, length-set, length-drop, map-append, length-take-le, take-take, take_more, get_or-take, get_or-map}
-use Rattle.std.proofs.lemmas.List.Elements.{All-head, All-tail, All-get_or}
+use Rattle.std.proofs.lemmas.List.{length-map, length-set, length-drop, map-append, length-take-le, take-take, take_more}
+use Rattle.std.proofs.lemmas.List.Elements.{All-head, All-tail}
 use Rattle.std.proofs.lemmas.Option.{slice_get-get_or}
 use borrow.Rule.Slice.PartMut.{put_mid, put_same, post_of}
 use Rattle.ground.specs.declared.place.Place.{Place}
 use Rattle.ground.specs.declared.trap.Trap.TheVariants.{Subscript, ValueArgument}
 use Rattle.ground.specs.declared.value.Kind.{Kind}
 use Rattle.ground.specs.declared.value.Kind.TheVariants.{Integer}
-use Rattle.ground.specs.declared.value.Value.{Value}
 use Rattle.ground.specs.Arithmetic.{IsInRange}
 use Rattle.ground.specs.Content.{Whole}
 use Rattle.f66_tree.specs.declared.editing.Way.{Way}
 use Rattle.f66_tree.specs.declared.editing.Way.TheVariants.{Reading, Writing}
 use Rattle.f66_tree.specs.Evaluation.{asked}
+use Rattle.f66_tree.specs.Fielded.{is_character}
 use Rattle.f66_tree.specs.Fields.{Fields}
 use Rattle.f66_tree.specs.Records.{due, put, take as take_from}
 use Rattle.f66_tree.specs.Statements.{taped}
 use Rattle.f66_tree.specs.World.{Record, Tape, Store, World, Gives, bind, settle, Moves, Yields, Traps, moving, taping, holding, put_in}
-use Rattle.format_io.specs.Letters.{IsLetter, cell_of}
+use Rattle.format_io.specs.Letters.{IsLetter}
 use Rattle.format_io.specs.Places.{Stand as Standing}
 use Rattle.format_io.proofs.LetterRuns.{seam_set}
 use Rattle.record_flow.specs.Flows.{tape}
@@ -30,53 +30,45 @@ use Rattle.stack_code.specs.StackMachine.{Spot, At, unit_of, shift, store, trans
 use Rattle.runner.specs.declared.words.Word.{Word}
 use Rattle.runner.specs.declared.words.Cell.{Cell}
 use Rattle.runner.specs.declared.words.Cell.TheVariants as cells
-use Rattle.runner.specs.Blocks.{coded, integer_in, Advances, MovesUnits}
+use Rattle.runner.specs.Blocks.{coded, letter_in, Advances, MovesUnits}
 use Rattle.runner.specs.Exchanges.{IsSpot}
 use Rattle.runner.specs.Words.{Shows, IsSpotWord, Agrees, content_in}
 use Rattle.runner.proofs.Cells.{agrees_put, same_unit}
 
 -- ---- codes in a block and in units ----
 
--- a place of the block has the code of a character
-pub code_at : (block : List (Option Value)) (count i : ℕ) (cs : List ℕ) → take count block ≡ map cell_of cs → count ≤ length block → i < count → (i < length cs) × (get_or block i None ≡ cell_of (get_or cs i 0))
-code_at block count i cs e le lt =
-    let long : length cs ≡ count = sym (length-map cs cell_of) ∙ ap length (sym e) ∙ length-take-le count block le in
-    let inside : i < length cs = omega (arith, long) in
-    (inside, sym (get_or-take count block i None lt) ∙ ap (λ v. get_or v i None) e ∙ get_or-map cell_of cs i 0 None inside)
+-- one more unit holds a code of the block
+pub kept_more : (block : List ℕ) (i : ℕ) (units old : List Cell) → units ≡ map coded (take i block) ++ drop i old → i < length block → i < length old
+    → set units i (coded (get_or block i 0)) ≡ map coded (take (i + 1) block) ++ drop (i + 1) old
+kept_more block i units old is inside fits =
+    let x = coded (get_or block i 0) in
+    ap (λ v. set v i x) is
+    ∙ seam_set (map coded (take i block)) old i x cells.Nothing (length-map (take i block) coded ∙ length-take-le i block (omega arith)) fits
+    ∙ ap (λ v. v ++ drop (i + 1) old) (sym (map-append coded (take i block) (get_or block i 0 ∷ [])) ∙ ap (map coded) (sym (take_more block i 0 inside)))
 
-pub has_code : (block : List (Option Value)) (count i : ℕ) (cs : List ℕ) → All IsLetter cs → take count block ≡ map cell_of cs → count ≤ length block → i < count → (c : ℕ) × IsLetter c × (get_or block i None ≡ cell_of c)
-has_code block count i cs all e le lt = let h = code_at block count i cs e le lt in (get_or cs i 0, All-get_or IsLetter cs i 0 h.0 all, h.1)
+no_letter : IsLetter 0 → ⊥
+no_letter is = true≢false (sym is)
 
--- one more unit holds the code of a character of the block
-pub kept_more : (block : List (Option Value)) (count i : ℕ) (cs : List ℕ) (units old : List Cell) (x : Cell) → take count block ≡ map cell_of cs → count ≤ length block → count ≤ length old → i < count
-    → units ≡ map coded (take i cs) ++ drop i old → ((c : ℕ) → get_or block i None ≡ cell_of c → x ≡ coded c) → set units i x ≡ map coded (take (i + 1) cs) ++ drop (i + 1) old
-kept_more block count i cs units old x e le fits lt is made =
-    let h = code_at block count i cs e le lt in
-    let c = get_or cs i 0 in
-    ap (λ v. set v i x) is ∙ ap (λ v. set (map coded (take i cs) ++ drop i old) i v) (made c h.1)
-    ∙ seam_set (map coded (take i cs)) old i (coded c) cells.Nothing (length-map (take i cs) coded ∙ length-take-le i cs (let inside = h.0 in omega (arith, inside))) (omega arith)
-    ∙ ap (λ v. v ++ drop (i + 1) old) (sym (map-append coded (take i cs) (c ∷ [])) ∙ ap (map coded) (sym (take_more cs i 0 h.0)))
+chosen : (n : ℕ) (b : Bool) → IsLetter (elim (if b then Some n else None) [ Some c ↦ c | None ↦ 0 ]) → n ≡ elim (if b then Some n else None) [ Some c ↦ c | None ↦ 0 ]
+chosen n true is = refl
+chosen n false is = absurd (no_letter is)
 
--- the integer that a unit holds is the code of a character
-coded_by : (x : Cell) (c : ℕ) → integer_in x ≡ cell_of c → x ≡ coded c
-coded_by (cells.Whole z) c e = let f : z ≡ pos c = cc in ap cells.Whole f
-coded_by cells.Nothing c e = absurd (let f : ◌≡◌ {A = Option Value} None (cell_of c) = e in cc)
-coded_by (cells.Truth b) c e = absurd (let f : ◌≡◌ {A = Option Value} None (cell_of c) = e in cc)
+-- a unit that holds the code of a character holds nothing else
+coded_by : (x : Cell) → IsLetter (letter_in x) → x ≡ coded (letter_in x)
+coded_by (cells.Whole (pos n)) is = ap (λ v. cells.Whole (pos v)) (chosen n (is_character n) is)
+coded_by (cells.Whole (negsuc n)) is = absurd (no_letter is)
+coded_by cells.Nothing is = absurd (no_letter is)
+coded_by (cells.Truth b) is = absurd (no_letter is)
 
-pub codes_shown : (units : List Cell) (k : ℕ) (cs : List ℕ) → take k (map integer_in units) ≡ map cell_of cs → take k units ≡ map coded cs
-codes_shown units zero [] e = refl
-codes_shown units zero (c ∷ cs) e = absurd (let f : ◌≡◌ {A = List (Option Value)} [] (cell_of c ∷ map cell_of cs) = e in cc)
-codes_shown [] (suc k) [] e = refl
-codes_shown [] (suc k) (c ∷ cs) e = absurd (let f : ◌≡◌ {A = List (Option Value)} [] (cell_of c ∷ map cell_of cs) = e in cc)
-codes_shown (x ∷ units) (suc k) [] e = absurd (let f : integer_in x ∷ take k (map integer_in units) ≡ [] = e in cc)
-codes_shown (x ∷ units) (suc k) (c ∷ cs) e =
-    let f : integer_in x ∷ take k (map integer_in units) ≡ cell_of c ∷ map cell_of cs = e in
-    let head : integer_in x ≡ cell_of c = cc in
-    let tail : take k (map integer_in units) ≡ map cell_of cs = cc in
-    ap (λ v. v ∷ take k units) (coded_by x c head) ∙ ap (λ v. coded c ∷ v) (codes_shown units k cs tail)
+codes_shown : (units : List Cell) (k : ℕ) → All IsLetter (take k (map letter_in units)) → take k units ≡ map coded (take k (map letter_in units))
+codes_shown units zero all = refl
+codes_shown [] (suc k) all = refl
+codes_shown (x ∷ units) (suc k) all =
+    let rest = take k (map letter_in units) in
+    ap (λ v. v ∷ take k units) (coded_by x (All-head IsLetter (letter_in x) rest all)) ∙ ap (λ v. coded (letter_in x) ∷ v) (codes_shown units k (All-tail IsLetter (letter_in x) rest all))
 
-pub codes_went : (units : List Cell) (block : List (Option Value)) (k : ℕ) (cs : List ℕ) → take (length units) block ≡ map integer_in units → take k (take (length units) block) ≡ map cell_of cs → take k units ≡ map coded cs
-codes_went units block k cs shown gone = codes_shown units k cs (ap (take k) (sym shown) ∙ gone)
+pub codes_went : (units : List Cell) (block : List ℕ) (k : ℕ) → take (length units) block ≡ map letter_in units → All IsLetter (take k (take (length units) block)) → take k units ≡ map coded (take k (take (length units) block))
+codes_went units block k shown all = subst (λ l. take k units ≡ map coded (take k l)) (sym shown) (codes_shown units k (subst (λ l. All IsLetter (take k l)) shown all))
 
 -- ---- codes in a store ----
 

@@ -34,7 +34,7 @@ alike_times k a b (Same same) = Same (ap (λ (x : ℕ). k * x) same)
 alike_times zero a b (Many m n) = Same (omega arith)
 alike_times (suc k) a b (Many m n) = Many (many_times k a m) (many_times k b n)
 
-alike_plus : (a b x y : ℕ) → Alike a b → Alike x y → Alike (a + x) (b + y)
+pub alike_plus : (a b x y : ℕ) → Alike a b → Alike x y → Alike (a + x) (b + y)
 alike_plus a b x y (Same p) (Same q) = Same (omega (arith, p, q))
 alike_plus a b x y (Same p) (Many m n) = Many (omega (arith, m)) (omega (arith, n))
 alike_plus a b x y (Many m n) q = Many (omega (arith, m)) (omega (arith, n))

@@ -1,7 +1,7 @@
 -- An element whose subscripts are variables: the instructions from the array's spot to the element are done in one turn of the loop.
 -- Each of them keeps the invariant over a buffer on which it has written; the turn itself writes the element's spot alone.
-use Rattle.std.proofs.Common.{◌≡◌, ℕ, suc, ◌+◌, ◌-◌, ◌*◌, ◌<◌, ◌≤◌, ◌^◌, List, ◌∷◌, ◌++◌, length, Option, Some, None, false, refl, sym, ap, ◌∙◌, subst, arith, slice_get, slice_set}
-use Rattle.std.specs.Prelude.{ℤ, Result, Ok, Err, pos}
+use Rattle.std.proofs.Common.{◌≡◌, ℕ, suc, ◌+◌, ◌-◌, ◌*◌, ◌<◌, ◌≤◌, ◌^◌, List, ◌∷◌, ◌++◌, length, drop, Option, Some, None, Bool, true, false, refl, sym, ap, ◌∙◌, subst, arith, slice_get, slice_set}
+use Rattle.std.specs.Prelude.{ℤ, Result, Ok, Err, pos, ◌-ℤ◌, unsigned_abs, int_le, ◌&&◌, if◌then◌else◌}
 use Rattle.std.proofs.lemmas.List.{length-set}
 use Rattle.std.proofs.lemmas.Option.{get_or_from_slice_get}
 use Rattle.ground.specs.declared.place.Place.{Place}
@@ -21,20 +21,24 @@ use Rattle.stack_code.specs.Instructions as i
 use Rattle.stack_code.specs.Instructions.{Instruction}
 use Rattle.stack_code.specs.Views.{code_of}
 use Rattle.stack_code.specs.Safety.{ValidIsSafe}
-use Rattle.stack_code.specs.StackMachine.{Spot, Core, At, Val, spot, shift, act}
+use Rattle.stack_code.specs.StackMachine.{Spot, Core, At, Val, shift, act}
+use Rattle.stack_code.specs.ValidCode.{and_then}
 use Rattle.stack_code.proofs.FactsLemmas.{get_set_same}
 use Rattle.runner.specs.declared.subscripts.Subscripts.{Subscripts}
+use Rattle.runner.specs.declared.subscripts.Subscripts.TheVariants as subscripts
 use Rattle.runner.specs.declared.words.Word.{Word}
 use Rattle.runner.specs.declared.words.Cell.{Cell}
 use Rattle.runner.specs.Frames.{Level}
 use Rattle.runner.specs.Running.{IsValidCode, RunsTo, program}
 use Rattle.runner.specs.Words.{Shows, Stand, IsMade, IsSmall, blank, content_of, pile_of, spot_word}
 use Rattle.runner.specs.Work.{Works, IsFine, GoesTo}
-use Rattle.runner.specs.Reaching.{Alike, IsShifted, reaches, at_first, value_at, one_reaches, two_reach}
+use Rattle.runner.specs.declared.elements.Reach.{Reach}
+use Rattle.runner.specs.Reaching.{Alike, Same, Many, IsShifted, advanced, reaches, at_first, value_at, capped, before, two_reach}
 use Rattle.runner.specs.Subscripted.{AreSubscripts, IsVariable, IsByOne, IsByTwo, IsRead, IsLaidOne, AreLaidTwo, integer_word}
 use Rattle.runner.proofs.ElementArms.{element_outside, element_past, element_works}
 use Rattle.runner.proofs.Measure.{far}
 use Rattle.runner.proofs.PlaceArms.{load_works, load_traps}
+use Rattle.runner.proofs.Reached.{alike_capped, alike_plus, alike_times}
 use Rattle.runner.proofs.Piles.{pile_push, pile_above, set_later}
 use Rattle.runner.proofs.Pushes.{push_room, push_works}
 use Rattle.runner.proofs.Roles.{range_of}
@@ -47,62 +51,128 @@ use Rattle.runner.proofs.Turn.{IsTurn, CountsOne}
 value_there : (buffer : List Word) (at : ℕ) (w : Word) → slice_get buffer at ≡ Some w → value_at buffer at ≡ w.value
 value_there buffer at w e = ap (λ x. x.value) (get_or_from_slice_get buffer at w blank e)
 
-one_reached : (buffer : List Word) (at to : ℕ) (i d : ℤ) → value_at buffer at ≡ i → value_at buffer to ≡ d → reaches at_first buffer at to 1 ≡ one_reaches i d
-one_reached buffer at to i d e1 e2 = ap (λ z. one_reaches z (value_at buffer to)) e1 ∙ ap (one_reaches i) e2
+-- the same with the cap
+abbrev one_capped : ℤ → ℤ → Option ℕ
+one_capped i d = and_then (advanced at_first i d) (λ r. Some r.far)
 
-two_reached : (buffer : List Word) (at to : ℕ) (i j d e : ℤ) → value_at buffer at ≡ i → value_at buffer (suc at) ≡ j → value_at buffer to ≡ d → value_at buffer (suc to) ≡ e → reaches at_first buffer at to 2 ≡ two_reach i j d e
+abbrev two_capped : ℤ → ℤ → ℤ → ℤ → Option ℕ
+two_capped i j d e = and_then (advanced at_first i d) (λ r. and_then (advanced r j e) (λ q. Some q.far))
+
+one_reached : (buffer : List Word) (at to : ℕ) (i d : ℤ) → value_at buffer at ≡ i → value_at buffer to ≡ d → reaches at_first buffer at to 1 ≡ one_capped i d
+one_reached buffer at to i d e1 e2 = ap (λ z. one_capped z (value_at buffer to)) e1 ∙ ap (one_capped i) e2
+
+two_reached : (buffer : List Word) (at to : ℕ) (i j d e : ℤ) → value_at buffer at ≡ i → value_at buffer (suc at) ≡ j → value_at buffer to ≡ d → value_at buffer (suc to) ≡ e → reaches at_first buffer at to 2 ≡ two_capped i j d e
 two_reached buffer at to i j d e e1 e2 e3 e4 =
-    ap (λ z. two_reach z (value_at buffer (suc at)) (value_at buffer to) (value_at buffer (suc to))) e1
-    ∙ ap (λ z. two_reach i z (value_at buffer to) (value_at buffer (suc to))) e2
-    ∙ ap (λ z. two_reach i j z (value_at buffer (suc to))) e3 ∙ ap (two_reach i j d) e4
+    ap (λ z. two_capped z (value_at buffer (suc at)) (value_at buffer to) (value_at buffer (suc to))) e1
+    ∙ ap (λ z. two_capped i z (value_at buffer to) (value_at buffer (suc to))) e2
+    ∙ ap (λ z. two_capped i j z (value_at buffer (suc to))) e3 ∙ ap (two_capped i j d) e4
 
-pub one_same : {i i1 d d1 : ℤ} → i ≡ i1 → d ≡ d1 → one_reaches i d ≡ one_reaches i1 d1
-one_same {i} {i1} {d} {d1} e1 e2 = ap (λ z. one_reaches z d) e1 ∙ ap (one_reaches i1) e2
+-- both come to numbers that are the same up to the cap, or to none
+abbrev AreAlike : Option ℕ → Option ℕ → Type 0
+AreAlike (Some a) (Some b) = Alike a b
+AreAlike None None = Unit {0}
+AreAlike _ _ = ⊥
+
+first_alike : (a : ℕ) → Alike (capped (0 + a * 1)) a
+first_alike a = alike_capped (0 + a * 1) a (Same (omega arith))
+
+-- the first subscript with its dimension, where it is within it, and the second
+abbrev with_first : ℕ → ℕ → Bool → Option Reach
+with_first a rows t = if t then Some (record { far = capped (0 + a * 1); step = capped (1 * rows) }) else None
+
+abbrev with_second : ℕ → ℕ → Bool → Reach → Option Reach
+with_second b columns u r = if u then Some (record { far = capped (r.far + b * r.step); step = capped (r.step * columns) }) else None
+
+one_of_alike : (a rows : ℕ) (t : Bool) → AreAlike (and_then (with_first a rows t) (λ r. Some r.far)) (if t then Some a else None)
+one_of_alike a rows true = first_alike a
+one_of_alike a rows false = tt
+
+one_alike : (i d : ℤ) → AreAlike (one_capped i d) (before i d)
+one_alike i d = one_of_alike (unsigned_abs (i -ℤ pos 1)) (unsigned_abs d) (int_le (pos 1) i && int_le i d)
+
+both_alike : (a b rows columns : ℕ) (t u : Bool) → AreAlike (and_then (with_first a rows t) (λ r. and_then (with_second b columns u r) (λ q. Some q.far))) (and_then (if t then Some a else None) (λ m. and_then (if u then Some b else None) (λ n. Some (m + n * rows))))
+both_alike a b rows columns true true =
+    let step = alike_capped (1 * rows) rows (Same (omega arith)) in
+    alike_capped (capped (0 + a * 1) + b * capped (1 * rows)) (a + b * rows) (alike_plus (capped (0 + a * 1)) a (b * capped (1 * rows)) (b * rows) (first_alike a) (alike_times b (capped (1 * rows)) rows step))
+both_alike a b rows columns true false = tt
+both_alike a b rows columns false u = tt
+
+two_alike : (i j d e : ℤ) → AreAlike (two_capped i j d e) (two_reach i j d e)
+two_alike i j d e = both_alike (unsigned_abs (i -ℤ pos 1)) (unsigned_abs (j -ℤ pos 1)) (unsigned_abs d) (unsigned_abs e) (int_le (pos 1) i && int_le i d) (int_le (pos 1) j && int_le j e)
+
+record IsAlike (r : Option ℕ) (far : ℕ) : Type 0 where
+  n : ℕ
+  is : Some n ≡ r
+  alike : Alike n far
+
+some_alike : (r o : Option ℕ) (far : ℕ) → Some far ≡ o → AreAlike r o → IsAlike r far
+some_alike r o far e h = by r (subst (AreAlike r) (sym e) h)
+  where
+    by : (x : Option ℕ) → AreAlike x (Some far) → IsAlike x far
+    by (Some n) a = record { n = n; is = refl; alike = a }
+    by None a = absurd a
+
+none_alike : (r o : Option ℕ) → None ≡ o → AreAlike r o → None ≡ r
+none_alike r o e h = by r (subst (AreAlike r) (sym e) h)
+  where
+    by : (x : Option ℕ) → AreAlike x None → None ≡ x
+    by (Some n) a = absurd a
+    by None a = refl
+
+alike_both : (n far k : ℕ) → Alike n far → Alike n k → Alike far k
+alike_both n far k (Same p) (Same q) = Same (sym p ∙ q)
+alike_both n far k (Same p) (Many x y) = Many (omega (arith, p, x)) y
+alike_both n far k (Many x y) (Same q) = Many y (omega (arith, q, x))
+alike_both n far k (Many x y) (Many z v) = Many y v
+
+pub one_same : {i i1 d d1 : ℤ} → i ≡ i1 → d ≡ d1 → before i d ≡ before i1 d1
+one_same {i} {i1} {d} {d1} e1 e2 = ap (λ z. before z d) e1 ∙ ap (before i1) e2
 
 pub two_same : {i i1 j j1 d d1 e e1 : ℤ} → i ≡ i1 → j ≡ j1 → d ≡ d1 → e ≡ e1 → two_reach i j d e ≡ two_reach i1 j1 d1 e1
 two_same {i} {i1} {j} {j1} {d} {d1} {e} {e1} p q r s = ap (λ z. two_reach z j d e) p ∙ ap (λ z. two_reach i1 z d e) q ∙ ap (λ z. two_reach i1 j1 z e) r ∙ ap (two_reach i1 j1 d1) s
 
--- the word of a variable's spot
-pub spot_word_is : (first size : ℕ) (w : Word) → Shows (At (spot first size false)) w → spot_word first size ≡ w
-spot_word_is first size w h =
-    let e : first ≡ first + 0 = omega arith in
-    ap (λ v. record { value = v; behind = first + size }) (ap pos e ∙ sym h.value) ∙ ap (λ b. record { value = w.value; behind = b }) (sym h.behind)
-
 -- ---- the element, whatever lies in the buffer ----
 
 module _ (first size : ℕ) (one : Word) (extent : ℤ) (old : List Word) (top : ℕ) (buffer : List Word) (l : IsLaidOne first size one extent old top buffer) (plans : List Fields) (s : Core) (w : World) (st : Stand s.stack (pile_of buffer (top + 3))) (fine : IsFine (act plans (Some (i.Element 1)) s w)) where
-  reached_by_one : reaches at_first buffer (top + 1) ((top + 3) - 1) 1 ≡ one_reaches one.value extent
+  reached_by_one : AreAlike (reaches at_first buffer (top + 1) ((top + 3) - 1) 1) (before one.value extent)
   reached_by_one =
       let e : (top + 3) - 1 ≡ top + 2 = omega arith in
-      one_reached buffer (top + 1) ((top + 3) - 1) one.value extent (value_there buffer (top + 1) one l.subscript) (ap (value_at buffer) e ∙ value_there buffer (top + 2) (integer_word extent) l.extent)
+      subst (λ r. AreAlike r (before one.value extent)) (sym (one_reached buffer (top + 1) ((top + 3) - 1) one.value extent (value_there buffer (top + 1) one l.subscript) (ap (value_at buffer) e ∙ value_there buffer (top + 2) (integer_word extent) l.extent))) (one_alike one.value extent)
 
-  pub one_outside : None ≡ one_reaches one.value extent → act plans (Some (i.Element 1)) s w ≡ Halts (Ended (Trapped Subscript s.frame.place)) w
-  one_outside e = element_outside 1 buffer (top + 3) l.within _ plans s w st fine (top + 1) (omega arith) (e ∙ sym reached_by_one)
+  pub one_outside : None ≡ before one.value extent → act plans (Some (i.Element 1)) s w ≡ Halts (Ended (Trapped Subscript s.frame.place)) w
+  one_outside e = element_outside 1 buffer (top + 3) l.within _ plans s w st fine (top + 1) (omega arith) (none_alike _ _ e reached_by_one)
 
-  module _ (far : ℕ) (e : Some far ≡ one_reaches one.value extent) (word : Word) (same : spot_word first size ≡ word) where
-    pub one_past : ((p : Spot) (k : ℕ) → Shows (At p) word → Alike far k → IsShifted (shift p k) None) → act plans (Some (i.Element 1)) s w ≡ Halts (Ended (Trapped Subscript s.frame.place)) w
-    one_past f = element_past 1 buffer (top + 3) l.within _ plans s w st fine (top + 1) (omega arith) far (e ∙ sym reached_by_one) word (pile_of old top) (l.spot ∙ ap (λ x. x ∷ pile_of old top) same) f
+  module _ (far : ℕ) (e : Some far ≡ before one.value extent) where
+    found_by_one : IsAlike (reaches at_first buffer (top + 1) ((top + 3) - 1) 1) far
+    found_by_one = some_alike _ _ far e reached_by_one
 
-    pub one_works : (made : Word) (piled : List Word) → ((p : Spot) (k : ℕ) → Shows (At p) word → Alike far k → IsShifted (shift p k) (Some made)) → piled ≡ made ∷ pile_of old top → GoesTo (act plans (Some (i.Element 1)) s w) s w (s.pc + 1) piled
-    one_works made piled f e1 = element_works 1 buffer (top + 3) l.within _ plans s w st fine (top + 1) (omega arith) far (e ∙ sym reached_by_one) word (pile_of old top) (l.spot ∙ ap (λ x. x ∷ pile_of old top) same) made piled f e1
+    pub one_past : ((p : Spot) (k : ℕ) → Shows (At p) (spot_word first size) → Alike far k → IsShifted (shift p k) None) → act plans (Some (i.Element 1)) s w ≡ Halts (Ended (Trapped Subscript s.frame.place)) w
+    one_past f = element_past 1 buffer (top + 3) l.within _ plans s w st fine (top + 1) (omega arith) found_by_one.n found_by_one.is (spot_word first size) (pile_of old top) l.spot (λ p m h a. f p m h (alike_both found_by_one.n far m found_by_one.alike a))
+
+    pub one_works : (made : Word) (piled : List Word) → ((p : Spot) (k : ℕ) → Shows (At p) (spot_word first size) → Alike far k → IsShifted (shift p k) (Some made)) → piled ≡ made ∷ pile_of old top → GoesTo (act plans (Some (i.Element 1)) s w) s w (s.pc + 1) piled
+    one_works made piled f e1 = element_works 1 buffer (top + 3) l.within _ plans s w st fine (top + 1) (omega arith) found_by_one.n found_by_one.is (spot_word first size) (pile_of old top) l.spot made piled (λ p m h a. f p m h (alike_both found_by_one.n far m found_by_one.alike a)) e1
 
 module _ (first size : ℕ) (one two : Word) (rows columns : ℤ) (old : List Word) (top : ℕ) (buffer : List Word) (l : AreLaidTwo first size one two rows columns old top buffer) (plans : List Fields) (s : Core) (w : World) (st : Stand s.stack (pile_of buffer (top + 5))) (fine : IsFine (act plans (Some (i.Element 2)) s w)) where
-  reached_by_two : reaches at_first buffer (top + 1) ((top + 5) - 2) 2 ≡ two_reach one.value two.value rows columns
+  reached_by_two : AreAlike (reaches at_first buffer (top + 1) ((top + 5) - 2) 2) (two_reach one.value two.value rows columns)
   reached_by_two =
       let e : (top + 5) - 2 ≡ top + 3 = omega arith in
       let e1 : suc ((top + 5) - 2) ≡ top + 4 = omega arith in
       let e2 : suc (top + 1) ≡ top + 2 = omega arith in
-      two_reached buffer (top + 1) ((top + 5) - 2) one.value two.value rows columns (value_there buffer (top + 1) one l.one) (ap (value_at buffer) e2 ∙ value_there buffer (top + 2) two l.two) (ap (value_at buffer) e ∙ value_there buffer (top + 3) (integer_word rows) l.rows) (ap (value_at buffer) e1 ∙ value_there buffer (top + 4) (integer_word columns) l.columns)
+      let told = two_reached buffer (top + 1) ((top + 5) - 2) one.value two.value rows columns (value_there buffer (top + 1) one l.one) (ap (value_at buffer) e2 ∙ value_there buffer (top + 2) two l.two) (ap (value_at buffer) e ∙ value_there buffer (top + 3) (integer_word rows) l.rows) (ap (value_at buffer) e1 ∙ value_there buffer (top + 4) (integer_word columns) l.columns) in
+      subst (λ r. AreAlike r (two_reach one.value two.value rows columns)) (sym told) (two_alike one.value two.value rows columns)
 
   pub two_outside : None ≡ two_reach one.value two.value rows columns → act plans (Some (i.Element 2)) s w ≡ Halts (Ended (Trapped Subscript s.frame.place)) w
-  two_outside e = element_outside 2 buffer (top + 5) l.within _ plans s w st fine (top + 1) (omega arith) (e ∙ sym reached_by_two)
+  two_outside e = element_outside 2 buffer (top + 5) l.within _ plans s w st fine (top + 1) (omega arith) (none_alike _ _ e reached_by_two)
 
-  module _ (far : ℕ) (e : Some far ≡ two_reach one.value two.value rows columns) (word : Word) (same : spot_word first size ≡ word) where
-    pub two_past : ((p : Spot) (k : ℕ) → Shows (At p) word → Alike far k → IsShifted (shift p k) None) → act plans (Some (i.Element 2)) s w ≡ Halts (Ended (Trapped Subscript s.frame.place)) w
-    two_past f = element_past 2 buffer (top + 5) l.within _ plans s w st fine (top + 1) (omega arith) far (e ∙ sym reached_by_two) word (pile_of old top) (l.spot ∙ ap (λ x. x ∷ pile_of old top) same) f
+  module _ (far : ℕ) (e : Some far ≡ two_reach one.value two.value rows columns) where
+    found_by_two : IsAlike (reaches at_first buffer (top + 1) ((top + 5) - 2) 2) far
+    found_by_two = some_alike _ _ far e reached_by_two
 
-    pub two_works : (made : Word) (piled : List Word) → ((p : Spot) (k : ℕ) → Shows (At p) word → Alike far k → IsShifted (shift p k) (Some made)) → piled ≡ made ∷ pile_of old top → GoesTo (act plans (Some (i.Element 2)) s w) s w (s.pc + 1) piled
-    two_works made piled f e1 = element_works 2 buffer (top + 5) l.within _ plans s w st fine (top + 1) (omega arith) far (e ∙ sym reached_by_two) word (pile_of old top) (l.spot ∙ ap (λ x. x ∷ pile_of old top) same) made piled f e1
+    pub two_past : ((p : Spot) (k : ℕ) → Shows (At p) (spot_word first size) → Alike far k → IsShifted (shift p k) None) → act plans (Some (i.Element 2)) s w ≡ Halts (Ended (Trapped Subscript s.frame.place)) w
+    two_past f = element_past 2 buffer (top + 5) l.within _ plans s w st fine (top + 1) (omega arith) found_by_two.n found_by_two.is (spot_word first size) (pile_of old top) l.spot (λ p m h a. f p m h (alike_both found_by_two.n far m found_by_two.alike a))
+
+    pub two_works : (made : Word) (piled : List Word) → ((p : Spot) (k : ℕ) → Shows (At p) (spot_word first size) → Alike far k → IsShifted (shift p k) (Some made)) → piled ≡ made ∷ pile_of old top → GoesTo (act plans (Some (i.Element 2)) s w) s w (s.pc + 1) piled
+    two_works made piled f e1 = element_works 2 buffer (top + 5) l.within _ plans s w st fine (top + 1) (omega arith) found_by_two.n found_by_two.is (spot_word first size) (pile_of old top) l.spot made piled (λ p m h a. f p m h (alike_both found_by_two.n far m found_by_two.alike a)) e1
 
 -- ---- a subscript is read, and a dimension pushed ----
 
@@ -151,8 +221,29 @@ module _ {code : Code} (valid : IsValidCode code) (law : ValidIsSafe) (few : cod
 
 -- ---- the instructions in a row ----
 
-pub subscripts_in : (ops : List Op) (code : Code) (at : ℕ) (r r1 : Subscripts) → ops ≡ code.ops.items → r ≡ r1 → AreSubscripts (code_of ops) at r → AreSubscripts (code_of code.ops.items) at r1
-subscripts_in ops code at r r1 same is h = subst (λ xs. AreSubscripts (code_of xs) at r1) same (subst (AreSubscripts (code_of ops) at) is h)
+-- of those in the code from an instruction on
+module _ {xs : List Op} (ops : List Op) (pc : ℕ) (same : xs ≡ drop pc ops) where
+  moved : {o : Option Instruction} (k n : ℕ) → pc + k ≡ n → slice_get (code_of xs) k ≡ o → slice_get (code_of ops) n ≡ o
+  moved k n e h = ap (slice_get (code_of ops)) (sym e) ∙ sym (turn.ahead ops pc k same) ∙ h
+
+  variable_on : (k n unit : ℕ) → pc + k ≡ n → IsVariable (code_of xs) k unit → IsVariable (code_of ops) n unit
+  variable_on k n unit e v = record { size = v.size; spot = moved k n e v.spot; load = moved (k + 1) (n + 1) (omega (arith, e)) v.load }
+
+  subscripts_on : (r : Subscripts) → AreSubscripts (code_of xs) 1 r → AreSubscripts (code_of ops) (pc + 1) r
+  subscripts_on subscripts.Other h = tt
+  subscripts_on (subscripts.One unit extent) h =
+      record { subscript = variable_on 1 (pc + 1) unit refl h.subscript; extent = moved (1 + 2) (pc + 1 + 2) (omega arith) h.extent; element = moved (1 + 3) (pc + 1 + 3) (omega arith) h.element }
+  subscripts_on (subscripts.Two one two rows columns) h =
+      record {
+        first = variable_on 1 (pc + 1) one refl h.first;
+        second = variable_on (1 + 2) (pc + 1 + 2) two (omega arith) h.second;
+        rows = moved (1 + 4) (pc + 1 + 4) (omega arith) h.rows;
+        columns = moved (1 + 5) (pc + 1 + 5) (omega arith) h.columns;
+        element = moved (1 + 6) (pc + 1 + 6) (omega arith) h.element;
+      }
+
+pub subscripts_in : {xs : List Op} (ops : List Op) (code : Code) (pc : ℕ) (r r1 : Subscripts) → xs ≡ drop pc ops → ops ≡ code.ops.items → r ≡ r1 → AreSubscripts (code_of xs) 1 r → AreSubscripts (code_of code.ops.items) (pc + 1) r1
+subscripts_in ops code pc r r1 from same is h = subst (λ l. AreSubscripts (code_of l) (pc + 1) r1) same (subst (AreSubscripts (code_of ops) (pc + 1)) is (subscripts_on ops pc from r h))
 
 module _ {code : Code} (valid : IsValidCode code) (law : ValidIsSafe) (few : code.units < 2 ^ 31) {steps pc left top : ℕ} {stack : List Word} {cells : List Cell} {place : Place} {executed from : ℕ} {level : Level} {taken written : List Record} {hand : Hand} {stand : Standing} {plan : ℕ} (t : IsTurn code steps pc left top stack cells place executed from level taken written hand stand plan) (room : suc code.depth * code.stack ≤ length stack) (first size : ℕ) (at : slice_get (code_of code.ops.items) pc ≡ Some (i.PushSpot first size)) where
   abbrev Turns : ℕ → ℕ → List Word → Type 0

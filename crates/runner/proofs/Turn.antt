@@ -1,6 +1,7 @@
 -- What is known at each turn of the loop, and what one more turn keeps.
-use Rattle.std.proofs.Common.{◌≡◌, ℕ, zero, suc, ◌+◌, ◌-◌, ◌*◌, ◌<◌, ◌≤◌, List, [], ◌∷◌, ◌++◌, length, get_or, Option, Some, None, refl, sym, ap, ◌∙◌, subst, arith, slice_get}
+use Rattle.std.proofs.Common.{◌≡◌, ℕ, zero, suc, ◌+◌, ◌-◌, ◌*◌, ◌<◌, ◌≤◌, List, [], ◌∷◌, ◌++◌, length, get_or, drop, Option, Some, None, refl, sym, ap, ◌∙◌, subst, arith, slice_get}
 use Rattle.std.specs.Prelude.{Ok, true, false, option_map}
+use Rattle.std.proofs.lemmas.List.{get_or-drop}
 use Rattle.std.proofs.lemmas.Option.{slice_get-map, slice_get_read, slice_get_within}
 use Rattle.ground.specs.declared.place.Place.{Place}
 use Rattle.ground.specs.declared.trap.Trap.{Trap}
@@ -57,6 +58,22 @@ empty_agrees cells h = record { same = λ q. by q (slice_get cells q) refl; smal
     by : (q : ℕ) (o : Option Cell) → slice_get cells q ≡ o → Nothing ≡ content_in (slice_get cells q)
     by q None e = ap content_in (sym e)
     by q (Some x) e = sym (ap content_in (h q (slice_get_within cells q x e)))
+
+get_drop : {A : Type 0} (n : ℕ) (xs : List A) (k : ℕ) → slice_get (drop n xs) k ≡ slice_get xs (n + k)
+get_drop zero xs k = let e : k ≡ 0 + k = omega arith in ap (slice_get xs) e
+get_drop (suc n) [] k = refl
+get_drop (suc n) (x ∷ xs) k = let e : suc (n + k) ≡ suc n + k = omega arith in get_drop n xs k ∙ ap (slice_get (x ∷ xs)) e
+
+-- what stands in the code from an instruction on
+pub ahead : {xs : List Op} (ops : List Op) (pc k : ℕ) → xs ≡ drop pc ops → slice_get (code_of xs) k ≡ slice_get (code_of ops) (pc + k)
+ahead {xs} ops pc k same = slice_get-map instruction_of xs k ∙ ap (λ v. option_map instruction_of (slice_get v k)) same ∙ ap (option_map instruction_of) (get_drop pc ops k) ∙ sym (slice_get-map instruction_of ops (pc + k))
+
+-- its first instruction, and the one behind
+pub first : {xs : List Op} {op : Op} (ops : List Op) (pc : ℕ) → xs ≡ drop pc ops → op ≡ get_or xs 0 op → op ≡ get_or ops pc op
+first {xs} {op} ops pc same is = is ∙ ap (λ v. get_or v 0 op) same ∙ get_or-drop pc ops 0 op ∙ ap (λ n. get_or ops n op) (let e : pc + 0 ≡ pc = omega arith in e)
+
+pub second : {xs : List Op} {op : Op} (ops : List Op) (pc : ℕ) → xs ≡ drop pc ops → op ≡ get_or xs 1 op → op ≡ get_or ops (pc + 1) op
+second {xs} {op} ops pc same is = is ∙ ap (λ v. get_or v 1 op) same ∙ get_or-drop pc ops 1 op
 
 -- at first
 pub begins : (code : Code) (steps : ℕ) (stack : List Word) (cells : List Cell) (place : Place) (spots : List Word) (resumes : List Resume) (stand : Standing) (plan : ℕ) → place ≡ start.frame.place → length cells ≡ code.units → ((q : ℕ) → q < length cells → slice_get cells q ≡ Some cell.Nothing) → IsTurn code steps 0 steps 0 stack cells place 0 0 (record { level = 0; base = 0; spots = spots; resumes = resumes }) [] [] empty_hand stand plan

@@ -32,12 +32,13 @@ reaches r buffer subscripts sizes (suc n) = and_then (advanced r (value_at buffe
 abbrev pub at_first : Reach
 at_first = record { far = 0; step = 1 }
 
--- how far one subscript reaches, and two
-abbrev pub one_reaches : ℤ → ℤ → Option ℕ
-one_reaches i d = and_then (advanced at_first i d) (λ r. Some r.far)
+-- how many lie before the one that a subscript names
+abbrev pub before : ℤ → ℤ → Option ℕ
+before i d = if int_le (pos 1) i && int_le i d then Some (unsigned_abs (i -ℤ pos 1)) else None
 
+-- how far two subscripts reach, with no cap
 abbrev pub two_reach : ℤ → ℤ → ℤ → ℤ → Option ℕ
-two_reach i j d e = and_then (advanced at_first i d) (λ r. and_then (advanced r j e) (λ q. Some q.far))
+two_reach i j d e = and_then (before i d) (λ a. and_then (before j e) (λ b. Some (a + b * unsigned_abs d)))
 
 -- two numbers that are the same up to the cap
 pub data Alike (a b : ℕ) : Type 0 where

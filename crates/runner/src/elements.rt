@@ -2,7 +2,7 @@
 ghost use Rattle.std.specs.Prelude.{◌≡◌, ◌+◌, ◌<◌, ◌≤◌, ◌^◌, ℕ, pos, length, IfSome};
 ghost use Rattle.stack_code.specs.Instructions.{Element};
 ghost use Rattle.stack_code.specs.StackMachine.{Spot, At, shift};
-ghost use Rattle.runner.specs.Words.{Shows};
+ghost use Rattle.runner.specs.Words.{Shows, spot_word};
 ghost use Rattle.runner.specs.Work.{MayWork, Works, IsRoomFor};
 ghost use Rattle.runner.specs.Reaching.{IsCapped, Alike, IsShifted, advanced, reaches, at_first, value_at, product, widened as widened_by, capped as capped_at};
 
@@ -15,9 +15,9 @@ const MANY: u64 = 2_147_483_648;
 
 /// How far the subscripts so far reach, and how far one of the next subscript reaches, each at most `MANY`.
 #[derive(Clone, Copy)]
-pub(crate) struct Reach {
-    pub(crate) far: u64,
-    pub(crate) step: u64,
+struct Reach {
+    far: u64,
+    step: u64,
 }
 
 #[inline(always)]
@@ -30,7 +30,7 @@ fn capped(number: u64) -> u64
 
 /// With one more subscript and its dimension.
 #[inline(always)]
-pub(crate) fn advance(reach: Reach, subscript: i32, size: i32) -> Option<Reach>
+fn advance(reach: Reach, subscript: i32, size: i32) -> Option<Reach>
     requires { IsCapped reach }
     ensures is { result ≡ advanced reach subscript size }
     ensures capped { IfSome result IsCapped }
@@ -196,6 +196,20 @@ pub(crate) fn shifted(word: Word, far: u64) -> Option<Word>
     let unit = unit_of(word) as u64 + far;
     if unit < word.behind as u64 {
         Some(placed(unit, word.behind))
+    } else {
+        None
+    }
+}
+
+/// The spot so many places behind the first unit of a variable.
+#[inline(always)]
+pub(crate) fn spot_on(first: u32, size: u32, far: u64) -> Option<Word>
+    requires some { 1 ≤ size }
+    requires few { first + size < 2 ^ 31 }
+    ensures { (p : Spot) (n : ℕ) → Shows (At p) (spot_word first size) → Alike far n → IsShifted (shift p n) result }
+{
+    if far < size as u64 {
+        Some(placed(first as u64 + far, first + size))
     } else {
         None
     }

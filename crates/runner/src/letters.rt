@@ -4,64 +4,65 @@ ghost use Rattle.ground.specs.declared.value.Kind.TheVariants.{Integer};
 ghost use Rattle.f66_tree.specs.declared.editing.Way.TheVariants.{Reading, Writing};
 ghost use Rattle.f66_tree.specs.Turns.{is_over};
 ghost use Rattle.f66_tree.specs.World.{Record};
-ghost use Rattle.format_io.specs.Letters.{IsLetter, cell_of};
+ghost use Rattle.format_io.specs.Letters.{IsLetter};
 ghost use Rattle.record_flow.specs.Flows.{tape};
 ghost use Rattle.record_tape.specs.Letters.{SendsLetters, GetsLetters};
 ghost use Rattle.stack_code.specs.StackMachine.{Spot, At};
 ghost use Rattle.runner.specs.Words.{Shows};
-ghost use Rattle.runner.specs.Blocks.{coded, integer_in, MovesUnits};
+ghost use Rattle.runner.specs.Blocks.{coded, letter_in as letter_of_unit, MovesUnits};
 ghost use Rattle.runner.specs.Exchanges.{IsSpot};
 
 use crate::places::unit_of;
 use crate::words::{Cell, Word};
 use f66_tree::Way;
 use format_io::Plan;
-use ground::{Kind, Value};
+use ground::Kind;
 use record_flow::Flow;
 
-/// The integer that a unit holds.
+/// The character whose code a unit holds, and 0 where it holds none.
 #[inline(always)]
-fn integer_of(cell: Cell) -> Option<Value>
-    ensures { result ≡ integer_in cell }
+fn letter_in(cell: Cell) -> u8
+    ensures { result ≡ letter_of_unit cell }
 {
     match cell {
-        Cell::Whole(value) => Some(Value::Int(i64::from(value))),
-        Cell::Nothing => None,
-        Cell::Truth(_) => None,
+        Cell::Whole(code) => {
+            if code < 32 || code > 126 {
+                0
+            } else {
+                code as u8
+            }
+        }
+        Cell::Nothing => 0,
+        Cell::Truth(_) => 0,
     }
 }
 
-/// What a unit holds that has the code of a character.
+/// What a unit holds that has this code.
 #[inline(always)]
-fn cell_with(content: Option<Value>) -> Cell
-    requires { (c : ℕ) × IsLetter c × (content ≡ cell_of c) }
-    ensures { (c : ℕ) → content ≡ cell_of c → result ≡ coded c }
+fn cell_with(code: u8) -> Cell
+    ensures { result ≡ coded code }
 {
-    match content {
-        Some(Value::Int(code)) => Cell::Whole(code as i32),
-        _ => unreachable!(),
-    }
+    Cell::Whole(i32::from(code))
 }
 
-/// The integers that units hold come to the first places of a block.
+/// The characters whose codes units hold come to the first places of a block.
 #[inline(always)]
-fn show(units: &[Cell], block: &mut [Option<Value>])
+fn show(units: &[Cell], block: &mut [u8])
     requires { length units.now ≤ length block.old }
     ensures room { length block.new ≡ length block.old }
-    ensures shown { first (length units.now) block.new ≡ map integer_in units.now }
+    ensures shown { first (length units.now) block.new ≡ map letter_of_unit units.now }
 {
     for index in 0..units.len() {
-        block[index] = integer_of(units[index]);
+        block[index] = letter_in(units[index]);
     }
 }
 
-/// The first units hold from now on the codes of so many characters of a block.
+/// The first units hold from now on so many codes of a block.
 #[inline(always)]
-fn keep_all(block: &[Option<Value>], count: usize, units: &mut [Cell])
+fn keep_all(block: &[u8], count: usize, units: &mut [Cell])
     requires block { count ≤ length block.now }
     requires units { count ≤ length units.old }
-    requires codes { (cs : List ℕ) × All IsLetter cs × (first count block.now ≡ map cell_of cs) }
-    ensures { (cs : List ℕ) → first count block.now ≡ map cell_of cs → units.new ≡ map coded cs ++ drop count units.old }
+    ensures { units.new ≡ map coded (first count block.now) ++ drop count units.old }
 {
     for index in 0..count {
         units[index] = cell_with(block[index]);
@@ -70,7 +71,7 @@ fn keep_all(block: &[Option<Value>], count: usize, units: &mut [Cell])
 
 /// The characters of the first of these units go out, as many as come with nothing between them and have room. How many. The
 /// block is what they go through.
-fn put_units(units: &[Cell], plan: &Plan, flow: &mut Flow, block: &mut [Option<Value>]) -> usize
+fn put_units(units: &[Cell], plan: &Plan, flow: &mut Flow, block: &mut [u8]) -> usize
     requires few { length units.now ≤ length block.old }
     requires way { flow.old.stand.way ≡ Writing }
     ensures way { flow.new.stand.way ≡ Writing }
@@ -86,12 +87,7 @@ fn put_units(units: &[Cell], plan: &Plan, flow: &mut Flow, block: &mut [Option<V
 
 /// The next characters of the record come into the first of these units, as many as come with nothing between them. How
 /// many.
-fn take_units(
-    units: &mut [Cell],
-    plan: &Plan,
-    flow: &mut Flow,
-    block: &mut [Option<Value>],
-) -> usize
+fn take_units(units: &mut [Cell], plan: &Plan, flow: &mut Flow, block: &mut [u8]) -> usize
     requires few { length units.old ≤ length block.old }
     requires way { flow.old.stand.way ≡ Reading }
     ensures way { flow.new.stand.way ≡ Reading }
@@ -121,14 +117,7 @@ fn stretch(word: Word, index: u64, count: u64) -> u64
 }
 
 /// How many characters may come or go at once from an index behind a spot on.
-fn block_size(
-    word: Word,
-    index: u64,
-    count: u64,
-    plan: &Plan,
-    flow: &Flow,
-    block: &[Option<Value>],
-) -> usize
+fn block_size(word: Word, index: u64, count: u64, plan: &Plan, flow: &Flow, block: &[u8]) -> usize
     requires spot { (p : Spot) × Shows (At p) word }
     requires few { count ≤ 2 ^ 31 }
     requires within { index ≤ count }
@@ -149,7 +138,7 @@ fn letters(
     plan: &Plan,
     cells: &mut [Cell],
     flow: &mut Flow,
-    block: &mut [Option<Value>],
+    block: &mut [u8],
 ) -> u64
     requires few { count ≤ 2 ^ 31 }
     requires within { index ≤ count }
@@ -186,7 +175,7 @@ pub(crate) fn units_at_once(
     plan: &Plan,
     cells: &mut [Cell],
     flow: &mut Flow,
-    block: &mut [Option<Value>],
+    block: &mut [u8],
 ) -> u64
     requires few { count ≤ 2 ^ 31 }
     requires within { index ≤ count }

@@ -15,8 +15,8 @@ use ground::{Kind, Trap};
 use ports::{Sink, Source};
 use record_flow::{Flow, Stop};
 
-/// How many characters come or go at once.
-const BLOCK: usize = 64;
+/// How many characters come or go at once: as many as the longest record has that is written.
+const BLOCK: usize = 132;
 
 /// So many units are items, from a spot on.
 pub(crate) fn row<S: Source, K: Sink>(
@@ -39,7 +39,7 @@ pub(crate) fn row<S: Source, K: Sink>(
     ensures units { length cells.new ≡ length cells.old }
     ensures step { (m : ℕ) → Alike count m → IsExchange S.left K.puts S.faults K.faults input.old input.new out.old out.new (λ p place. row_of place way kind p m 0) word plan.now flow.old flow.new cells.old cells.new result }
 {
-    let mut block = [None; BLOCK];
+    let mut block = [0u8; BLOCK];
     let mut index = 0;
     'units: while index < count {
         let moved = units_at_once(way, kind, word, index, count, plan, cells, flow, &mut block);

@@ -1,5 +1,5 @@
 // The loop that runs code, over a stack and a store that are given to it.
-ghost use Rattle.std.specs.Prelude.{◌≡◌, ◌+◌, ◌-◌, ◌<◌, ◌≤◌, ◌^◌, ℕ, [], true, length, IfSome};
+ghost use Rattle.std.specs.Prelude.{◌≡◌, ◌+◌, ◌-◌, ◌<◌, ◌≤◌, ◌^◌, ℕ, [], true, length, drop, IfSome};
 ghost use Rattle.ground.specs.declared.value.Kind.TheVariants.{Integer};
 ghost use Rattle.stack_code.specs.Instructions.{Load, LoopTurn};
 ghost use Rattle.stack_code.specs.Views.{code_of, instruction_of};
@@ -220,6 +220,16 @@ fn hold(op: &Op, stack: &mut [Word], top: usize, cells: &mut [Cell]) -> Result<u
     }
 }
 
+/// The code from an instruction on. What stands behind that one is found from here, where its address is known.
+#[inline(always)]
+fn code_from(ops: &[Op], pc: usize) -> &[Op]
+    requires { pc ≤ length ops.now }
+    ensures is { result.now ≡ drop pc ops.now }
+    ensures long { length result.now + pc ≡ length ops.now }
+{
+    &ops[pc..]
+}
+
 /// So many instructions more, and the one at `pc`.
 #[inline(always)]
 fn counted(executed: u64, from: usize, pc: usize) -> u64
@@ -259,7 +269,8 @@ pub(crate) fn run_code<S: Source, K: Sink>(
     let mut plan: usize = 0;
     'turn: loop {
         prove!(pc < ops.len());
-        let op = &ops[pc];
+        let ahead = code_from(ops, pc);
+        let op = &ahead[0];
         match role_of(op) {
             Role::Begins(begun) => {
                 if left == 0 {
@@ -310,7 +321,7 @@ pub(crate) fn run_code<S: Source, K: Sink>(
             }
             Role::Spots(first, size) => {
                 prove!(pc + 1 < ops.len());
-                if is_load(&ops[pc + 1]) {
+                if is_load(&ahead[1]) {
                     match variable(first, stack, top, cells) {
                         Ok(rest) => {
                             top = rest;
@@ -322,7 +333,7 @@ pub(crate) fn run_code<S: Source, K: Sink>(
                             counted(executed, from, pc + 1),
                         ),
                     }
-                } else if let Some((limit, step, to)) = turn_behind(size, &ops[pc + 1]) {
+                } else if let Some((limit, step, to)) = turn_behind(size, &ahead[1]) {
                     match variable_turn(first, limit, step, to, pc + 1, top, cells) {
                         Ok((next, rest)) => {
                             executed = counted(executed, from, pc + 1);
@@ -337,7 +348,7 @@ pub(crate) fn run_code<S: Source, K: Sink>(
                         ),
                     }
                 } else {
-                    match subscripts_behind(size, ops, pc + 1) {
+                    match subscripts_behind(size, ahead, 1) {
                         Subscripts::Other => {
                             top = push_spot(first, size, stack, top);
                             pc += 1;
@@ -446,7 +457,10 @@ pub(crate) fn run_code<S: Source, K: Sink>(
                 executed = counted(executed, from, pc);
                 pc = resume.at;
                 from = resume.at;
-                place = resume.place;
+                place = Place {
+                    file: resume.place.file,
+                    line: resume.place.line,
+                };
                 level -= 1;
                 base -= code.dummies as usize;
             }

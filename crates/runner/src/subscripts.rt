@@ -6,13 +6,13 @@ ghost use Rattle.stack_code.specs.Instructions.{Push, Element};
 ghost use Rattle.stack_code.specs.Views.{code_of};
 ghost use Rattle.runner.specs.declared.words.Word.{Word as TheWord};
 ghost use Rattle.runner.specs.Work.{Works, IsRoomFor};
-ghost use Rattle.runner.specs.Reaching.{one_reaches, two_reach};
+ghost use Rattle.runner.specs.Reaching.{before as before_in, two_reach};
 ghost use Rattle.runner.specs.Subscripted.{IsVariable, AreSubscripts, IsRead, IsLaidOne, AreLaidTwo};
 
-use crate::elements::{Reach, advance, shifted};
+use crate::elements::spot_on;
 use crate::places::{cell_at, shown};
 use crate::run::is_load;
-use crate::words::{Cell, Word, first_of, push, whole};
+use crate::words::{Cell, Word, push, whole};
 use ground::{Kind, Trap};
 use stack_code::Op;
 
@@ -72,13 +72,10 @@ fn is_element(ops: &[Op], at: usize, count: u8) -> bool
 /// The subscripts from here on, where the first is this variable.
 #[inline(always)]
 fn two_at(ops: &[Op], at: usize, one: u32) -> Subscripts
-    requires few { at < 2 ^ 63 }
+    requires within { at + 6 < length ops.now }
     requires one { IsVariable (code_of ops.now) at one }
     ensures { AreSubscripts (code_of ops.now) at result }
 {
-    if at + 6 >= ops.len() {
-        return Subscripts::Other;
-    }
     match variable_at(ops, at + 2) {
         None => Subscripts::Other,
         Some(two) => match integer_at(ops, at + 4) {
@@ -97,13 +94,13 @@ fn two_at(ops: &[Op], at: usize, one: u32) -> Subscripts
     }
 }
 
-/// The subscripts from here on.
+/// The subscripts from here on. The code's length is looked at once, for two of them: of the last few instructions none is found.
 #[inline(always)]
 fn subscripts_at(ops: &[Op], at: usize) -> Subscripts
     requires few { at < 2 ^ 63 }
     ensures { AreSubscripts (code_of ops.now) at result }
 {
-    if at + 3 >= ops.len() {
+    if at + 6 >= ops.len() {
         return Subscripts::Other;
     }
     match variable_at(ops, at) {
@@ -143,27 +140,27 @@ pub(crate) fn subscript(unit: u32, cells: &[Cell]) -> Result<Word, Trap>
     shown(Kind::Integer, cell_at(cells, unit as usize))
 }
 
-/// How far an element is by one subscript and its dimension.
+/// How many lie before the one that a subscript names.
 #[inline(always)]
-fn far_by_one(subscript: i32, extent: i32) -> Option<u64>
-    ensures is { result ≡ one_reaches subscript extent }
+fn before(subscript: i32, extent: i32) -> Option<u64>
+    ensures is { result ≡ before_in subscript extent }
     ensures small { IfSome result (λ far. far ≤ 2 ^ 31) }
 {
-    match advance(Reach { far: 0, step: 1 }, subscript, extent) {
-        Some(reach) => Some(reach.far),
-        None => None,
+    if 1 <= subscript && subscript <= extent {
+        Some(u64::from((subscript - 1).unsigned_abs()))
+    } else {
+        None
     }
 }
 
-/// The same by two.
+/// How far an element is by two subscripts and their dimensions. No cap is needed, since the number of units is looked at next.
 #[inline(always)]
 fn far_by_two(one: i32, two: i32, rows: i32, columns: i32) -> Option<u64>
-    ensures is { result ≡ two_reach one two rows columns }
-    ensures small { IfSome result (λ far. far ≤ 2 ^ 31) }
+    ensures { result ≡ two_reach one two rows columns }
 {
-    match advance(Reach { far: 0, step: 1 }, one, rows) {
-        Some(first) => match advance(first, two, columns) {
-            Some(reach) => Some(reach.far),
+    match before(one, rows) {
+        Some(left) => match before(two, columns) {
+            Some(above) => Some(left + above * u64::from(rows.unsigned_abs())),
             None => None,
         },
         None => None,
@@ -188,9 +185,9 @@ pub(crate) fn element_by_one(
     ensures works { (buffer : List TheWord) → IsLaidOne first size subscript extent stack.old top buffer → Works (Element 1) buffer (top + 3) stack.new result }
     ensures room { IsRoomFor stack.new result }
 {
-    match far_by_one(subscript.value, whole(extent).value) {
+    match before(subscript.value, whole(extent).value) {
         None => Err(Trap::Subscript),
-        Some(far) => match shifted(first_of(first, size), far) {
+        Some(far) => match spot_on(first, size, far) {
             None => Err(Trap::Subscript),
             Some(word) => {
                 push(stack, top, word);
@@ -227,7 +224,7 @@ pub(crate) fn element_by_two(
         whole(columns).value,
     ) {
         None => Err(Trap::Subscript),
-        Some(far) => match shifted(first_of(first, size), far) {
+        Some(far) => match spot_on(first, size, far) {
             None => Err(Trap::Subscript),
             Some(word) => {
                 push(stack, top, word);

@@ -1,8 +1,7 @@
--- The first units hold the codes of the characters so far.
-use Rattle.std.proofs.Common.{◌≡◌, ◌++◌, ℕ, List, map, take, drop}
-use Rattle.format_io.specs.Letters.{cell_of}
+-- The first units hold the codes so far.
+use Rattle.std.proofs.Common.{◌≡◌, ◌++◌, map, take, drop}
 use Rattle.runner.specs.Blocks.{coded}
 use Rattle.runner.proofs.letters.keep_all.Given as goal
 
 abbrev pub invariant-loop-index : goal.invariant-loop-index
-invariant-loop-index l = (cs : List ℕ) → take l.count l.block ≡ map cell_of cs → l.units ≡ map coded (take l.index cs) ++ drop l.index l.initial.units
+invariant-loop-index l = l.units ≡ map coded (take l.index l.block) ++ drop l.index l.initial.units
