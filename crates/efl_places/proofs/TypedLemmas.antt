@@ -2,10 +2,10 @@
 use Rattle.std.proofs.Common.{◌≡◌, ◌≢◌, Bool, true, not, ◌&&◌, List, refl, sym, ap, subst, ◌∙◌, if◌then◌else◌}
 use Rattle.ground.specs.declared.value.Kind.{Kind}
 use Rattle.efl_tree.specs.Syntax.{EflExpr, At, EflExprs, NoExpr, EflPlace, Path, EflSteps, NoStep, Member, Overlay}
-use Rattle.efl_scope.specs.DataTypes.{DataType, Scalar, Structured, Array, NoType, agrees}
+use Rattle.efl_scope.specs.DataTypes.{DataType, Scalar, Structured, Array, NoType, is_faulty, agrees}
 use Rattle.efl_types.specs.Signatures.{Names}
 use Rattle.efl_types.specs.Types.{type_of, value_type, is_single, is_target_call, target_type, place_type}
-use Rattle.efl_types.specs.Expressions.{has_subscripts, ends_subscripted, is_element, element_of, takes_array, takes_actual}
+use Rattle.efl_types.specs.Expressions.{has_subscripts, ends_subscripted, is_element, element_of, takes_array, takes_other, takes_actual}
 use Rattle.efl_expressions.specs.declared.forms.Form.{Form}
 use Rattle.efl_expressions.specs.declared.forms.Form.TheVariants as forms
 use Rattle.efl_expressions.specs.declared.types.Structure.{Structure}
@@ -53,11 +53,23 @@ target_is n p b t call same = ap (λ c. form_of (if c then NoType else place_typ
 
 -- ---- actuals ----
 
-pub other_actual : (n : Names) (t : DataType) (e : EflExpr) → form_of t ≢ forms.Array → takes_actual n t e ≡ agrees t (type_of n e)
+pub other_actual : (n : Names) (t : DataType) (e : EflExpr) → form_of t ≢ forms.Array → takes_actual n t e ≡ takes_other t (type_of n e)
 other_actual n (Scalar k) e other = refl
 other_actual n (Structured ms) e other = refl
 other_actual n (Array bs t) e other = absurd (other refl)
 other_actual n NoType e other = refl
+
+pub array_other : (t u : DataType) → form_of u ≡ forms.Array → takes_other t u ≡ is_faulty t
+array_other t (Scalar k) form = absurd (let d : forms.Scalar k ≡ forms.Array = form in cc)
+array_other t (Structured ms) form = absurd (let d : forms.Structured ≡ forms.Array = form in cc)
+array_other t (Array bs u) form = refl
+array_other t NoType form = absurd (let d : forms.NoType ≡ forms.Array = form in cc)
+
+pub other_agrees : (t u : DataType) → form_of u ≢ forms.Array → takes_other t u ≡ agrees t u
+other_agrees t (Scalar k) other = refl
+other_agrees t (Structured ms) other = refl
+other_agrees t (Array bs u) other = absurd (other refl)
+other_agrees t NoType other = refl
 
 pub array_takes : (t u : DataType) (element : Bool) → form_of u ≡ forms.Array → takes_array t element u ≡ agrees t (element_of u)
 array_takes t (Scalar k) element form = absurd (let d : forms.Scalar k ≡ forms.Array = form in cc)

@@ -4,7 +4,7 @@ ghost use Rattle.std.specs.List.{slice_get};
 ghost use Rattle.efl_tree.specs.Syntax.{EflExpr};
 ghost use Rattle.efl_scope.specs.DataTypes.{DataType as TypeSeen};
 ghost use Rattle.efl_types.specs.Signatures.{Names as NamesSeen, Callee as CalleeSeen, gives_type, called_type as called_type_seen};
-ghost use Rattle.efl_types.specs.Expressions.{element_of, gives_value as gives_value_seen, takes_array as takes_array_seen, takes_actual as takes_actual_seen};
+ghost use Rattle.efl_types.specs.Expressions.{element_of, gives_value as gives_value_seen, takes_array as takes_array_seen, takes_other as takes_other_seen, takes_actual as takes_actual_seen};
 ghost use Rattle.efl_scoped.specs.Numbers.{Table};
 ghost use Rattle.efl_scoped.specs.Told.{Tells};
 ghost use Rattle.efl_expressions.specs.declared.types.Structure as structures;
@@ -15,7 +15,7 @@ ghost use Rattle.efl_places.specs.Checks.{IsTyped, takes_if};
 
 use crate::Typed;
 use crate::typed::scalar_type;
-use efl_expressions::{DataType, Form, Structures, agrees, fits, form, nothing};
+use efl_expressions::{DataType, Form, Structures, agrees, fits, form, is_faulty, nothing};
 use efl_names::{Callee, Outcome};
 use efl_scoped::Summary;
 use ground::Kind;
@@ -76,7 +76,17 @@ fn takes_actual<'a>(structures: &Structures<'a>, formal: &DataType<'a>, actual: 
 {
     match form(formal) {
         Form::Array => takes_array(structures, structures.element(formal).summary, actual),
-        _ => agrees(formal.summary, actual.kind.summary),
+        _ => takes_other(formal.summary, &actual.kind),
+    }
+}
+
+/// Whether a formal that is no array takes an actual.
+fn takes_other(formal: Summary, actual: &DataType) -> bool
+    ensures { (f : Table) (ss : List structures.Structure) (t u : TypeSeen) → TellsApart f → Tells f t formal → IsType f ss u actual.now → result ≡ takes_other_seen t u }
+{
+    match form(actual) {
+        Form::Array => is_faulty(formal),
+        _ => agrees(formal, actual.summary),
     }
 }
 

@@ -4,7 +4,7 @@ use Rattle.std.specs.Prelude.{ℕ, ◌==◌, Bool, true, false, not, ◌&&◌, �
 use Rattle.ground.specs.declared.value.Kind.{Kind}
 use Rattle.ground.specs.declared.value.Kind.TheVariants as kinds
 use Rattle.efl_tree.specs.Syntax.{Text, EflExpr, Int, Truth, At, Call, Group, Plus, Minus, Not, Up, Down, Pair, Assign, EflExprs, NoExpr, AndExpr, EflPlace, Path, EflSteps, NoStep, Member, Overlay}
-use Rattle.efl_scope.specs.DataTypes.{DataType, Structured, Array, NoType, Members, NoMember, AndMember, is_large, agrees}
+use Rattle.efl_scope.specs.DataTypes.{DataType, Structured, Array, NoType, Members, NoMember, AndMember, is_large, is_faulty, agrees}
 use Rattle.efl_scope.specs.Scopes.{Meaning, meaning, implicit_type, shape_named, structured}
 use Rattle.efl_types.specs.declared.rule.TypeRule.{TypeRule}
 use Rattle.efl_types.specs.declared.rule.TypeRule.TheVariants.{OutOfProfileType, TypeClash, WrongCount, MissingUnit, NotAssignable, LargeVariable}
@@ -91,9 +91,14 @@ takes_array t element (Array bs u) = agrees t u
 takes_array t element NoType = true
 takes_array t element u = element && agrees t u
 
+-- what is no array takes no whole array, unless it has a fault itself
+abbrev pub takes_other : DataType → DataType → Bool
+takes_other t (Array bs u) = is_faulty t
+takes_other t u = agrees t u
+
 abbrev pub takes_actual : Names → DataType → EflExpr → Bool
 takes_actual n (Array bs t) e = takes_array t (is_element n e) (type_of n e)
-takes_actual n t e = agrees t (type_of n e)
+takes_actual n t e = takes_other t (type_of n e)
 
 -- pair by pair, up to the shorter list
 abbrev pub take_actuals : Names → List DataType → EflExprs → Bool

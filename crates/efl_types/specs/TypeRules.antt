@@ -1,6 +1,6 @@
 -- The rules of types, and the first fault by them: over all procedures, the first part in reading order that breaks a rule, and of its
 -- rules that with the smallest number.
-use Rattle.std.specs.Prelude.{ℕ, ◌+◌, ◌*◌, nat_lt, nat_eq, Bool, ◌&&◌, List, [], ◌∷◌, sum, length, unwrap_or, map, flat_map, Option, option_map}
+use Rattle.std.specs.Prelude.{ℕ, ◌+◌, ◌*◌, nat_lt, nat_eq, Bool, ◌&&◌, List, [], ◌∷◌, ◌++◌, sum, length, unwrap_or, map, flat_map, Option, option_map}
 use Rattle.std.specs.List.{list_any, slice_get}
 use Rattle.ground.specs.FaultNames.{fault_number}
 use Rattle.ground.specs.declared.fault.Fault.{Fault}
@@ -15,6 +15,7 @@ use Rattle.efl_scope.specs.FirstFault.{with_earlier}
 use Rattle.efl_types.specs.declared.rule.TypeRule.{TypeRule}
 use Rattle.efl_types.specs.declared.rule.TypeRule.TheVariants.{OutOfProfileType, TypeClash, WrongCount, DuplicateCase, BadConstant, MissingUnit, BadFormat, NotAssignable, InitialTwice, LargeVariable, ManyValues}
 use Rattle.efl_types.specs.Signatures.{Names, signatures, result_of}
+use Rattle.efl_types.specs.Expressions.{when}
 use Rattle.efl_types.specs.Statements.{value_faults, statement_faults, clause_faults}
 use Rattle.efl_types.specs.Declarations.{variable_sizes, header_faults}
 use Rattle.efl_types.specs.Presets.{Filled, preset_faults, filled, many_values, meets_earlier}
@@ -99,10 +100,13 @@ passes_limit earlier v = nat_lt 0 (part_values v) && nat_lt 32767 (sum (map part
 abbrev pub tells : TypeRule → List TypeRule → Bool
 tells r rs = list_any (λ s. nat_eq (rule_number r) (rule_number s)) rs
 
+-- all rules that a part breaks, by itself and behind earlier ones
+abbrev pub broken_rules : List EflProcedure → List Part → Part → List TypeRule
+broken_rules us earlier v =
+    part_faults us v ++ when (meets_earlier (flat_map (part_fills us) earlier) (part_fills us v)) InitialTwice ++ when (passes_limit earlier v) ManyValues
+
 abbrev pub breaks : List EflProcedure → List Part → Part → TypeRule → Bool
-breaks us earlier v InitialTwice = meets_earlier (flat_map (part_fills us) earlier) (part_fills us v)
-breaks us earlier v ManyValues = passes_limit earlier v
-breaks us earlier v r = tells r (part_faults us v)
+breaks us earlier v r = tells r (broken_rules us earlier v)
 
 abbrev pub breaks_with : List EflProcedure → List Part × Part → TypeRule → Bool
 breaks_with us t r = breaks us t.0 t.1 r
@@ -111,8 +115,12 @@ abbrev pub fault_of : (List Part × Part) × TypeRule → Fault
 fault_of b = record { kind = kind_of b.1; place = b.0.1.place; number = limit_of b.1 }
 
 -- of a program whose scopes have no fault
+-- of these parts in reading order
+abbrev pub first_in : List EflProcedure → List Part → Option Fault
+first_in us vs = option_map fault_of (first_part (breaks_with us) type_rules (with_earlier [] vs))
+
 abbrev pub first_fault : EflProgram → Option Fault
-first_fault p = option_map fault_of (first_part (breaks_with p.procedures) type_rules (with_earlier [] (program_parts p)))
+first_fault p = first_in p.procedures (program_parts p)
 
 -- the same as a relation: the part with this number is the first one with a fault, and the rule its smallest
 abbrev pub IsFirstFault : EflProgram → ℕ → TypeRule → Type 0

@@ -6,5 +6,5 @@ use Rattle.efl_places.proofs.actuals.takes_actual.Goals as goal
 
 pub returns-in_default : goal.returns-in_default
 returns-in_default c = λ f n t e apart formal actual.
-    c.agrees.ensures f t (type_of n e) apart formal.told actual.kind.told
+    c.takes_other.ensures f c.args.structures.now.list.items t (type_of n e) apart formal.told actual.kind
     ∙ sym (other_actual n t e (λ is. c.in_default.not-Array (sym (c.form.ensures f c.args.structures.now.list.items t formal) ∙ is)))
