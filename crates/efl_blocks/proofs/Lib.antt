@@ -6,3 +6,4 @@ pub mod ShapeLemmas
 pub mod DeclaredLemmas
 pub mod OuterLemmas
 pub mod ProcedureLemmas
+pub mod HomeLemmas

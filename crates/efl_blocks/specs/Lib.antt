@@ -4,3 +4,4 @@ pub mod Made
 pub mod DeclaredViews
 pub mod OuterViews
 pub mod ProcedureViews
+pub mod HomeViews

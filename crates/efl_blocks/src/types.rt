@@ -113,7 +113,7 @@ pub fn with_bounds<'a>(
 }
 
 /// Members of one type come, with what is told of those so far.
-fn take_members<'a>(
+pub fn take_members<'a>(
     before: Summary,
     kind: DataType<'a>,
     list: &'a [EflVar],
@@ -146,7 +146,7 @@ fn add_members<'a>(
 }
 
 /// A structure of these members comes.
-fn add_structure<'a>(
+pub fn add_structure<'a>(
     summary: Summary,
     members: Vec<Member<'a>>,
     types: &mut Types<'a>,
