@@ -3,3 +3,6 @@ mod ActLemmas
 mod WidthLemmas
 mod KindLemmas
 mod BoundLemmas
+mod VariableLemmas
+mod HeaderLemmas
+mod ClauseLemmas

@@ -8,7 +8,7 @@ ghost use Rattle.efl_types.specs.Statements.{edited as edited_seen, width as wid
 ghost use Rattle.efl_scoped.specs.Numbers.{Table};
 ghost use Rattle.efl_expressions.specs.FirstRule.{first_rule};
 ghost use Rattle.efl_names.specs.NameViews.{Stands};
-ghost use Rattle.efl_statements.specs.Widths.{room_after, fit_into};
+ghost use Rattle.efl_statements.specs.Widths.{room_after};
 
 use efl_expressions::lower;
 use efl_names::Names;

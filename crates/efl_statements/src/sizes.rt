@@ -1,5 +1,5 @@
 // The bounds of variables, and how large they are.
-ghost use Rattle.std.specs.Prelude.{◌≡◌, ◌||◌, ◌&&◌, not};
+ghost use Rattle.std.specs.Prelude.{◌≡◌, ◌&&◌, not};
 ghost use Rattle.std.specs.List.{list_any};
 ghost use Rattle.efl_tree.specs.Syntax.{EflVar};
 ghost use Rattle.efl_scope.specs.DataTypes.{DataType, is_closed as is_closed_seen};
@@ -10,6 +10,7 @@ ghost use Rattle.efl_scoped.specs.Told.{Tells};
 ghost use Rattle.efl_expressions.specs.FirstRule.{first_rule};
 ghost use Rattle.efl_statements.specs.Bounds.{is_bound as is_bound_seen};
 
+use crate::truths::{are_both, is_either};
 use efl_expressions::{lower, rule_if};
 use efl_names::is_large;
 use efl_scoped::Summary;
@@ -40,18 +41,6 @@ fn has_open(bounds: &[EflBound]) -> bool
     ensures { result ≡ list_any is_open_seen bounds.now }
 {
     bounds.iter().any(|bound| is_open(*bound))
-}
-
-fn is_either(one: bool, other: bool) -> bool
-    ensures { result ≡ (one || other) }
-{
-    one || other
-}
-
-fn are_both(one: bool, other: bool) -> bool
-    ensures { result ≡ (one && other) }
-{
-    one && other
 }
 
 /// Whether no lower bound is above its upper one, and `*` stands as the last bound of a formal alone.
