@@ -1,14 +1,16 @@
 -- Values that are counted up to the limit.
-use Rattle.std.proofs.Common.{◌≡◌, ◌≤◌, ◌<◌, ℕ, ◌+◌, min, nat_lt, Bool, true, false, ◌&&◌, List, length, drop, get_or, map, sum, sum_by, Option, Some, None, refl, sym, ap, ◌∙◌, arith}
+use Rattle.std.proofs.Common.{◌≡◌, ◌≤◌, ◌<◌, ℕ, zero, suc, ◌+◌, min, nat_lt, Bool, true, false, ◌&&◌, if◌then◌else◌, List, [], length, drop, get_or, map, sum, sum_by, Option, Some, None, refl, sym, ap, ◌∙◌, arith}
 use Rattle.std.specs.Option.{option_map}
 use Rattle.std.proofs.lemmas.List.{drop_all, drop_more}
 use Rattle.std.proofs.lemmas.List.Sums.{sum_by-cons}
+use Rattle.rule_table.specs.Words.{is_some_and}
+use Rattle.ground.specs.declared.value.Kind.{Kind}
 use Rattle.efl_tree.specs.declared.declaration.EflConst.{EflConst}
 use Rattle.efl_tree.specs.declared.declaration.EflPreset as memory
 use Rattle.efl_tree.specs.Views.{preset_of}
 use Rattle.efl_scope.specs.DataTypes.{DataType, places, is_large}
 use Rattle.efl_scope.proofs.TreeLemmas.{drop_next}
-use Rattle.efl_types.specs.Presets.{many_values, overflows, kinds_of, kinds_from, misfit}
+use Rattle.efl_types.specs.Presets.{many_values, kinds_of, kinds_if_small, kinds_from, misfit}
 use Rattle.efl_scoped.specs.Told.{capped}
 use Rattle.efl_initial_values.specs.Filling.{Values}
 use Rattle.efl_initial_values.proofs.KindLemmas.{many_kinds}
@@ -43,14 +45,14 @@ presets_counted ps i before r past so_far is = last before r (capped (counted_of
 
 -- ---- more values than places ----
 
-pub no_overflow : (t : DataType) (n : ℕ) (o : Option ℕ) → None ≡ option_map capped o → false ≡ overflows t n o
-no_overflow t n o none = sym (ap (overflows t n) (none_of o none))
+pub no_overflow : (t : DataType) (n : ℕ) (o : Option ℕ) → None ≡ option_map capped o → false ≡ is_some_and (λ i. nat_lt (places t) (i + n)) o
+no_overflow t n o none = sym (ap (is_some_and (λ i. nat_lt (places t) (i + n))) (none_of o none))
 
 pub overflow_is : (t : DataType) (n places' values i sum' : ℕ) (o : Option ℕ) → places' ≡ places t → places' ≤ 32767 → values ≡ capped n → Some i ≡ option_map capped o → sum' ≡ capped (i + values) →
-    nat_lt places' sum' ≡ overflows t n o
+    nat_lt places' sum' ≡ is_some_and (λ j. nat_lt (places t) (j + n)) o
 overflow_is t n p values i s o is few counted found total =
     let exact = some_of o i found in
-    each p exact.number n i values s few exact.same counted total ∙ ap (λ q. nat_lt q (exact.number + n)) is ∙ sym (ap (overflows t n) exact.is)
+    each p exact.number n i values s few exact.same counted total ∙ ap (λ q. nat_lt q (exact.number + n)) is ∙ sym (ap (is_some_and (λ j. nat_lt (places t) (j + n))) exact.is)
   where
     each : (p j n i values s : ℕ) → p ≤ 32767 → i ≡ capped j → values ≡ capped n → s ≡ capped (i + values) → nat_lt p s ≡ nat_lt p (j + n)
     each p j n i values s few one two three = let same : capped s ≡ capped (j + n) = omega (arith, one, two, three) in let low : s ≤ 32768 = omega (arith, three) in grind (arith, few, same, low)
@@ -67,14 +69,29 @@ drop_capped t i few = each (nat_lt 32768 i) refl
         drop_all (capped i) (kinds_of t) (omega (arith, long, large)) ∙ sym (drop_all i (kinds_of t) (omega (arith, long, large)))
     each false is = let low : capped i ≡ i = (let h : i ≤ 32768 = grind (arith, is) in omega (arith, h)) in ap (λ n. drop n (kinds_of t)) low
 
-pub kinds_none : (t p : DataType) (cs : Values) (o : Option ℕ) → None ≡ option_map capped o → misfit (kinds_of p) cs ≡ misfit (kinds_from o t p) cs
+small_capped : (t : DataType) (i : ℕ) → drop (capped i) (kinds_if_small t) ≡ drop i (kinds_if_small t)
+small_capped t i = each (is_large t) refl
+  where
+    nothing : (i : ℕ) → drop {A = Kind} i [] ≡ []
+    nothing zero = refl
+    nothing (suc i) = refl
+
+    each : (b : Bool) → is_large t ≡ b → drop (capped i) (kinds_if_small t) ≡ drop i (kinds_if_small t)
+    each true large =
+        let none : kinds_if_small t ≡ [] = ap (λ b. if b then [] else kinds_of t) large in
+        ap (drop (capped i)) none ∙ nothing (capped i) ∙ sym (ap (drop i) none ∙ nothing i)
+    each false small =
+        let all : kinds_if_small t ≡ kinds_of t = ap (λ b. if b then [] else kinds_of t) small in
+        let few : places t ≤ 32767 = grind (arith, small) in
+        ap (drop (capped i)) all ∙ drop_capped t i few ∙ sym (ap (drop i) all)
+
+pub kinds_none : (t p : DataType) (cs : Values) (o : Option ℕ) → None ≡ option_map capped o → misfit (kinds_if_small p) cs ≡ misfit (kinds_from o t p) cs
 kinds_none t p cs o none = sym (ap (λ x. misfit (kinds_from x t p) cs) (none_of o none))
 
-pub kinds_some : (t p : DataType) (cs : Values) (o : Option ℕ) (i : ℕ) → Some i ≡ option_map capped o → is_large t ≡ false → misfit (drop i (kinds_of t)) cs ≡ misfit (kinds_from o t p) cs
-kinds_some t p cs o i found small =
+pub kinds_some : (t p : DataType) (cs : Values) (o : Option ℕ) (i : ℕ) → Some i ≡ option_map capped o → misfit (drop i (kinds_if_small t)) cs ≡ misfit (kinds_from o t p) cs
+kinds_some t p cs o i found =
     let exact = some_of o i found in
-    let few : places t ≤ 32767 = grind (arith, small) in
-    ap (λ n. misfit (drop n (kinds_of t)) cs) exact.same ∙ ap (λ ks. misfit ks cs) (drop_capped t exact.number few) ∙ sym (ap (λ x. misfit (kinds_from x t p) cs) exact.is)
+    ap (λ n. misfit (drop n (kinds_if_small t)) cs) exact.same ∙ ap (λ ks. misfit ks cs) (small_capped t exact.number) ∙ sym (ap (λ x. misfit (kinds_from x t p) cs) exact.is)
 
 -- ---- presets ----
 

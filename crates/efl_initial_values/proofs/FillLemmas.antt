@@ -1,5 +1,5 @@
 -- Ranges that were filled: which one is the last before a place, whether one more meets them, and what is noted with it.
-use Rattle.std.proofs.Common.{◌≡◌, ◌<◌, ◌≤◌, ◌+◌, ℕ, nat_eq, nat_lt, Bool, true, false, not, ◌&&◌, ◌||◌, cond, List, [], ◌∷◌, Option, Some, None, IsSome, max, sym, subst, ap, ◌∙◌, refl, arith, if◌then◌else◌}
+use Rattle.std.proofs.Common.{◌≡◌, ◌<◌, ◌≤◌, ◌+◌, ℕ, nat_eq, nat_lt, Bool, true, false, not, ◌&&◌, ◌||◌, cond, List, [], ◌∷◌, ◌++◌, Option, Some, None, IsSome, min, max, sym, subst, ap, ◌∙◌, refl, arith, if◌then◌else◌}
 use Rattle.std.specs.List.{list_any}
 use Rattle.std.specs.declared.cmp.Ordering.{Ordering}
 use Rattle.std.specs.declared.cmp.Ordering.TheVariants.{Less, Equal, Greater}
@@ -11,7 +11,7 @@ use Rattle.std.specs.BTreeMap.Range.{IsInRange, IsEntryInRange}
 use Rattle.std.proofs.lemmas.Cmp.{ranked, tied_itself, nat_cmp_total}
 use Rattle.rule_table.specs.Words.{is_some_and}
 use Rattle.efl_types.specs.Presets.{Owner, Filled, same_owner, meet}
-use Rattle.efl_initial_values.specs.Fills.{Ends, by_both, ends_of, AreNumbers, IsWithin, AreWithin, is_range, Notes, IsLast, LastBefore, IsClear, IsMet, longer, Extends}
+use Rattle.efl_initial_values.specs.Fills.{Ends, by_both, ends_of, AreCodes, IsWithin, AreWithin, is_range, Notes, IsLast, LastBefore, IsClear, IsMet, longer, Extends}
 
 -- ---- the order of pairs ----
 
@@ -111,12 +111,19 @@ there : (s : Bool) (x y n a e c d first end : ℕ) → s ≡ nat_eq x y → x �
     (s && (nat_lt first (c + d) && nat_lt c end)) ≡ true
 there s x y n a e c d first end same is range l h = grind (arith, same, is, range, l, h)
 
-pub met_any : (number : Owner → ℕ) (ends : Ends) (f : Filled) (fs : List Filled) (n : ℕ) → AreNumbers number → number f.owner ≡ n → Notes number ends fs →
+-- the number of a range's owner
+ranged : (n : ℕ) (o : Option ℕ) (r : Bool) → (is_some_and (λ m. nat_eq m n) o && r) ≡ true → (m : ℕ) × (o ≡ Some m) × ((nat_eq m n && r) ≡ true)
+ranged n None r is = absurd cc
+ranged n (Some m) r is = (m, refl, is)
+
+pub met_any : (code : Owner → Option ℕ) (ends : Ends) (f : Filled) (fs : List Filled) (n : ℕ) → AreCodes code → code f.owner ≡ Some n → Notes code ends fs →
     IsMet ends n f.first (f.first + f.many) → list_any (meet f) fs ≡ true
-met_any number ends f fs n numbers is notes met =
-    any_more (is_range number n met.place met.last) (meet f)
-    (λ g range. there (same_owner f.owner g.owner) (number f.owner) (number g.owner) n met.place met.last g.first g.many f.first (f.first + f.many) (numbers f.owner g.owner) is range met.before met.behind)
-    fs (notes.known n met.place met.last met.is)
+met_any code ends f fs n codes is notes met = any_more (is_range code n met.place met.last) (meet f) each fs (notes.known n met.place met.last met.is)
+  where
+    each : (g : Filled) → is_range code n met.place met.last g ≡ true → meet f g ≡ true
+    each g range =
+        let at = ranged n (code g.owner) (nat_eq g.first met.place && nat_eq (g.first + g.many) met.last) range in
+        there (same_owner f.owner g.owner) n at.0 n met.place met.last g.first g.many f.first (f.first + f.many) (codes f.owner g.owner n at.0 is at.1) refl at.2 met.before met.behind
 
 away : (s : Bool) (x y c d first end : ℕ) → s ≡ nat_eq x y → (y ≡ x → c < end → c + d ≤ first) → (s && (nat_lt first (c + d) && nat_lt c end)) ≡ false
 away false x y c d first end same far = refl
@@ -126,15 +133,19 @@ away true x y c d first end same far = by (nat_lt c end) refl
     by true e = let l = far (grind (arith, same)) (grind (arith, e)) in grind (arith, l)
     by false e = grind (arith, e)
 
-pub clear_any : (number : Owner → ℕ) (ends : Ends) (f : Filled) (fs : List Filled) (n : ℕ) → AreNumbers number → number f.owner ≡ n → AreWithin number ends fs →
+pub clear_any : (code : Owner → Option ℕ) (ends : Ends) (f : Filled) (fs : List Filled) (n : ℕ) → AreCodes code → code f.owner ≡ Some n → AreWithin code ends fs →
     IsClear ends n f.first (f.first + f.many) → list_any (meet f) fs ≡ false
-clear_any number ends f [] n numbers is all clear = refl
-clear_any number ends f (g ∷ fs) n numbers is all clear =
-    ap (λ r. r || list_any (meet f) fs) (away (same_owner f.owner g.owner) (number f.owner) (number g.owner) g.first g.many f.first (f.first + f.many) (numbers f.owner g.owner) far)
-    ∙ clear_any number ends f fs n numbers is all.1 clear
+clear_any code ends f [] n codes is all clear = refl
+clear_any code ends f (g ∷ fs) n codes is all clear =
+    ap (λ r. r || list_any (meet f) fs) (away (same_owner f.owner g.owner) n all.0.number g.first g.many f.first (f.first + f.many) (codes f.owner g.owner n all.0.number is all.0.is) far)
+    ∙ clear_any code ends f fs n codes is all.1 clear
   where
-    far : number g.owner ≡ number f.owner → g.first < f.first + f.many → g.first + g.many ≤ f.first
-    far same l = let d = all.0.0 in let first = clear g.first d (sym (ap (λ m. ends m g.first) (same ∙ is)) ∙ all.0.1) l in let second = all.0.2 in omega (arith, first, second)
+    far : all.0.number ≡ n → g.first < f.first + f.many → g.first + g.many ≤ f.first
+    far same l =
+        let d = all.0.within.0 in
+        let first = clear g.first d (sym (ap (λ m. ends m g.first) same) ∙ all.0.within.1) l in
+        let second = all.0.within.2 in
+        omega (arith, first, second)
 
 -- ---- what is noted with one more ----
 
@@ -172,10 +183,12 @@ stays old new n first end extends m a e w = by (nat_eq n m && nat_eq first a) re
         (max w.0 end, extends m a ∙ ap (λ r. if r then longer (old n first) end else old m a) h ∙ ap (λ o. longer o end) (ap (λ k. old k first) same.0 ∙ ap (old m) same.1 ∙ w.1), omega (arith, few))
     by false h = (w.0, extends m a ∙ ap (λ r. if r then longer (old n first) end else old m a) h ∙ w.1, w.2)
 
-all_stay : (number : Owner → ℕ) (old new : Ends) (n first end : ℕ) → Extends old n first end new → (fs : List Filled) → AreWithin number old fs → AreWithin number new fs
-all_stay number old new n first end extends [] all = tt
-all_stay number old new n first end extends (f ∷ fs) all =
-    (stays old new n first end extends (number f.owner) f.first (f.first + f.many) all.0, all_stay number old new n first end extends fs all.1)
+all_stay : (code : Owner → Option ℕ) (old new : Ends) (n first end : ℕ) → Extends old n first end new → (fs : List Filled) → AreWithin code old fs → AreWithin code new fs
+all_stay code old new n first end extends [] all = tt
+all_stay code old new n first end extends (f ∷ fs) all = (
+  record { number = all.0.number; is = all.0.is; within = stays old new n first end extends all.0.number f.first (f.first + f.many) all.0.within },
+  all_stay code old new n first end extends fs all.1,
+)
 
 new_within : (old new : Ends) (n first end : ℕ) → Extends old n first end new → IsWithin new n first end
 new_within old new n first end extends = by (old n first) refl
@@ -190,10 +203,10 @@ new_within old new n first end extends = by (old n first) refl
     by None e = (end, here ∙ ap (λ o. longer o end) e, omega arith)
     by (Some d) e = (max d end, here ∙ ap (λ o. longer o end) e, omega arith)
 
-pub noted : (number : Owner → ℕ) (old new : Ends) (f : Filled) (fs : List Filled) (n : ℕ) → number f.owner ≡ n → Notes number old fs → IsClear old n f.first (f.first + f.many) →
-    Extends old n f.first (f.first + f.many) new → Notes number new (f ∷ fs)
-noted number old new f fs n is notes clear extends = record {
-  within = (subst (λ m. IsWithin new m first end) (sym is) (new_within old new n first end extends), all_stay number old new n first end extends fs notes.within);
+pub noted : (code : Owner → Option ℕ) (old new : Ends) (f : Filled) (fs : List Filled) (n : ℕ) → code f.owner ≡ Some n → Notes code old fs → IsClear old n f.first (f.first + f.many) →
+    Extends old n f.first (f.first + f.many) new → Notes code new (f ∷ fs)
+noted code old new f fs n is notes clear extends = record {
+  within = (record { number = n; is = is; within = new_within old new n first end extends }, all_stay code old new n first end extends fs notes.within);
   known = λ m a e at. known m a e (from m a e at);
   apart = λ m a b d e one two l. apart m a b d e (from m a d one) (from m b e two) l;
   forward = λ m a e at. forward m a e (from m a e at);
@@ -208,9 +221,11 @@ noted number old new f fs n is notes clear extends = record {
     from : (m a e : ℕ) → new m a ≡ Some e → Comes old n first end m a e
     from = comes old new n first end extends
 
-    known : (m a e : ℕ) → Comes old n first end m a e → list_any (is_range number m a e) (f ∷ fs) ≡ true
-    known m a e (Before at) = ap (λ r. is_range number m a e f || r) (notes.known m a e at) ∙ or_true (is_range number m a e f)
-    known m a e (Anew one two three) = ap (λ r. r || list_any (is_range number m a e) fs) (itself (number f.owner) m f.first a (f.first + f.many) e (is ∙ one) two (sym three))
+    known : (m a e : ℕ) → Comes old n first end m a e → list_any (is_range code m a e) (f ∷ fs) ≡ true
+    known m a e (Before at) = ap (λ r. is_range code m a e f || r) (notes.known m a e at) ∙ or_true (is_range code m a e f)
+    known m a e (Anew one two three) =
+        ap (λ r. r || list_any (is_range code m a e) fs)
+        (ap (λ o. is_some_and (λ k. nat_eq k m) o && (nat_eq f.first a && nat_eq (f.first + f.many) e)) is ∙ itself n m f.first a (f.first + f.many) e one two (sym three))
       where
         itself : (x y z w u v : ℕ) → x ≡ y → z ≡ w → u ≡ v → (nat_eq x y && (nat_eq z w && nat_eq u v)) ≡ true
         itself x y z w u v i j k = grind (arith, i, j, k)
@@ -232,7 +247,56 @@ noted number old new f fs n is notes clear extends = record {
 pub at_range : (P : ℕ → ℕ → Type 0) (f : Filled) (first many : ℕ) → f.first ≡ first → f.many ≡ many → P first (first + many) → P f.first (f.first + f.many)
 at_range P f first many one two p = subst (λ a. P a (a + f.many)) (sym one) (subst (λ m. P first (first + m)) (sym two) p)
 
+-- ---- the order of ranges, and numbers that come ----
+
+within_both : (code : Owner → Option ℕ) (ends : Ends) (fs gs : List Filled) → AreWithin code ends fs → AreWithin code ends gs → AreWithin code ends (fs ++ gs)
+within_both code ends [] gs all others = others
+within_both code ends (f ∷ fs) gs all others = (all.0, within_both code ends fs gs all.1 others)
+
+any_last : (p : Filled → Bool) (f : Filled) (fs : List Filled) → list_any p (fs ++ f ∷ []) ≡ list_any p (f ∷ fs)
+any_last p f [] = refl
+any_last p f (g ∷ fs) = ap (λ r. p g || r) (any_last p f fs) ∙ turned (p g) (p f) (list_any p fs)
+  where
+    turned : (a b c : Bool) → (a || (b || c)) ≡ (b || (a || c))
+    turned true true c = refl
+    turned true false c = refl
+    turned false b c = refl
+
+-- what stands in front may stand behind
+pub notes_last : (code : Owner → Option ℕ) (ends : Ends) (f : Filled) (fs : List Filled) → Notes code ends (f ∷ fs) → Notes code ends (fs ++ f ∷ [])
+notes_last code ends f fs notes = record {
+  within = within_both code ends fs (f ∷ []) notes.within.1 (notes.within.0, tt);
+  known = λ n a e is. any_last (is_range code n a e) f fs ∙ notes.known n a e is;
+  apart = notes.apart;
+  forward = notes.forward;
+}
+
+pub any_behind : (g f : Filled) (fs : List Filled) → list_any (meet g) (fs ++ f ∷ []) ≡ list_any (meet g) (f ∷ fs)
+any_behind g f fs = any_last (meet g) f fs
+
+within_later : (code later : Owner → Option ℕ) (ends : Ends) → ((o : Owner) (n : ℕ) → code o ≡ Some n → later o ≡ Some n) → (fs : List Filled) → AreWithin code ends fs → AreWithin later ends fs
+within_later code later ends more [] all = tt
+within_later code later ends more (f ∷ fs) all =
+    (record { number = all.0.number; is = more f.owner all.0.number all.0.is; within = all.0.within }, within_later code later ends more fs all.1)
+
+pub notes_later : (code later : Owner → Option ℕ) (ends : Ends) (fs : List Filled) → ((o : Owner) (n : ℕ) → code o ≡ Some n → later o ≡ Some n) → Notes code ends fs → Notes later ends fs
+notes_later code later ends fs more notes = record {
+  within = within_later code later ends more fs notes.within;
+  known = λ n a e is. any_more (is_range code n a e) (is_range later n a e) (each n a e) fs (notes.known n a e is);
+  apart = notes.apart;
+  forward = notes.forward;
+}
+  where
+    each : (n a e : ℕ) (g : Filled) → is_range code n a e g ≡ true → is_range later n a e g ≡ true
+    each n a e g range =
+        let r : Bool = nat_eq g.first a && nat_eq (g.first + g.many) e in
+        let at = ranged n (code g.owner) r range in
+        ap (λ o. is_some_and (λ m. nat_eq m n) o && r) (more g.owner at.0 at.1) ∙ at.2
+
 -- ---- an end that comes in memory ----
+
+pub exact_end : (first many end : ℕ) → end ≡ min (first + many) 18446744073709551615 → first + many < 18446744073709551616 → end ≡ first + many
+exact_end first many end is low = omega (arith, is, low)
 
 pub comes_new : (m new : BTreeMap (ℕ × ℕ) ℕ) (n first end : ℕ) → is_some_and (λ e. not (nat_lt e end)) (ends_of m n first) ≡ false →
     ((q : ℕ × ℕ) → get by_both new q ≡ cond (is_eq (by_both (n, first) q)) (Some end) (get by_both m q)) → Extends (ends_of m) n first end (ends_of new)

@@ -8,3 +8,6 @@ pub mod CountLemmas
 pub mod PresetLemmas
 pub mod FillLemmas
 pub mod RoomLemmas
+pub mod OwnerLemmas
+pub mod VariableLemmas
+pub mod AreaLemmas

@@ -1,16 +1,16 @@
 -- A place that is found lies in its variable.
 use Rattle.std.proofs.Common.{◌≡◌, ◌≤◌, ◌<◌, ℕ, suc, ◌+◌, ◌*◌, ◌-◌, min, Bool, true, false, ◌&&◌, List, [], ◌∷◌, length, Option, Some, None, refl, sym, ap, subst, ◌∙◌, arith, if◌then◌else◌}
-use Rattle.std.specs.Prelude.{ℤ, ◌-ℤ◌, unsigned_abs, int_le, int_lt, ◌==◌}
+use Rattle.std.specs.Prelude.{option_to_list, ℤ, ◌-ℤ◌, unsigned_abs, int_le, int_lt, ◌==◌}
 use Rattle.std.specs.Option.{option_map, option_and_then}
 use Rattle.std.specs.Str.{bytes_eq}
 use Rattle.efl_tree.specs.declared.declaration.EflBound.{EflBound}
 use Rattle.efl_tree.specs.Syntax.{Text, EflExprs, NoExpr, AndExpr, EflPlace, Path, EflSteps, NoStep, Member, Overlay}
-use Rattle.efl_scope.specs.DataTypes.{DataType, Scalar, Structured, Array, NoType, Members, NoMember, AndMember, low_of, many_from, is_from, elements, places, all_places}
+use Rattle.efl_scope.specs.DataTypes.{DataType, Scalar, Structured, Array, NoType, Members, NoMember, AndMember, low_of, many_from, is_from, elements, places, all_places, is_large}
 use Rattle.efl_types.specs.Signatures.{many}
 use Rattle.efl_types.specs.Types.{subscripted, in_members, member_type}
-use Rattle.efl_types.specs.Presets.{constant, steps_to, plus, elements_before, places_before, before_member, member_offset, offset_behind, offset, Filled}
+use Rattle.efl_types.specs.Presets.{constant, steps_to, plus, elements_before, places_before, before_member, member_offset, offset_behind, offset, Owner, Filled}
 use Rattle.efl_scoped.specs.Told.{capped}
-use Rattle.efl_initial_values.proofs.OffsetLemmas.{some_of}
+use Rattle.efl_initial_values.proofs.OffsetLemmas.{none_of, some_of}
 
 -- ---- parts of what is found ----
 
@@ -156,27 +156,39 @@ offset_room t (Path x es steps) i is =
 
 -- ---- the range that a preset fills ----
 
-pub filled_none : (F : ℕ → Filled) (o : Option ℕ) → None ≡ option_map capped o → (None ≡ option_map (λ i. (F i).first) o) × (None ≡ option_map (λ i. (F i).many) o)
-filled_none F None found = (refl, refl)
-filled_none F (Some i) found = absurd cc
+-- the range of a place
+abbrev pub range_at : Owner → DataType → ℕ → ℕ → Filled
+range_at o t all i = record { owner = o; first = i; many = min all (places t - i) }
 
-pub filled_some : (F : ℕ → Filled) (t : DataType) (p : EflPlace) (before all i places' values first more : ℕ) → ((j : ℕ) → (F j).first ≡ before + j) → ((j : ℕ) → (F j).many ≡ min all (places t - j)) →
-    places' ≡ places t → places' ≤ 32767 → values ≡ capped all → Some i ≡ option_map capped (offset t p) → first ≡ min (before + i) 18446744073709551615 → before + 32768 < 18446744073709551616 → more ≡ min values (places' - i) →
-    (Some first ≡ option_map (λ j. (F j).first) (offset t p)) × (Some more ≡ option_map (λ j. (F j).many) (offset t p))
-filled_some F t p before all i places' values first more firsts manies is few counted found one low two =
+abbrev pub ranges_at : Owner → DataType → ℕ → Option ℕ → List Filled
+ranges_at o t all found = if is_large t then [] else option_to_list (option_map (range_at o t all) found)
+
+pub large_none : (o : Owner) (t : DataType) (all : ℕ) (found : Option ℕ) → is_large t ≡ true → ranges_at o t all found ≡ []
+large_none o t all found large = ap (λ b. if b then [] else option_to_list (option_map (range_at o t all) found)) large
+
+pub filled_none : (o : Owner) (t : DataType) (all : ℕ) (found : Option ℕ) → is_large t ≡ false → None ≡ option_map capped found → ranges_at o t all found ≡ []
+filled_none o t all found small none =
+    ap (λ b. if b then [] else option_to_list (option_map (range_at o t all) found)) small ∙ ap (λ x. option_to_list (option_map (range_at o t all) x)) (none_of found none)
+
+pub filled_some : (o : Owner) (t : DataType) (p : EflPlace) (all i places' values more : ℕ) → is_large t ≡ false → places' ≡ places t → places' ≤ 32767 → values ≡ capped all →
+    Some i ≡ option_map capped (offset t p) → more ≡ min values (places' - i) → (ranges_at o t all (offset t p) ≡ record { owner = o; first = i; many = more } ∷ []) × (i + more < 65536)
+filled_some o t p all i places' values more small is few counted found two =
     let exact = some_of (offset t p) i found in
     let j = exact.number in
     let room = offset_room t p j exact.is in
     let same = exact_place j i (places t) places' exact.same room is few in (
-      ap Some (one ∙ sums before i j exact.same low ∙ ap (λ x. before + x) same ∙ sym (firsts j)) ∙ sym (ap (option_map (λ x. (F x).first)) exact.is),
-      ap Some (counts j i (places t) places' values all more same is few counted two ∙ sym (manies j)) ∙ sym (ap (option_map (λ x. (F x).many)) exact.is),
+      ap (λ b. if b then [] else option_to_list (option_map (range_at o t all) (offset t p))) small
+          ∙ ap (λ x. option_to_list (option_map (range_at o t all) x)) exact.is
+          ∙ ap (λ n. record { owner = o; first = n; many = min all (places t - j) } ∷ []) (sym same)
+          ∙ ap (λ n. record { owner = o; first = i; many = n } ∷ []) (sym (counts j i (places t) places' values all more same is few counted two)),
+      short i j (places t) places' values more same room is few two,
     )
   where
-    sums : (b i j : ℕ) → i ≡ capped j → b + 32768 < 18446744073709551616 → min (b + i) 18446744073709551615 ≡ b + i
-    sums b i j is low = omega (arith, is, low)
-
     exact_place : (j i p q : ℕ) → i ≡ capped j → j ≤ p → q ≡ p → q ≤ 32767 → i ≡ j
     exact_place j i p q one two three four = omega (arith, one, two, three, four)
+
+    short : (i j p q v m : ℕ) → i ≡ j → j ≤ p → q ≡ p → q ≤ 32767 → m ≡ min v (q - i) → i + m < 65536
+    short i j p q v m one two three four five = omega (arith, one, two, three, four, five)
 
     counts : (j i p q v a m : ℕ) → i ≡ j → q ≡ p → q ≤ 32767 → v ≡ capped a → m ≡ min v (q - i) → m ≡ min a (p - j)
     counts j i p q v a m one two three four five = omega (arith, one, two, three, four, five)

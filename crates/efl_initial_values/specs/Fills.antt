@@ -4,7 +4,9 @@ use Rattle.std.specs.List.{list_any}
 use Rattle.std.specs.BTreeMap.{BTreeMap, get}
 use Rattle.std.specs.declared.cmp.Ordering.{Ordering}
 use Rattle.std.specs.Ordering.{nat_cmp, ordering_then}
+use Rattle.rule_table.specs.Words.{is_some_and}
 use Rattle.efl_types.specs.Presets.{Owner, Filled, same_owner}
+use Rattle.efl_initial_values.specs.declared.fills.Range.{Range}
 
 abbrev pub Ends : Type 0
 Ends = ℕ → ℕ → Option ℕ
@@ -15,9 +17,9 @@ by_both x y = ordering_then (nat_cmp x.0 y.0) (nat_cmp x.1 y.1)
 abbrev pub ends_of : BTreeMap (ℕ × ℕ) ℕ → Ends
 ends_of table n a = get by_both table (n, a)
 
--- owners share a number where they are the same
-abbrev pub AreNumbers : (Owner → ℕ) → Type 0
-AreNumbers number = (a b : Owner) → same_owner a b ≡ nat_eq (number a) (number b)
+-- the codes of owners are equal where the owners are the same
+abbrev pub AreCodes : (Owner → Option ℕ) → Type 0
+AreCodes code = (a b : Owner) (m n : ℕ) → code a ≡ Some m → code b ≡ Some n → same_owner a b ≡ nat_eq m n
 
 -- ---- which ranges were noted ----
 
@@ -25,12 +27,17 @@ AreNumbers number = (a b : Owner) → same_owner a b ≡ nat_eq (number a) (numb
 abbrev pub IsWithin : Ends → ℕ → ℕ → ℕ → Type 0
 IsWithin ends n a e = (d : ℕ) × (ends n a ≡ Some d) × (e ≤ d)
 
-abbrev pub AreWithin : (Owner → ℕ) → Ends → List Filled → Type 0
-AreWithin number ends [] = ⊤
-AreWithin number ends (f ∷ fs) = IsWithin ends (number f.owner) f.first (f.first + f.many) × AreWithin number ends fs
+pub record IsNoted (code : Owner → Option ℕ) (ends : Ends) (f : Filled) : Type 0 where
+  pub number : ℕ
+  pub is : code f.owner ≡ Some number
+  pub within : IsWithin ends number f.first (f.first + f.many)
 
-abbrev pub is_range : (Owner → ℕ) → ℕ → ℕ → ℕ → Filled → Bool
-is_range number n a e f = nat_eq (number f.owner) n && (nat_eq f.first a && nat_eq (f.first + f.many) e)
+abbrev pub AreWithin : (Owner → Option ℕ) → Ends → List Filled → Type 0
+AreWithin code ends [] = ⊤
+AreWithin code ends (f ∷ fs) = IsNoted code ends f × AreWithin code ends fs
+
+abbrev pub is_range : (Owner → Option ℕ) → ℕ → ℕ → ℕ → Filled → Bool
+is_range code n a e f = is_some_and (λ m. nat_eq m n) (code f.owner) && (nat_eq f.first a && nat_eq (f.first + f.many) e)
 
 -- the ranges of an owner do not meet
 abbrev pub AreApart : Ends → Type 0
@@ -39,9 +46,9 @@ AreApart ends = (n a b d e : ℕ) → ends n a ≡ Some d → ends n b ≡ Some 
 abbrev pub AreForward : Ends → Type 0
 AreForward ends = (n a e : ℕ) → ends n a ≡ Some e → a ≤ e
 
-pub record Notes (number : Owner → ℕ) (ends : Ends) (fs : List Filled) : Type 0 where
-  pub within : AreWithin number ends fs
-  pub known : (n a e : ℕ) → ends n a ≡ Some e → list_any (is_range number n a e) fs ≡ true
+pub record Notes (code : Owner → Option ℕ) (ends : Ends) (fs : List Filled) : Type 0 where
+  pub within : AreWithin code ends fs
+  pub known : (n a e : ℕ) → ends n a ≡ Some e → list_any (is_range code n a e) fs ≡ true
   pub apart : AreApart ends
   pub forward : AreForward ends
 
@@ -80,3 +87,14 @@ longer (Some d) e = Some (max d e)
 
 abbrev pub Extends : Ends → ℕ → ℕ → ℕ → Ends → Type 0
 Extends old n first end new = (m a : ℕ) → new m a ≡ (if nat_eq n m && nat_eq first a then longer (old n first) end else old m a)
+
+-- ---- the range of a preset ----
+
+abbrev pub IsShort : Option Range → Type 0
+IsShort None = ⊤
+IsShort (Some r) = r.first + r.many < 65536
+
+-- a range in memory, of this owner
+abbrev pub range_of : Owner → Option Range → List Filled
+range_of o None = []
+range_of o (Some r) = record { owner = o; first = r.first; many = r.many } ∷ []

@@ -1,5 +1,6 @@
 -- The definitions that the contracts of efl_initial_values cite.
 pub mod Offsets
 pub mod Filling
-pub mod Fits
 pub mod Fills
+pub mod Owners
+pub mod Surveys

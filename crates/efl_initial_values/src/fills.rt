@@ -1,20 +1,20 @@
 // Which places presets have filled so far, by ranges of the places of each owner.
-ghost use Rattle.std.specs.Prelude.{◌≡◌, ◌<◌, ◌+◌, ◌^◌, ℕ, false, nat_lt, not, List, [], ◌∷◌, OnOk, IfOk};
+ghost use Rattle.std.specs.Prelude.{◌≡◌, ◌<◌, ◌+◌, ◌^◌, ℕ, Some, Option, false, nat_lt, not, List, [], ◌∷◌, OnOk, IfOk};
 ghost use Rattle.std.specs.List.{list_any};
-ghost use Rattle.std.specs.Option.{option_map};
 ghost use Rattle.rule_table.specs.Words.{is_some_and};
 ghost use Rattle.efl_tree.specs.Syntax.{EflProcedure};
 ghost use Rattle.efl_tree.specs.Views.{preset_of};
 ghost use Rattle.efl_scope.specs.Scopes.{meaning};
 ghost use Rattle.efl_types.specs.Signatures.{Names, variable_type};
-ghost use Rattle.efl_types.specs.Presets.{Owner, Filled, meet, first_name, before_variable, filled_from, offset as offset_seen};
+ghost use Rattle.efl_types.specs.Presets.{Owner, Filled, meet, first_name, owner_by, filled as filled_seen};
 ghost use Rattle.efl_scoped.specs.Numbers.{Table};
-ghost use Rattle.efl_initial_values.specs.Fits.{IsSmall};
-ghost use Rattle.efl_initial_values.specs.Fills.{ends_of, AreNumbers, Notes, LastBefore, Meets, Extends};
+ghost use Rattle.efl_expressions.specs.TypeViews.{IsType};
+ghost use Rattle.efl_initial_values.specs.Fills.{ends_of, AreCodes, Notes, LastBefore, Meets, Extends, IsShort, range_of};
 
 use crate::counts::count_values;
 use crate::offsets::offset;
 use efl_expressions::{DataType, Structures};
+use efl_names::is_large;
 use efl_tree::EflPreset;
 use std::alloc::{AllocError, Global};
 use std::collections::BTreeMap;
@@ -28,7 +28,7 @@ pub struct Fills {
 impl Fills {
     /// No ranges. It takes no memory.
     pub fn new(alloc: Global) -> Fills
-        ensures { (number : Owner → ℕ) → Notes number (ends_of result.ends) [] }
+        ensures { (code : Owner → Option ℕ) → Notes code (ends_of result.ends) [] }
     {
         Fills {
             ends: BTreeMap::new(alloc),
@@ -37,12 +37,11 @@ impl Fills {
 
     /// Whether a range of the places of an owner meets one that was noted. If not, it is noted too.
     pub fn fill(&mut self, owner: usize, first: u64, many: u64) -> Result<bool, AllocError>
-        requires { first + many < 2 ^ 64 }
-        ensures { (number : Owner → ℕ) (f : Filled) (fs : List Filled) → AreNumbers number → number f.owner ≡ owner → f.first ≡ first → f.many ≡ many →
-            Notes number (ends_of self.old.ends) fs →
-            IfOk result (λ met. (met ≡ list_any (meet f) fs) × (met ≡ false → Notes number (ends_of self.new.ends) (f ∷ fs))) }
+        ensures { (code : Owner → Option ℕ) (f : Filled) (fs : List Filled) → AreCodes code → code f.owner ≡ Some owner → f.first ≡ first → f.many ≡ many → first + many < 2 ^ 64 →
+            Notes code (ends_of self.old.ends) fs →
+            IfOk result (λ met. (met ≡ list_any (meet f) fs) × (met ≡ false → Notes code (ends_of self.new.ends) (f ∷ fs))) }
     {
-        let end = first + many;
+        let end = first.saturating_add(many);
         if self.meets(owner, first, end) {
             return Ok(true);
         }
@@ -98,23 +97,18 @@ pub struct Range {
     pub many: u64,
 }
 
-/// The places that a preset fills: those from its place on, up to the end of its variable, which stands behind so many places of its owner.
-pub fn filled(
-    structures: &Structures,
-    variable: &DataType,
-    preset: &EflPreset,
-    before: u64,
-) -> Option<Range>
-    requires { before + 32768 < 2 ^ 64 }
+/// The places that a preset fills: those from its place on, up to the end of its variable. What is too large is not asked.
+pub fn filled(structures: &Structures, variable: &DataType, preset: &EflPreset) -> Option<Range>
     ensures { (f : Table) (k : ℕ) (u : EflProcedure) (n : Names) → let p = preset_of preset.now in let x = first_name p.place in
-        IsSmall f structures.now.list.items (variable_type n x) variable.now → before ≡ before_variable u (meaning n.blocks x) →
-        (option_map (λ r. r.first) result ≡ option_map (λ i. (filled_from k u n p i).first) (offset_seen (variable_type n x) p.place)) ×
-        (option_map (λ r. r.many) result ≡ option_map (λ i. (filled_from k u n p i).many) (offset_seen (variable_type n x) p.place)) }
+        IsType f structures.now.list.items (variable_type n x) variable.now → (filled_seen k u n p ≡ range_of (owner_by k u x (meaning n.blocks x)) result) × IsShort result }
 {
+    if is_large(variable.summary) {
+        return None;
+    }
     match offset(structures, variable, &preset.place) {
         None => None,
         Some(offset) => Some(Range {
-            first: before.saturating_add(offset),
+            first: offset,
             many: count_values(&preset.values).min(variable.summary.places.saturating_sub(offset)),
         }),
     }

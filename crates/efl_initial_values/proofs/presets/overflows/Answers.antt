@@ -1,10 +1,15 @@
--- Where the place was found, the values are counted from there on.
+-- What is too large does not overflow, nor an array with `*`.
 use Rattle.std.proofs.Common.{sym, ◌∙◌}
-use Rattle.efl_initial_values.proofs.CountLemmas.{no_overflow, overflow_is}
+use Rattle.efl_scope.specs.DataTypes.{is_large}
+use Rattle.efl_types.specs.Presets.{is_open_array}
+use Rattle.efl_initial_values.proofs.PresetLemmas.{or_left, small_exact, small_few, large_fits, small_overflows}
 use Rattle.efl_initial_values.proofs.presets.overflows.Goals as goal
 
-pub returns-in-None : goal.returns-in-None
-returns-in-None c = λ t n o is few counted found. no_overflow t n o (sym c.in-None.is ∙ found)
+pub returns-then-is_unmeasured : goal.returns-then-is_unmeasured
+returns-then-is_unmeasured c = λ f ss t n o is counted found. large_fits t n o (sym (c.if-is_unmeasured.ensures f ss t is))
 
-pub returns-in-Some : goal.returns-in-Some
-returns-in-Some c = λ t n o is few counted found. overflow_is t n c.args.places c.args.values c.in-Some.offset c.add.result o is few counted (sym c.in-Some.is ∙ found) c.add.ensures
+pub returns : goal.returns
+returns c = λ f ss t n o is counted found.
+    let none = sym (c.if-is_unmeasured.ensures f ss t is) in
+    let small = or_left (is_large t) (is_open_array t) none in
+    c.are_too_many.ensures t n o (small_exact f t c.args.variable.now.summary is.told small) (small_few f t c.args.variable.now.summary is.told small) counted found ∙ small_overflows t n o none

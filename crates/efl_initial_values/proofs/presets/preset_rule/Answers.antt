@@ -17,6 +17,6 @@ returns c = λ f u n is_outer variable target may place.
     let q = target_type n p.place in
     let own = place_faults n p.place ++ store_faults n p.place in
     let unlisted = when (not p.listed && not (is_single q)) TypeClash in
-    let first = lower_more own unlisted c.args.place _ _ place (c.unlisted_rule.ensures f ss q target.is) c.lower-unlisted.ensures in
+    let first = lower_more own unlisted c.args.place _ _ place (c.unlisted_rule.ensures f ss q target) c.lower-unlisted.ensures in
     rule_of_preset u n is_outer p c.deref.result.now c.deref.ensures.value c.args.may_begin may _
-    (c.values_rule.ensures f t q (offset t p.place) (own ++ unlisted) variable target (c.offset-found.ensures f t variable.is) first)
+    (c.values_rule.ensures f t q (offset t p.place) (own ++ unlisted) variable target (c.offset-found.ensures f t variable) first)

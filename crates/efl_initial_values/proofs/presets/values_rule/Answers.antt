@@ -5,15 +5,14 @@ use Rattle.efl_types.specs.declared.rule.TypeRule.TheVariants.{WrongCount, BadCo
 use Rattle.efl_types.specs.Expressions.{when}
 use Rattle.efl_types.specs.Presets.{overflows, misfit, kinds_from}
 use Rattle.efl_expressions.specs.FirstRule.{first_rule}
-use Rattle.efl_initial_values.proofs.PresetLemmas.{lower_more, small_exact, small_few}
+use Rattle.efl_initial_values.proofs.PresetLemmas.{lower_more}
 use Rattle.efl_initial_values.proofs.presets.values_rule.Goals as goal
 
 pub returns : goal.returns
 returns c = λ f t p o rs one two found place.
-    let ss = c.args.structures.now.list.items in
     let cs = c.args.values.now in
     let n = sum_by (λ v. v.0) cs in
-    let large = c.overflows.ensures t n o (small_exact f ss t c.args.variable.now one) (small_few f ss t c.args.variable.now one) c.count_values.ensures found in
+    let large = c.overflows.ensures f c.args.structures.now.list.items t n o one c.count_values.ensures found in
     let bad = c.has_bad_value.ensures f t p o one two found in
     let barred = c.is_barred.ensures o found in
     let more = when (overflows t n o) WrongCount in
