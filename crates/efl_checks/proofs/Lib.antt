@@ -1,0 +1,4 @@
+-- The lemmas of efl_checks.
+pub mod WalkLemmas
+pub mod BlockLemmas
+pub mod ProcedureLemmas

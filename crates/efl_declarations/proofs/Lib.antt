@@ -1,0 +1,4 @@
+-- The lemmas of efl_declarations.
+pub mod SeenLemmas
+pub mod PartLemmas
+pub mod CheckLemmas

@@ -1,0 +1,3 @@
+-- The definitions that the contracts of efl_reading cite.
+pub mod Reading
+pub mod Alone
