@@ -1,0 +1,8 @@
+-- The lemmas of efl_storage.
+pub mod NamedLemmas
+pub mod KeyLemmas
+pub mod CountLemmas
+pub mod LimitLemmas
+pub mod FirstLemmas
+pub mod PartLemmas
+pub mod PlaceLemmas
