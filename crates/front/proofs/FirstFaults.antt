@@ -26,7 +26,7 @@ all_of ts zero = (ts, refl)
 all_of [] (suc i) = ([], refl)
 all_of (t ∷ ts) (suc i) = let r = all_of ts i in (r.0, ap (λ us. t ∷ us) r.1)
 
-compare : (i j : ℕ) → (i < j) ⊎ ((i ≡ j) ⊎ (j < i))
+pub compare : (i j : ℕ) → (i < j) ⊎ ((i ≡ j) ⊎ (j < i))
 compare zero zero = inr (inl refl)
 compare zero (suc j) = inl (omega arith)
 compare (suc i) zero = inr (inr (omega arith))

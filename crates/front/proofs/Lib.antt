@@ -1,6 +1,9 @@
 -- The lemmas of front.
 pub mod FirstFaults
 mod ScopeFaults
+mod WholeFaults
+mod FitPrograms
+mod EflRefusals
 mod SaidPlaces
 mod SaidNames
 mod OneMeaning

@@ -1,5 +1,6 @@
--- What becomes of the tokens of an EFL text: its first fault, of the grammar and then of scopes. What both accept is not built yet.
-use Rattle.std.specs.Prelude.{◌≡◌, ◌⊎◌, List, [], ◌∷◌}
+-- What becomes of the tokens of an EFL text: its first fault, of the grammar, then of scopes, then of types, then of the whole
+-- program. What all of them accept is not built yet.
+use Rattle.std.specs.Prelude.{◌≡◌, ◌⊎◌, List, [], ◌∷◌, Option, Some, None}
 use Rattle.ground.specs.declared.fault.Fault.{Fault}
 use Rattle.ground.specs.declared.fault.FaultKind.TheVariants.{Unbuilt}
 use Rattle.ground.specs.declared.place.Place.{Place}
@@ -8,6 +9,8 @@ use Rattle.ground.specs.declared.token.Token.{Token}
 use Rattle.efl_grammar.specs.Answers.{IsFirstFault, IsAccepted}
 use Rattle.efl_tree.specs.Syntax.{EflDecl, Statement, EflStmts, NoStmt, AndStmt, EflProcedure, EflProgram}
 use Rattle.efl_scoped.specs.Answers.{IsScoped, IsFirst}
+use Rattle.efl_types.specs.TypeRules.{first_fault}
+use Rattle.efl_types.specs.Whole.{TellsWhole}
 use Rattle.front.specs.Checked.{Checked, Faulty}
 
 -- ---- what is not built ----
@@ -27,11 +30,20 @@ unbuilt_place (p ∷ ps) finish = first_part p.declarations p.body p.finish
 abbrev pub unbuilt_of : EflProgram → Checked
 unbuilt_of tree = Faulty (fault_at (unbuilt_place tree.procedures tree.finish) Unbuilt)
 
--- ---- scopes ----
+-- ---- checks ----
 
--- the first fault of scopes, or the first part of a tree without one
+abbrev pub whole_of : EflProgram → Option Fault → Checked
+whole_of tree (Some fault) = Faulty fault
+whole_of tree None = unbuilt_of tree
+
+-- the first fault of types, or where there is none the first one of the whole program, or the first part of a tree without one
+abbrev pub IsTyped : EflProgram → Option Fault → Checked → Type 0
+IsTyped tree (Some fault) c = c ≡ Faulty fault
+IsTyped tree None c = (o : Option Fault) × TellsWhole tree o × (c ≡ whole_of tree o)
+
+-- the first fault of scopes, or what is said behind them
 abbrev pub IsJudged : EflProgram → Checked → Type 0
-IsJudged tree c = ((fault : Fault) × IsFirst tree fault × (c ≡ Faulty fault)) ⊎ (IsScoped tree × (c ≡ unbuilt_of tree))
+IsJudged tree c = ((fault : Fault) × IsFirst tree fault × (c ≡ Faulty fault)) ⊎ (IsScoped tree × IsTyped tree (first_fault tree) c)
 
 -- ---- parse ----
 

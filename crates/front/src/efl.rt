@@ -1,20 +1,24 @@
 // From the tokens of an EFL text to its fault.
-ghost use Rattle.std.specs.Prelude.{◌≡◌};
+ghost use Rattle.std.specs.Prelude.{◌≡◌, None};
 ghost use Rattle.ground.specs.Faults.{fault_at};
 ghost use Rattle.ground.specs.declared.fault.FaultKind.TheVariants.{Unbuilt};
 ghost use Rattle.efl_tree.specs.Views.{procedure_of, program_of};
+ghost use Rattle.efl_types.specs.TypeRules.{first_fault};
+ghost use Rattle.efl_checks.specs.Walks.{ProceduresFit};
 ghost use Rattle.macro_define.specs.GatherAnswers.{EndsText};
-ghost use Rattle.front.specs.Efl.{IsEfl, IsJudged, first_part, unbuilt_place};
+ghost use Rattle.front.specs.Efl.{IsEfl, IsJudged, IsTyped, first_part, unbuilt_place};
 ghost use Rattle.front.specs.Translated.{Refused};
 
+use efl_checks::check;
 use efl_grammar::parse;
 use efl_scoped::scope;
 use efl_tree::{EflProcedure, EflProgram};
+use efl_whole::whole;
 use ground::{Fault, FaultKind, List, Place, Refusal, Token};
 use std::alloc::Global;
 
-/// What a text with these tokens is refused for: the first fault of its grammar or of its scopes; what both accept is not built
-/// yet (Feldman, The Programming Language EFL, 1979).
+/// What a text with these tokens is refused for: the first fault of its grammar, of its scopes, of its types or of the whole program;
+/// what all accept is not built yet (Feldman, The Programming Language EFL, 1979).
 pub fn refusal_of(alloc: Global, tokens: List<Token>) -> Refusal
     requires { EndsText tokens.items }
     ensures { Refused (IsEfl tokens.items) result }
@@ -27,10 +31,32 @@ pub fn refusal_of(alloc: Global, tokens: List<Token>) -> Refusal
 
 /// What a tree is refused for.
 fn refusal_of_tree(alloc: Global, program: EflProgram) -> Refusal
+    requires { ProceduresFit (program_of program).procedures }
     ensures { Refused (IsJudged (program_of program)) result }
 {
     match scope(alloc, program) {
-        Ok(scoped) => Refusal::Fault(unbuilt(scoped.program())),
+        Ok(scoped) => refusal_of_scoped(alloc, scoped.program()),
+        Err(refusal) => refusal,
+    }
+}
+
+/// What a tree is refused for whose scopes have no fault.
+fn refusal_of_scoped(alloc: Global, program: &EflProgram) -> Refusal
+    requires { ProceduresFit (program_of program.now).procedures }
+    ensures { Refused (IsTyped (program_of program.now) (first_fault (program_of program.now))) result }
+{
+    match check(alloc, program) {
+        Ok(()) => refusal_of_typed(alloc, program),
+        Err(refusal) => refusal,
+    }
+}
+
+/// What a tree is refused for whose types have no fault.
+fn refusal_of_typed(alloc: Global, program: &EflProgram) -> Refusal
+    ensures { Refused (IsTyped (program_of program.now) None) result }
+{
+    match whole(alloc, program) {
+        Ok(()) => Refusal::Fault(unbuilt(program)),
         Err(refusal) => refusal,
     }
 }
