@@ -1,6 +1,6 @@
 #!/bin/sh
 # How fast the tokens of a text become its tree: whether ten times the tokens take at most twelve times as long, and how many times as
-# long as gathering alone it takes. A text of EFL is Unbuilt behind its parse, so there the built program's own time is taken.
+# long as gathering alone it takes. A text of EFL has a fault behind its parse, so there the built program's own time is taken.
 . "$(dirname "$0")/common.sh"
 wants "$layers"
 wants "$eft"
