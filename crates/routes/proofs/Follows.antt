@@ -9,7 +9,7 @@ use Rattle.f66_tree.specs.Syntax.{Line}
 use Rattle.f66_tree.specs.World.{State, World, Ended, GoesOn, Lost, Out, Gives, Halts, bind}
 use Rattle.f66_tree.specs.Units.{Linkage, Setting, Frame, moved_to}
 use Rattle.f66_tree.specs.Execution.{stand, no_loops, from_label, closers, close, target, exec}
-use Rattle.f66_tree.proofs.Comes.{at, still, Part, Comes, comes_here, comes_on, one}
+use Rattle.f66_tree.proofs.Comes.{at, Part, Comes, comes_here, comes_on, one}
 use Rattle.routes.specs.Running.{Went, Jumps, Backs, Leave, Flow, Continuation, then_do, ringed}
 use Rattle.routes.specs.Code.{Behind, label_behind, jump, here}
 use Rattle.routes.proofs.Tracks.{Tracks, same_fuel}

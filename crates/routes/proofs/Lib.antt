@@ -4,3 +4,7 @@ pub mod Follows
 pub mod Parts
 pub mod Routes
 pub mod Units
+pub mod Distinct
+pub mod Placing
+pub mod EnteredUnits
+mod Example

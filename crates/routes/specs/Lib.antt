@@ -4,4 +4,6 @@ pub mod Running
 pub mod Code
 pub mod Placed
 pub mod Units
+pub mod Numbered
+pub mod PlacedUnit
 pub mod Laws
