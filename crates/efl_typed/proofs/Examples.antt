@@ -1,10 +1,12 @@
 -- Small texts as trees: that the checks accept them, and what they then write, by computation.
 use Rattle.std.proofs.Common.{◌≡◌, refl}
 use Rattle.std.specs.Prelude.{ℕ, pos, true, false, List, [], ◌∷◌, Option, Some, None, codes}
+use Rattle.std.specs.List.{slice_get}
 use Rattle.std.specs.Option.{option_or}
 use Rattle.std.specs.Fmt.{digits}
 use Rattle.ground.specs.declared.fault.Fault.{Fault}
 use Rattle.ground.specs.declared.trap.Trap.TheVariants.{Subscript, ValueArgument}
+use Rattle.ground.specs.declared.value.Kind.TheVariants as kinds
 use Rattle.f66_tree.specs.World.{Record, Shown, Ended, Done, Trapped}
 use Rattle.efl_tree.specs.declared.declaration.EflConst.{EflConst}
 use Rattle.efl_tree.specs.declared.declaration.EflConst.TheVariants as constants
@@ -12,10 +14,15 @@ use Rattle.efl_tree.specs.declared.expression.EflOperator.TheVariants.{Add, Ne}
 use Rattle.efl_tree.specs.declared.statement.EflEdit.TheVariants as edits
 use Rattle.efl_tree.specs.Syntax.{Text, EflExpr, Int, Truth, At, Call, Plus, Up, Pair, Assign, NoExpr, EflPlace, Path, EflSteps, NoStep, Member, Overlay, EflVar, EflType, Integer, Logical, Named, NoGroup, Initial, Variables, Structure, EflDecl, EflPreset, WriteItem, Value, Chars, Take, EflStmt, Block, Act, While, Return, Write, Read, EflProcedure}
 use Rattle.efl_tree.specs.Syntax as efl
+use Rattle.efl_scope.specs.DataTypes.{DataType, Scalar, Structured, Array, NoType, NoMember, AndMember}
 use Rattle.efl_scope.specs.FirstFault as scopes
+use Rattle.efl_types.specs.Presets.{offset}
 use Rattle.efl_types.specs.TypeRules as types
-use Rattle.efl_scope.proofs.ExampleTexts.{here, num, exprs, at, item, member, scalars, up_to, sized, decl, declare, group, area, stmt, set, block, procedure, main, program}
+use Rattle.efl_scope.proofs.ExampleTexts.{here, num, exprs, at, item, from, member, scalars, up_to, sized, decl, declare, group, area, stmt, set, block, procedure, main, program}
+use Rattle.efl_program.specs.Places.{ToMember, ToElement, paths}
+use Rattle.efl_typed.specs.Typing.{sort_of}
 use Rattle.efl_typed.specs.Linking.{efl_meaning}
+use Rattle.efl_typed.specs.PlacePaths.{path_of}
 
 abbrev fault : List EflProcedure → Option Fault
 fault us = option_or (scopes.first_fault (program us)) (types.first_fault (program us))
@@ -179,3 +186,36 @@ areas_write = refl
 areas_end : (run areas []).end ≡ Ended Done
 unfolding digits
 areas_end = refl
+
+-- ---- numbers of places ----
+
+-- struct s { integer k; integer c(2) } / s x(2, 3)
+abbrev rows : DataType
+rows = Array (up_to 2 ∷ up_to 3 ∷ []) (Structured (AndMember k (Scalar kinds.Integer) (AndMember (codes "C") (Array (up_to 2 ∷ []) (Scalar kinds.Integer)) NoMember)))
+
+-- x(i, j).c(2)
+abbrev cell : ℕ → ℕ → EflPlace
+cell i j = Path x (exprs (num i ∷ num j ∷ [])) (its_c (num 2))
+
+-- the first subscript goes fastest
+next_by_first : offset rows (cell 2 1) ≡ Some 5
+next_by_first = refl
+
+next_by_second : offset rows (cell 1 2) ≡ Some 8
+next_by_second = refl
+
+path_there : path_of rows (cell 1 2) ≡ Some (ToElement (pos 1 ∷ pos 2 ∷ []) ∷ ToMember 1 ∷ ToElement (pos 2 ∷ []) ∷ [])
+path_there = refl
+
+listed_there : slice_get (paths (sort_of rows)) 8 ≡ path_of rows (cell 1 2)
+listed_there = refl
+
+-- a member without a type has no place for the checks, and one in its sort
+abbrev untyped : DataType
+untyped = Structured (AndMember a NoType (AndMember k (Scalar kinds.Integer) NoMember))
+
+untyped_number : offset untyped (from x (member k NoStep)) ≡ Some 0
+untyped_number = refl
+
+untyped_listed : slice_get (paths (sort_of untyped)) 0 ≡ Some (ToMember 0 ∷ [])
+untyped_listed = refl

@@ -16,10 +16,10 @@ use Rattle.efl_typed.proofs.LayoutLemmas.{above, below, apart, far, append_get, 
 -- ---- subscripts ----
 
 -- all subscripts of one dimension before others
-abbrev with_first : Extent → List ℤ → List (List ℤ)
+abbrev pub with_first : Extent → List ℤ → List (List ℤ)
 with_first e is' = map (λ i. i ∷ is') (counting e.many e.first)
 
-first_many : (e : Extent) (is' : List ℤ) → length (with_first e is') ≡ e.many
+pub first_many : (e : Extent) (is' : List ℤ) → length (with_first e is') ≡ e.many
 first_many e is' = length-map (counting e.many e.first) (λ i. i ∷ is') ∙ counting_length e.many e.first
 
 subscripts_many : (es : List Extent) → length (subscripts es) ≡ all_of es
@@ -60,7 +60,7 @@ subscripts_get m (e ∷ es) j is' h =
 
 -- ---- paths ----
 
-abbrev with_element : Sort → List ℤ → List Path
+abbrev pub with_element : Sort → List ℤ → List Path
 with_element s is' = map (λ q. ToElement is' ∷ q) (paths s)
 
 mutual
@@ -75,6 +75,9 @@ mutual
   members_many n NoSort = refl
   members_many n (AndSort s ss) =
       length-append (map (λ q. ToMember n ∷ q) (paths s)) (member_paths (n + 1) ss) ∙ ap₂ (λ a b. a + b) (length-map (paths s) (λ q. ToMember n ∷ q) ∙ paths_many s) (members_many (n + 1) ss)
+
+pub element_many : (s : Sort) (is' : List ℤ) → length (with_element s is') ≡ places s
+element_many s is' = length-map (paths s) (λ q. ToElement is' ∷ q) ∙ paths_many s
 
 -- ---- a number further on ----
 
@@ -112,7 +115,7 @@ mutual
       zero_on : (n : ℕ) → n ≡ 0 + n
       zero_on n = omega arith
   paths_get (Array bs s) k q h =
-      let g = flat_get (with_element s) (places s) (λ is'. length-map (paths s) (λ x. ToElement is' ∷ x) ∙ paths_many s) (subscripts (extents (places s) bs)) k q h in
+      let g = flat_get (with_element s) (places s) (element_many s) (subscripts (extents (places s) bs)) k q h in
       let one = map_get (λ x. ToElement g.x ∷ x) (paths s) g.r q g.element in
       subst (λ x. path_offset (Array bs s) x ≡ Yields k) one.2
       (ap (λ t. then_try t (λ n. then_try (path_offset s one.0) (λ i. Yields (n * places s + i)))) (subscripts_get 1 (extents (places s) bs) g.j g.x g.list)

@@ -7,3 +7,4 @@ pub mod Found
 pub mod Accepted
 pub mod LayoutLemmas
 pub mod Layouts
+pub mod PlacePaths

@@ -2,4 +2,5 @@
 pub mod Typing
 pub mod Linking
 pub mod Layout
+pub mod PlacePaths
 pub mod Laws

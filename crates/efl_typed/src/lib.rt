@@ -3,4 +3,6 @@
 
 mod laws;
 
-pub use laws::{accepted_is_scoped, accepted_never_lost, paths_have_their_numbers};
+pub use laws::{
+    accepted_is_scoped, accepted_never_lost, paths_have_their_numbers, places_have_their_numbers,
+};
