@@ -40,7 +40,7 @@ module _ (g : Sides) where
       by_unit false e = read_other (g.cell r) (g.cell q) c st1 (λ e1. true≢false (sym (eq-eqb q r (g.one_cell q r real1 real e1)) ∙ e)) ∙ h q real1
 
   pub put_same : (m r n : ℕ) (c : Content) (st : Store) → n ≡ g.cell r → g.Real r → Same g m st (put_in n c st)
-  put_same m r n c st is real = record { by = λ k i lt. read_other n (spare g k i) c st (λ e. g.temp_no_cell k i r real (sym is ∙ sym e)); outer = λ j out. read_other n j c st (λ e. g.outer_cell r j real out (e ∙ is)) }
+  put_same m r n c st is real = record { by = λ k i lt fits. read_other n (spare g k i) c st (λ e. g.temp_no_cell k i r fits real (sym is ∙ sym e)); outer = λ j out. read_other n j c st (λ e. g.outer_cell r j real out (e ∙ is)) }
 
   pub store_right : {A : Type 0} (P : Post A Course) (p : Place) (a : efl.Spot) (b : Spot) → SameSpot g.cell g.Real S.linked g.linked a b → (c : Content) (z : ℕ) (w w1 : World) (K : World → Out A) (rest : Routes) → Near g z w w1 →
       ((u u1 : World) → Near g z u u1 → ((m : ℕ) → Same g m w1.state.store u1.state.store) → Like P (K u) (run g rest u1)) →

@@ -123,7 +123,7 @@ module _ (g : Sides) where
 
     starts : (rest : Routes) (w1 : World) → Says g n l (Truth a) w1.state.store → run g (AndRoute (sets p x l) (AndRoute (Ring p rs) rest)) w1 ≡ behind rs rest (choose (settles op a) (Gives (Leave 0) (counted (second w1))) (run g inner (second w1)))
     starts rest w1 says =
-        sets_temp g p Logical t l (AndRoute (Ring p rs) rest) w1
+        sets_temp g p Logical t fits l (AndRoute (Ring p rs) rest) w1
         ∙ ap (λ q. bind q (λ v u. run g (AndRoute (Ring p rs) rest) (filled g Logical t v u))) (says.by p (counted w1) (same_self g n w1.state.store))
         ∙ ap (λ q. behind rs rest q) (asked_first w1)
 
@@ -139,7 +139,7 @@ module _ (g : Sides) where
           where
             put : (y : Bool) → value_of T (there g p) e (counted u1) ≡ settle p (Yields (Truth y)) (counted u1) → Like (Inner z w1) (Gives (Truth y) u) (run g (only (sets p x e)) u1)
             put y is =
-                temp_gets g (Inner z w1) p z n t Logical (Yields (Truth y)) e u u1 w1.state.store (λ v u2. Gives v u2) NoRoute (omega (nm, mt, arith)) fits is refl f.near (same_on g (same_filled g n Logical t (Truth a) w1.state.store (omega (nm, mt, arith))) f.same)
+                temp_gets g (Inner z w1) p z n t Logical (Yields (Truth y)) e u u1 w1.state.store (λ v u2. Gives v u2) NoRoute (omega (nm, mt, arith)) fits is refl f.near (same_on g (same_filled g n Logical t (Truth a) w1.state.store (omega (nm, mt, arith)) fits) f.same)
                 (λ v u2 u3 f1. record { by = (Went, u3, refl, (refl, f1)) })
 
     pub sequential : (A : Type 0) (P : Post A Course) (z : ℕ) (w w1 : World) (K : Content → World → Out A) (rest : Routes) → Near g (6 + z) w w1 → Says g n l (Truth a) w1.state.store →
@@ -148,7 +148,7 @@ module _ (g : Sides) where
     sequential A P z w w1 K rest near says h = subst (λ q. Like P (bind (choose (settles op a) (Gives (Truth a) w) (true_of p R w)) K) q) (sym (starts rest w1 says)) (by_answer (settles op a))
       where
         at_first : Near g (5 + z) w (first w1)
-        at_first = near_filled g Logical t (Truth a) (near_spent (omega arith) near)
+        at_first = near_filled g Logical t (Truth a) fits (near_spent (omega arith) near)
 
         at_second : Near g (3 + z) w (second w1)
         at_second = let once : Near g (4 + z) w (counted (first w1)) = near_spent (omega arith) at_first in near_spent (omega arith) once
@@ -158,7 +158,7 @@ module _ (g : Sides) where
             subst (λ q. Like P (K (Truth a) w) q) (sym (behind_leave rs rest (counted (second w1))))
             (h (Truth a) w (counted (second w1)) (record {
               near = near_spent (omega arith) at_second;
-              same = same_filled g n Logical t (Truth a) w1.state.store (omega (nm, mt, arith));
+              same = same_filled g n Logical t (Truth a) w1.state.store (omega (nm, mt, arith)) fits;
               says = says_temp g (t + 1) Logical t (Truth a) w1.state.store (omega arith) fits refl;
               of = refl;
             }))

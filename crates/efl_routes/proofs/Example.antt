@@ -138,27 +138,28 @@ program = record {
   has_scalar = λ v x k. is_integer k && nat_eq x 0;
   uses_function = λ v x k n. false;
   uses_procedure = λ v x n. false;
+  is_unit = λ v. true;
   cell = λ q. q;
   is_place = λ q. nat_eq q 1;
   is_above = λ v j. false;
   lowered = λ v. refl;
   ready = λ v. (((refl, (tt, tt, tt)), omega arith), tt);
-  same_label = λ v. label_same;
+  same_label = λ v is. label_same;
   one_cell = λ q r is1 is2 e. e;
-  temp_own = λ v k n. no_dummy (nat_eq v 0) (temp k n);
+  temp_own = λ v k n lt. no_dummy (nat_eq v 0) (temp k n);
   temp_kind = kinds;
   temp_plain = λ v k n lt. plain k n lt;
-  temp_apart = λ v k j m n apart e. apart (omega (arith, bits k, bits j, e));
-  temp_no_cell = λ v k n q is e. omega (arith, eqb-true q 1 is, e);
-  above_temp = λ v k n j is. absurd (never is);
+  temp_apart = λ v k j m n lt lt1 apart e. apart (omega (arith, bits k, bits j, e));
+  temp_no_cell = λ v k n q lt is e. omega (arith, eqb-true q 1 is, e);
+  above_temp = λ v k n j lt is. absurd (never is);
   above_cell = λ v q j is out. absurd (never out);
   home_kind = λ v x k is. by_kind (nat_eq v 0) ∙ sym (integer_of x k is);
   bases = λ v x k is ps qs alike many. based_on v x ps qs many;
-  main = λ v. main_is (nat_eq v 0);
+  main = λ v is. main_is (nat_eq v 0);
   own_based = λ v is. absurd (never is);
   own_cell = λ v is. absurd (never is);
   own_real = λ v is. absurd (never is);
-  intrinsics = known;
+  intrinsics = λ v is. known v;
   functions = λ v x k n is. absurd (never is);
   kinds = λ v x k n is. absurd (never is);
   found = λ v x k n is. absurd (never is);
@@ -167,6 +168,8 @@ program = record {
   reals = λ v x k n is. absurd (never is);
   arity = λ v x k n is. absurd (never is);
   arity_too = λ v x n is. absurd (never is);
+  enters = λ v x k n is. absurd (never is);
+  enters_too = λ v x n is. absurd (never is);
   above = λ v x k n is. absurd (never is);
   above_own = λ v x k n is. absurd (never is);
   above_too = λ v x n is. absurd (never is);
@@ -174,7 +177,7 @@ program = record {
 }
 
 begins : Begins program
-begins = record { main = refl; deep = refl; formals = refl; plain = refl; first = λ q is. refl }
+begins = record { unit = refl; main = refl; deep = refl; formals = refl; plain = refl; first = λ q is. refl }
 
 -- ---- its unit ----
 

@@ -59,11 +59,11 @@ module _ (g : Sides) where
       value_of T (there g p) e (counted w1) ≡ settle p o (counted w1) → IfYields (Of k) o → Near g (1 + z) w w1 → Same g n st w1.state.store →
       ((v : Content) (u u1 : World) → After n (t + 1) z k (f66.Ref (g.temp k t)) st v u u1 → Like P (K v u) (run g rest u1)) → Like P (bind (settle p o w) K) (run g (AndRoute (sets p (f66.Ref (g.temp k t)) e) rest) w1)
   temp_gets P p z n t k o e w w1 st K rest le fits is of near same h =
-      subst (λ q. Like P (bind (settle p o w) K) q) (sym (sets_temp g p k t e rest w1 ∙ ap (λ q. bind q (λ v u. run g rest (filled g k t v u))) is))
+      subst (λ q. Like P (bind (settle p o w) K) q) (sym (sets_temp g p k t fits e rest w1 ∙ ap (λ q. bind q (λ v u. run g rest (filled g k t v u))) is))
       (like_settle p o w (counted w1) K (λ v u. run g rest (filled g k t v u)) (near_within g (near_begun g near)) (λ v is1.
       h v w (filled g k t v (counted w1)) (record {
-        near = near_filled g k t v (near_begun g near);
-        same = same_on g same (same_filled g n k t v w1.state.store le);
+        near = near_filled g k t v fits (near_begun g near);
+        same = same_on g same (same_filled g n k t v w1.state.store le fits);
         says = says_temp g (t + 1) k t v w1.state.store (omega arith) fits (yields_of (Of k) o v is1 of);
         of = yields_of (Of k) o v is1 of;
       })))

@@ -1,5 +1,5 @@
 -- A whole program and its routes.
-use Rattle.std.proofs.Common.{◌≡◌, ℕ, ◌+◌, ◌*◌, ◌≤◌, false, List, [], refl, sym, ap, subst, arith}
+use Rattle.std.proofs.Common.{◌≡◌, ℕ, ◌+◌, ◌*◌, ◌≤◌, List, [], refl, sym, ap, subst, arith}
 use Rattle.std.specs.Prelude.{⊤}
 use Rattle.f66_tree.specs.World.{Record, World, first_tape, Finish, End, Ended, GoesOn, Lost, Out, Gives, Halts, shown}
 use Rattle.f66_tree.specs.Execution.{first_state}
@@ -45,7 +45,7 @@ program_keeps p h b input =
     let w : World = record { state = record { store = p.source.first; tape = first_tape input }; left = 0; count = 0 } in
     let w1 : World = record { state = first_state p.target input; left = 0; count = 0 } in
     let here = efl_call p.source p.bodies b p.source.deep p.source.main [] w in
-    let both = procedures_agree p b p.source.deep p.source.main [] [] tt (sym (ap size h.formals)) 0 w w1 (record { tape = refl; cells = h.first; count = omega arith }) in
+    let both = procedures_agree p b p.source.deep p.source.main h.unit [] [] tt (sym (ap size h.formals)) 0 w w1 (record { tape = refl; cells = h.first; count = omega arith }) in
     let there = routes_call p.target p.code b in
     subst (λ d. Keeps (shown here) (shown (there d p.target.main [] w1))) (sym h.deep)
     (subst (λ u. Keeps (shown here) (shown (there p.source.deep u [] w1))) (sym h.main)

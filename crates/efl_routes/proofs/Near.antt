@@ -1,12 +1,12 @@
 -- The two sides of the lowering of one procedure: its source, and its routes over a unit of FORTRAN. The target has each place of
 -- the source in a cell of its own, and besides temporaries, which no place shares.
-use Rattle.std.proofs.Common.{◌≡◌, ◌≢◌, ℕ, ◌+◌, ◌*◌, ◌≤◌, ◌<◌, true, List, [], None, refl, sym, ap, ◌∙◌, arith}
-use Rattle.std.specs.Prelude.{⊤, nat_lt}
+use Rattle.std.proofs.Common.{◌≡◌, ◌≢◌, ℕ, ◌+◌, ◌*◌, ◌≤◌, ◌<◌, List, [], None, refl, sym, ap, ◌∙◌, arith}
+use Rattle.std.specs.Prelude.{⊤}
 use Rattle.ground.specs.declared.place.Place.{Place}
 use Rattle.ground.specs.declared.value.Kind.{Kind}
 use Rattle.ground.specs.Content.{Content}
 use Rattle.f66_tree.specs.Syntax.{Text, Formula}
-use Rattle.f66_tree.specs.World.{Store, put_in, World, counted, holding, Out, Gives, Try, Yields}
+use Rattle.f66_tree.specs.World.{Store, put_in, World, counted, holding, Out, Gives}
 use Rattle.f66_tree.specs.Units.{position, dummies_of, kind_of, sizes_of, Spot, Held, Lent, Linkage, Setting, Frame, moved_to}
 use Rattle.f66_tree.specs.Evaluation.{base, held, value_of}
 use Rattle.f66_tree.proofs.Stores.{read_other}
@@ -35,14 +35,14 @@ pub record Sides : Type 1 where
   -- the storage units of the source's variables and values
   pub Real : ℕ → Type 0
   pub one_cell : (q r : ℕ) → Real q → Real r → cell q ≡ cell r → q ≡ r
-  pub temp_own : (k : Kind) (n : ℕ) → position (temp k n) (dummies_of (linked.context to.unit).header) ≡ None
+  pub temp_own : (k : Kind) (n : ℕ) → n < room → position (temp k n) (dummies_of (linked.context to.unit).header) ≡ None
   pub temp_kind : (k : Kind) (n : ℕ) → n < room → kind_of (linked.context to.unit) (temp k n) ≡ k
   pub temp_plain : (k : Kind) (n : ℕ) → n < room → sizes_of (temp k n) (linked.context to.unit).notes ≡ []
-  pub temp_apart : (k j : Kind) (m n : ℕ) → m ≢ n → linked.number to.unit (temp k m) 0 ≢ linked.number to.unit (temp j n) 0
-  pub temp_no_cell : (k : Kind) (n q : ℕ) → Real q → cell q ≢ linked.number to.unit (temp k n) 0
+  pub temp_apart : (k j : Kind) (m n : ℕ) → m < room → n < room → m ≢ n → linked.number to.unit (temp k m) 0 ≢ linked.number to.unit (temp j n) 0
+  pub temp_no_cell : (k : Kind) (n q : ℕ) → n < room → Real q → cell q ≢ linked.number to.unit (temp k n) 0
   -- the storage units that belong to the units further out
   pub Outer : ℕ → Type 0
-  pub outer_temp : (k : Kind) (n j : ℕ) → Outer j → j ≢ linked.number to.unit (temp k n) 0
+  pub outer_temp : (k : Kind) (n j : ℕ) → n < room → Outer j → j ≢ linked.number to.unit (temp k n) 0
   pub outer_cell : (q j : ℕ) → Real q → Outer j → j ≢ cell q
   pub home_kind : (v : ℕ) (k : Kind) → M v k → kind_of (linked.context to.unit) (home v) ≡ k
   pub bases : (v : ℕ) (k : Kind) → M v k → Based cell Real source.linked linked (efl.base source from v) (base (record { linked = linked; call = call; begin = λ w. Gives tt (counted w); most = most; tick = λ n. n }) to (home v))
@@ -73,7 +73,7 @@ module _ (g : Sides) where
 
   -- the first n temporaries hold the same, and what belongs to the units further out
   pub record Same (n : ℕ) (st st1 : Store) : Type 0 where
-    pub by : (k : Kind) (i : ℕ) → i < n → st1 (spare k i) ≡ st (spare k i)
+    pub by : (k : Kind) (i : ℕ) → i < n → i < g.room → st1 (spare k i) ≡ st (spare k i)
     pub outer : (j : ℕ) → g.Outer j → st1 j ≡ st j
 
   -- a formula has this value as long as the first m temporaries hold the same
@@ -81,13 +81,13 @@ module _ (g : Sides) where
     pub by : (p : Place) (w : World) → Same m st w.state.store → value_of Target (there p) e w ≡ Gives v w
 
   pub same_self : (n : ℕ) (st : Store) → Same n st st
-  same_self n st = record { by = λ k i lt. refl; outer = λ j is. refl }
+  same_self n st = record { by = λ k i lt fits. refl; outer = λ j is. refl }
 
   pub same_on : {n : ℕ} {a b c : Store} → Same n a b → Same n b c → Same n a c
-  same_on h j = record { by = λ k i lt. j.by k i lt ∙ h.by k i lt; outer = λ q is. j.outer q is ∙ h.outer q is }
+  same_on h j = record { by = λ k i lt fits. j.by k i lt fits ∙ h.by k i lt fits; outer = λ q is. j.outer q is ∙ h.outer q is }
 
   pub same_less : {m n : ℕ} {a b : Store} → m ≤ n → Same n a b → Same m a b
-  same_less le h = record { by = λ k i lt. h.by k i (omega arith); outer = h.outer }
+  same_less le h = record { by = λ k i lt fits. h.by k i (omega arith) fits; outer = h.outer }
 
   -- a value that stays
   pub says_still : {m n : ℕ} {e : Formula} {v : Content} {a b : Store} → m ≤ n → Same n a b → Says m e v a → Says m e v b
@@ -111,11 +111,11 @@ module _ (g : Sides) where
   near_begun h = record { tape = h.tape; cells = h.cells; count = omega (arith, h.count) }
 
   -- a temporary is filled
-  pub near_filled : {z : ℕ} {w w1 : World} (k : Kind) (n : ℕ) (v : Content) → Near z w w1 → Near z w (holding (put_in (spare k n) v w1.state.store) w1)
-  near_filled {w1 = w1} k n v h = record { tape = h.tape; cells = λ q real. read_other (spare k n) (g.cell q) v w1.state.store (g.temp_no_cell k n q real) ∙ h.cells q real; count = h.count }
+  pub near_filled : {z : ℕ} {w w1 : World} (k : Kind) (n : ℕ) (v : Content) → n < g.room → Near z w w1 → Near z w (holding (put_in (spare k n) v w1.state.store) w1)
+  near_filled {w1 = w1} k n v fits h = record { tape = h.tape; cells = λ q real. read_other (spare k n) (g.cell q) v w1.state.store (g.temp_no_cell k n q fits real) ∙ h.cells q real; count = h.count }
 
-  pub same_filled : (m : ℕ) (k : Kind) (n : ℕ) (v : Content) (st : Store) → m ≤ n → Same m st (put_in (spare k n) v st)
-  same_filled m k n v st le = record { by = λ j i lt. read_other (spare k n) (spare j i) v st (g.temp_apart j k i n (omega arith)); outer = λ q is. read_other (spare k n) q v st (g.outer_temp k n q is) }
+  pub same_filled : (m : ℕ) (k : Kind) (n : ℕ) (v : Content) (st : Store) → m ≤ n → n < g.room → Same m st (put_in (spare k n) v st)
+  same_filled m k n v st le fits = record { by = λ j i lt fits1. read_other (spare k n) (spare j i) v st (g.temp_apart j k i n fits1 fits (omega arith)); outer = λ q is. read_other (spare k n) q v st (g.outer_temp k n q fits is) }
 
   -- the same is read on both sides
   pub same_held : {z : ℕ} {w w1 : World} (a : efl.Spot) (b : Spot) → SameSpot g.cell g.Real g.source.linked g.linked a b → Near z w w1 → held g.linked b w1.state.store ≡ efl.held g.source.linked a w.state.store

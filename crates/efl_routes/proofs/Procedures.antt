@@ -1,13 +1,13 @@
 -- Calls of procedures are lowered right where each procedure does the same on both sides; and so is every expression.
-use Rattle.std.proofs.Common.{◌≡◌, ℕ, ◌+◌, ◌≤◌, ◌<◌, List, [], ◌∷◌, Some, refl, sym, ap, ◌∙◌, subst, arith}
-use Rattle.std.specs.Prelude.{⊤, pos}
+use Rattle.std.proofs.Common.{◌≡◌, ℕ, ◌+◌, ◌≤◌, ◌<◌, List, ◌∷◌, Some, refl, sym, ap, ◌∙◌, subst, arith}
+use Rattle.std.specs.Prelude.{⊤}
 use Rattle.ground.specs.declared.place.Place.{Place}
 use Rattle.ground.specs.declared.value.Kind.{Kind}
-use Rattle.ground.specs.Content.{Content, Nothing, Whole}
+use Rattle.ground.specs.Content.{Content, Nothing}
 use Rattle.f66_tree.specs.Syntax as f66
 use Rattle.f66_tree.specs.Syntax.{Formula, Formulas, NoFormula, AndFormula}
 use Rattle.f66_tree.specs.World.{Store, put_in, World, counted, holding, Out, Gives, Halts, bind, settle}
-use Rattle.f66_tree.specs.Units.{kind_of, Spot, Lent, Setting}
+use Rattle.f66_tree.specs.Units.{kind_of, Spot, Setting}
 use Rattle.f66_tree.specs.Evaluation.{Intrinsic, AFunction, AnIntrinsic, sort_of, asked, called, referred, values_of, value_of, spots_of}
 use Rattle.efl_program.specs.Typed.{Call, Exprs}
 use Rattle.efl_program.specs.Setting as efl
@@ -113,8 +113,8 @@ module _ (g : Sides) (c : Agreed g) where
         (like_settle p (asked k (u.state.store r)) u u1 K J (near_within g f.0) (λ d is.
         let ok = yields_of (Of k) (asked k (u.state.store r)) d is (asked_of k (u.state.store r)) in
         h d u (filled g k m d u1) (record {
-          near = near_filled g k m d f.0;
-          same = same_on g same (same_on g (put_same g n r (from_there v) Nothing w1.state.store (c.results v k n1 i) (c.reals v k n1 i)) (same_on g (f.1 n) (same_filled g n k m d u1.state.store le)));
+          near = near_filled g k m d fits f.0;
+          same = same_on g same (same_on g (put_same g n r (from_there v) Nothing w1.state.store (c.results v k n1 i) (c.reals v k n1 i)) (same_on g (f.1 n) (same_filled g n k m d u1.state.store le fits)));
           says = says_temp g (m + 1) k m d u1.state.store (omega arith) fits ok;
           of = ok;
         })))
@@ -141,5 +141,5 @@ module _ (g : Sides) (c : Agreed g) where
       (r p n (omega (fits, arith)) A P (9 + z) (counted w) w1 (λ ps u. bind (values.called S (here g p) v k ps u) K) (AndRoute (sets p x e) rest) (near_less g (omega arith) (near_counted g near))
       (λ ps u u1 f.
       subst (λ q. Like P (bind (values.called S (here g p) v k ps u) K) q)
-      (sym (sets_temp g p k m e rest u1 ∙ ap (λ q. bind q (λ d u2. run g rest (filled g k m d u2))) (reference p v k (count es) i (actuals g.home g.temp g.callee es n) f.spots (counted u1) (f.says p (counted u1) (same_self g m u1.state.store)))))
+      (sym (sets_temp g p k m (omega (fits, arith)) e rest u1 ∙ ap (λ q. bind q (λ d u2. run g rest (filled g k m d u2))) (reference p v k (count es) i (actuals g.home g.temp g.callee es n) f.spots (counted u1) (f.says p (counted u1) (same_self g m u1.state.store)))))
       (after_call P p v k (count es) i n m z (omega arith) (omega (fits, arith)) w1.state.store K rest (λ d u2 u3 f1. h d u2 u3 (subst (λ j. After g n j z k x w1.state.store d u2 u3) more f1)) ps f.spots u u1 f.alike (f.many ∙ counted_actuals g es n) f.near f.same)))

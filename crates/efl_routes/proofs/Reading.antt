@@ -100,7 +100,7 @@ module _ (g : Sides) where
   item_step p k n u fits =
       let t = g.temp k n in
       let q = Held g.to.unit t 0 in
-      ap (λ o. bind (settle p o u) (λ q1 w. one_or_row T (there g p) Reading (kind_of (g.linked.context g.to.unit) t) (sizes_of t (g.linked.context g.to.unit).notes) q1 w)) (temp_base g p k n)
+      ap (λ o. bind (settle p o u) (λ q1 w. one_or_row T (there g p) Reading (kind_of (g.linked.context g.to.unit) t) (sizes_of t (g.linked.context g.to.unit).notes) q1 w)) (temp_base g p k n fits)
       ∙ ap (λ j. one_or_row T (there g p) Reading j (sizes_of t (g.linked.context g.to.unit).notes) q u) (g.temp_kind k n fits)
       ∙ ap (λ s. one_or_row T (there g p) Reading k s q u) (g.temp_plain k n fits)
 
@@ -145,7 +145,7 @@ module _ (g : Sides) (c : Agreed g) (label : Text → ℕ) (own : Text) (gives :
   holding_on [] n ok [] a b s h = tt
   holding_on [] n ok (e ∷ es) a b s h = absurd h
   holding_on (Take x d ∷ xs) n ok [] a b s h = absurd h
-  holding_on (Take x d ∷ xs) n ok (e ∷ es) a b s h = (h.0, h.1, (s (n + 1)).by (kind_by d) n (omega arith) ∙ h.2, holding_on xs (n + 1) ok.3 es a b s h.3)
+  holding_on (Take x d ∷ xs) n ok (e ∷ es) a b s h = (h.0, h.1, (s (n + 1)).by (kind_by d) n (omega arith) (omega (ok.2, arith)) ∙ h.2, holding_on xs (n + 1) ok.3 es a b s h.3)
   holding_on (Pass i ∷ xs) n ok es a b s h = holding_on xs n ok es a b s h
 
   -- the contents of all items come in
@@ -176,9 +176,9 @@ module _ (g : Sides) (c : Agreed g) (label : Text → ℕ) (own : Text) (gives :
       let y0 = taping t2 v0 in
       let y1 = filled g k n v (taping t2 v1) in
       subst (λ q. Like P q (bind (rest1 y1) (λ _ y. J y))) (sym (bind_assoc (rest y0) (λ es w1. Gives ((a, v) ∷ es) w1) K))
-      (take_like P p xs (n + 1) ok.3 z y0 y1 (λ es w. K ((a, v) ∷ es) w) J (near_filled g k n v near2) (λ es x2 x3 near3 same held.
-      h ((a, v) ∷ es) x2 x3 near3 (same_on g (same_filled g n k n v u1.state.store (omega arith)) (same_less g (omega arith) same))
-      (refl, of, same.by k n (omega arith) ∙ read_same (spare g k n) v u1.state.store, held)))))))))
+      (take_like P p xs (n + 1) ok.3 z y0 y1 (λ es w. K ((a, v) ∷ es) w) J (near_filled g k n v fits near2) (λ es x2 x3 near3 same held.
+      h ((a, v) ∷ es) x2 x3 near3 (same_on g (same_filled g n k n v u1.state.store (omega arith) fits) (same_less g (omega arith) same))
+      (refl, of, same.by k n (omega arith) fits ∙ read_same (spare g k n) v u1.state.store, held)))))))))
 
   -- what was taken is stored in the variables, in order
   store_like : (P : Post meaning.Course Course) (p : Place) (xs : List ReadItem) (n : ℕ) (ok : Fits xs n) (es : List (world.Spot × Content)) (z : ℕ) (w w1 : World) → Holding xs n ok es w1.state.store → Near g (z + takes xs) w w1 →
@@ -195,7 +195,7 @@ module _ (g : Sides) (c : Agreed g) (label : Text → ℕ) (own : Text) (gives :
       let after_it : World → meaning.Flow = λ u. meaning.store_all g.source g.from p es u in
       let fits : n < g.room = omega (ok.2, arith) in
       let says : value_of (Target g) (there g p) f (counted w1) ≡ Gives e.1 (counted w1) =
-      ap (λ o. bind (settle p o (counted w1)) (λ q w2. load (Target g) (there g p) (kind_of (g.linked.context g.to.unit) (g.temp k n)) q w2)) (temp_base g p k n)
+      ap (λ o. bind (settle p o (counted w1)) (λ q w2. load (Target g) (there g p) (kind_of (g.linked.context g.to.unit) (g.temp k n)) q w2)) (temp_base g p k n fits)
       ∙ ap (λ j. settle p (asked j (w1.state.store (spare g k n))) (counted w1)) (g.temp_kind k n fits)
       ∙ ap (λ v. settle p (asked k v) (counted w1)) held.2
       ∙ ap (λ o. settle p o (counted w1)) held.1 in

@@ -111,16 +111,16 @@ module _ (g : Sides) where
       by_value (Gives v w1) = by_store v (store_at T (there g p) q v w1)
       by_value (Halts d w1) = refl
 
-  pub temp_base : (p : Place) (k : Kind) (n : ℕ) → base T (there g p) (g.temp k n) ≡ Yields (Held g.to.unit (g.temp k n) 0)
-  temp_base p k n = ap (λ o. base_by o g.to.unit g.to.actuals (g.temp k n)) (g.temp_own k n)
+  pub temp_base : (p : Place) (k : Kind) (n : ℕ) → n < g.room → base T (there g p) (g.temp k n) ≡ Yields (Held g.to.unit (g.temp k n) 0)
+  temp_base p k n fits = ap (λ o. base_by o g.to.unit g.to.actuals (g.temp k n)) (g.temp_own k n fits)
 
   -- a world with a temporary filled
   abbrev pub filled : Kind → ℕ → Content → World → World
   filled k n v w = holding (put_in (spare g k n) v w.state.store) w
 
-  pub sets_temp : (p : Place) (k : Kind) (n : ℕ) (e : Formula) (rest : Routes) (w : World) →
+  pub sets_temp : (p : Place) (k : Kind) (n : ℕ) → n < g.room → (e : Formula) (rest : Routes) (w : World) →
       run g (AndRoute (sets p (Ref (g.temp k n)) e) rest) w ≡ bind (value_of T (there g p) e (counted w)) (λ v w1. run g rest (filled k n v w1))
-  sets_temp p k n e rest w = sets_at p (g.temp k n) (Held g.to.unit (g.temp k n) 0) e rest w (temp_base p k n)
+  sets_temp p k n fits e rest w = sets_at p (g.temp k n) (Held g.to.unit (g.temp k n) 0) e rest w (temp_base p k n fits)
 
   -- a filled temporary says its value
   pub says_temp : (m : ℕ) (k : Kind) (n : ℕ) (v : Content) (st : Store) → n < m → n < g.room → Of k v → Says g m (Ref (g.temp k n)) v (put_in (spare g k n) v st)
@@ -128,7 +128,7 @@ module _ (g : Sides) where
     where
       read : (p : Place) (w : World) → Same g m (put_in (spare g k n) v st) w.state.store → value_of T (there g p) (Ref (g.temp k n)) w ≡ Gives v w
       read p w s =
-          ap (λ o. bind (settle p o w) (λ q w1. load T (there g p) (kind_of (g.linked.context g.to.unit) (g.temp k n)) q w1)) (temp_base p k n)
+          ap (λ o. bind (settle p o w) (λ q w1. load T (there g p) (kind_of (g.linked.context g.to.unit) (g.temp k n)) q w1)) (temp_base p k n fits)
           ∙ ap (λ j. settle p (asked j (w.state.store (spare g k n))) w) (g.temp_kind k n fits)
-          ∙ ap (λ c. settle p (asked k c) w) (s.by k n lt ∙ read_same (spare g k n) v st)
+          ∙ ap (λ c. settle p (asked k c) w) (s.by k n lt fits ∙ read_same (spare g k n) v st)
           ∙ ap (λ o. settle p o w) is

@@ -60,14 +60,14 @@ module _ (g : Sides) where
   item_step p k n m v st u fits says same =
       let t = g.temp k n in
       let q = Held g.to.unit t 0 in
-      ap (λ o. bind (settle p o u) (λ q1 w. one_or_row T (there g p) Writing (kind_of (g.linked.context g.to.unit) t) (sizes_of t (g.linked.context g.to.unit).notes) q1 w)) (temp_base g p k n)
+      ap (λ o. bind (settle p o u) (λ q1 w. one_or_row T (there g p) Writing (kind_of (g.linked.context g.to.unit) t) (sizes_of t (g.linked.context g.to.unit).notes) q1 w)) (temp_base g p k n fits)
       ∙ ap (λ j. one_or_row T (there g p) Writing j (sizes_of t (g.linked.context g.to.unit).notes) q u) (g.temp_kind k n fits)
       ∙ ap (λ s. one_or_row T (there g p) Writing k s q u) (g.temp_plain k n fits)
       ∙ taped_then p (due k) u (λ w. bind (settle p (asked k (w.state.store (spare g k n))) w) (λ c w1. taped p (put c) w1)) (λ w. taped p (put v) w) (λ s. ap (λ o. bind o (λ d w1. taped p (put d) w1)) (loaded s))
     where
       loaded : (s : Tape) → settle p (asked k (u.state.store (spare g k n))) (taping s u) ≡ Gives v (taping s u)
       loaded s =
-          sym (ap (λ o. bind (settle p o (taping s u)) (λ q w. load T (there g p) (kind_of (g.linked.context g.to.unit) (g.temp k n)) q w)) (temp_base g p k n)
+          sym (ap (λ o. bind (settle p o (taping s u)) (λ q w. load T (there g p) (kind_of (g.linked.context g.to.unit) (g.temp k n)) q w)) (temp_base g p k n fits)
           ∙ ap (λ j. settle p (asked j (u.state.store (spare g k n))) (taping s u)) (g.temp_kind k n fits))
           ∙ says.by p (taping s u) same
 

@@ -1,5 +1,5 @@
 -- The law that a program of EFL and the units that it becomes agree.
-use Rattle.std.specs.Prelude.{◌≡◌, ℕ, List}
+use Rattle.std.specs.Prelude.{◌≡◌, List}
 use Rattle.f66_tree.specs.World.{Record}
 use Rattle.f66_tree.specs.Execution.{f66}
 use Rattle.f66_tree.specs.Agreement.{Agrees}
