@@ -1,0 +1,7 @@
+-- The definitions that the contracts of efl_lowered cite.
+pub mod Naming
+pub mod Lowering
+pub mod Facts
+pub mod Labels
+pub mod Names
+pub mod Laws
