@@ -3,3 +3,4 @@ pub mod ReadingLemmas
 pub mod SiteLemmas
 pub mod AloneLemmas
 pub mod PresetLemmas
+pub mod CountingLemmas

@@ -48,7 +48,7 @@ pub fn own_rules(
 }
 
 /// The first rule that a preset breaks by itself, in the outer block of its procedure or in an inner one.
-pub fn own_rule(preset: &EflPreset, names: &Names, site: &Site, is_outer: bool) -> Option<TypeRule>
+fn own_rule(preset: &EflPreset, names: &Names, site: &Site, is_outer: bool) -> Option<TypeRule>
     ensures { (f : Table) (n : NamesSeen) (u : EflProcedure) → Stands f n names.now → AreHomes u n.blocks site.now.homes.now → AreAreas u site.now.procedure.now.areas.now →
         u.formals ≡ site.now.procedure.now.formals.now → result ≡ first_rule (preset_faults u n is_outer (preset_of preset.now)) }
 {

@@ -6,3 +6,4 @@ pub mod LimitLemmas
 pub mod FirstLemmas
 pub mod PartLemmas
 pub mod PlaceLemmas
+pub mod ListedLemmas
