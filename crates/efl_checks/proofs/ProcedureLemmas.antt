@@ -14,13 +14,15 @@ use Rattle.efl_types.specs.Signatures.{signatures, result_of}
 use Rattle.efl_types.specs.Declarations.{formal_faults, is_shape, header_faults}
 use Rattle.efl_types.specs.Expressions.{when}
 use Rattle.efl_types.specs.Presets.{meets_earlier}
-use Rattle.efl_types.specs.TypeRules.{kind_of, limit_of, rule_number, part_fills, passes_limit, broken_rules, first_in}
+use Rattle.efl_types.specs.TypeRules.{kind_of, limit_of, rule_number, part_faults, presets_of, part_fills, passes_limit, broken_rules, first_in}
 use Rattle.efl_expressions.specs.declared.names.Block.{Block}
 use Rattle.efl_expressions.specs.declared.names.Blocks.TheBlock.{Outside}
 use Rattle.efl_expressions.specs.FirstRule.{or_lower, first_rule}
+use Rattle.efl_names.specs.declared.letters.Letters.{Letters}
 use Rattle.efl_names.specs.declared.units.Outcome.{Outcome}
 use Rattle.efl_names.specs.declared.units.Units.{Units}
 use Rattle.efl_names.specs.NameViews as names
+use Rattle.efl_storage.specs.Firsts.{AreFirsts}
 use Rattle.efl_blocks.specs.declared.types.Types.{Types}
 use Rattle.efl_blocks.specs.declared.homes.Position.{Position}
 use Rattle.efl_blocks.specs.declared.homes.Homes.{Homes}
@@ -36,28 +38,33 @@ use Rattle.efl_initial_values.specs.declared.areas.Areas.{Areas}
 use Rattle.efl_reading.specs.declared.sites.Procedure.{Procedure}
 use Rattle.efl_reading.specs.declared.sites.Site.{Site}
 use Rattle.efl_reading.specs.declared.progress.Progress.{Progress}
+use Rattle.efl_reading.specs.declared.walk.Walk.{Walk}
 use Rattle.efl_initial_values.specs.Owners.{AreAreas}
 use Rattle.efl_reading.specs.Reading.{IsProcedure, Behind}
+use Rattle.efl_reading.specs.Walked.{Read}
+use Rattle.efl_reading.specs.Counting.{CountsHeader}
+use Rattle.efl_reading.proofs.CountingLemmas.{none_counted}
 use Rattle.efl_declarations.specs.Checks.{ChecksDeclarations}
+use Rattle.efl_declarations.proofs.PartLemmas.{header_meets_none}
 use Rattle.efl_checks.specs.Walks.{ProceduresFit, IsKnown, IsMade, ReadsInside, AddsHeader, ReadsOuter, outer_parts, ReadsProcedure, ReadsAll}
 use Rattle.efl_reading.proofs.ReadingLemmas.{first_more, behind_done}
 use Rattle.efl_reading.proofs.SiteLemmas.{units_later}
-use Rattle.efl_checks.proofs.WalkLemmas.{faults_there}
+use Rattle.efl_checks.proofs.WalkLemmas.{faults_there, rule_there}
 use Rattle.efl_checks.proofs.BlockLemmas.{declared_read}
 
 -- ---- declarations and statements ----
 
-pub outer_read : (y z w : Types) (s : Site) (block known : Block) (own : Procedure) (p q r : Progress) (u : EflProcedure) (home : Position) (homes : Homes) → IsMade own home u.formals Outside homes s →
+pub outer_read : (y z w : Types) (s : Site) (block known : Block) (own : Procedure) (p q r : Walk) (u : EflProcedure) (home : Position) (homes : Homes) → IsMade own home u.formals Outside homes s →
     position_of home ≡ [] → ((x : Text) → home_in homes x ≡ None) → ChecksDeclarations y block s p u.declarations z known q → ReadsInside z known s q u.body w r → ReadsOuter y u block own p w r
 outer_read y z w s block known own p q r u home homes made top none checks reads = record {
   later = later_on y z w checks.later reads.later;
-  adds = λ fit us vs is within behind.
+  adds = λ fit us vs is within read.
       let a = around_unit own.unit u in
       let unit = sym (ap (λ o. o.unit) made.procedure) in
       let position = sym (ap position_of made.position ∙ top) in
       declared_read y z w us u a (among (behind_all (outer u) u.declarations) a) s s block known p q r u.declarations u.body vs [] (subst (Within y (outer u) block) (sym made.blocks) within)
       (outer_homes u s.homes.now (homes_outside u s.homes.now (λ x. ap (λ hs. home_in hs x) made.homes ∙ none x))) (subst (IsProcedure y us u) (sym made.procedure) is) unit position (sym made.formals)
-      refl refl refl unit position (sym made.formals) refl refl checks reads fit behind;
+      refl refl refl unit position (sym made.formals) refl refl checks reads fit read;
 }
 
 -- ---- headers ----
@@ -98,7 +105,7 @@ module _ (us : List EflProcedure) (u : EflProcedure) (a : Around) (vs : List Par
       by None None s some e = absurd cc
 
   -- the groups of a header's type stand behind a fault
-  pub header_done : (q : Progress) → Behind us (vs ++ header ∷ []) q → Behind us ((vs ++ header ∷ []) ++ header_type_groups a u.result) q
+  header_done : (q : Progress) → Behind us (vs ++ header ∷ []) q → Behind us ((vs ++ header ∷ []) ++ header_type_groups a u.result) q
   header_done q behind = each u.result refl
     where
       each : (o : Option EflType) → u.result ≡ o → Behind us ((vs ++ header ∷ []) ++ header_type_groups a o) q
@@ -111,21 +118,42 @@ module _ (us : List EflProcedure) (u : EflProcedure) (a : Around) (vs : List Par
       each (Some (Shape o gs)) is =
           let told = shape_broken o gs is in behind_done us (vs ++ header ∷ []) (header_type_groups a (Some (Shape o gs))) q (ap is_some (behind.tells ∙ told.1)) behind
 
+  -- and meet no variable
+  pub header_read : (q : Walk) → Read us (vs ++ header ∷ []) q → Read us ((vs ++ header ∷ []) ++ header_type_groups a u.result) q
+  header_read q read = record {
+    tells = header_done q.progress read.tells;
+    counts = none_counted us (vs ++ header ∷ []) (header_type_groups a u.result) q.storage (header_meets_none a u.result) read.counts;
+    firsts = read.firsts;
+  }
+
+-- noted and counted
+pub header_added : (n : ℕ) (u : EflProcedure) (letters : Letters) (p q : Walk) (rule : Option TypeRule) → ((y : Types) → AreRules y (implied_of u) letters → rule ≡ first_rule (header_faults u)) →
+    ((us : List EflProcedure) (vs : List Part) (v : Part) → Behind us vs p.progress → v.place ≡ u.place → presets_of v.form ≡ [] → rule ≡ first_rule (part_faults us v) →
+    Behind us (vs ++ v ∷ []) q.progress) → CountsHeader n u.formals p.storage q.storage → q.firsts ≡ p.firsts → AddsHeader n u letters p q
+header_added n u letters p q rule ruled notes counts same y us a vs found unit blocks rules read =
+    let form = Header u.result u.formals in
+    let here : slice_get us a.unit ≡ Some u = ap (slice_get us) unit ∙ found in
+    record {
+      tells = notes us vs (part a u.place form) read.tells refl refl (rule_there first_rule us u a u.place form rule here (ruled y rules));
+      counts = counts us u a u.place vs found refl unit blocks read.counts;
+      firsts = subst (AreFirsts us) (sym same) read.firsts;
+    }
+
 -- ---- a procedure ----
 
-pub procedure_read : (y z : Types) (n : ℕ) (u : EflProcedure) (o : Outer) (units : Units) (outcome : Outcome) (areas : Areas) (own : Procedure) (p q r : Progress) →
-    IsKnown n u.formals o.letters units outcome areas own → result_of u.result ≡ names.result_of outcome → AreAreas u areas → AddsHeader u o.letters p q → ReadsOuter y u o.block own q z r →
+pub procedure_read : (y z : Types) (n : ℕ) (u : EflProcedure) (o : Outer) (units : Units) (outcome : Outcome) (areas : Areas) (own : Procedure) (p q r : Walk) →
+    IsKnown n u.formals o.letters units outcome areas own → result_of u.result ≡ names.result_of outcome → AreAreas u areas → AddsHeader n u o.letters p q → ReadsOuter y u o.block own q z r →
     ReadsProcedure y n u o units p z r
 procedure_read y z n u o units outcome areas own p q r known gives are head reads = record {
   later = reads.later;
-  adds = λ fit us vs found outer signed behind.
+  adds = λ fit us vs found outer signed read.
       let a = around_unit n u in
       let h = part a u.place (Header u.result u.formals) in
       let groups = header_type_groups a u.result in
       let declared = declarations_in a [] u.declarations in
       let stated = parts_in 0 (among (behind_all (scopes.outer u) u.declarations) a) u.body in
-      let headed = head y us a vs found outer.letters behind in
-      let grouped = header_done us u a vs found q headed in
+      let headed = head y us a vs found refl refl outer.letters read in
+      let grouped = header_read us u a vs found q headed in
       let is : IsProcedure y us u own = record {
         found = ap (slice_get us) known.unit ∙ found;
         formals = sym known.formals;
@@ -134,9 +162,9 @@ procedure_read y z n u o units outcome areas own p q r known gives are head read
         gives = gives ∙ sym (ap names.result_of known.outcome);
         areas = subst (AreAreas u) (sym known.areas) are;
       } in
-      let all : Behind us (((vs ++ h ∷ []) ++ groups) ++ (declared ++ stated)) r =
-      subst (λ m. Behind us (((vs ++ h ∷ []) ++ groups) ++ outer_parts m u) r) known.unit (reads.adds fit us ((vs ++ h ∷ []) ++ groups) is outer.block grouped) in
-      subst (λ ws. Behind us ws r)
+      let all : Read us (((vs ++ h ∷ []) ++ groups) ++ (declared ++ stated)) r =
+      subst (λ m. Read us (((vs ++ h ∷ []) ++ groups) ++ outer_parts m u) r) known.unit (reads.adds fit us ((vs ++ h ∷ []) ++ groups) is outer.block grouped) in
+      subst (λ ws. Read us ws r)
       (append_assoc (vs ++ h ∷ []) groups (declared ++ stated) ∙ append_assoc vs (h ∷ []) (groups ++ (declared ++ stated))
       ∙ ap (λ ws. vs ++ (h ∷ ws)) (sym (append_assoc groups declared stated)))
       all;
@@ -154,49 +182,49 @@ outers_later y z [] (o ∷ os) more are = absurd are
 outers_later y z (u ∷ us) [] more are = absurd are
 
 -- the procedures from this number on are left, with their outer blocks
-pub record ProceduresLeft (y : Types) (us : List EflProcedure) (all : List Outer) (units : Units) (p : Progress) (z : Types) (q : Progress) (n : ℕ) (rest : List EflProcedure) (os : List Outer) : Type 0 where
+pub record ProceduresLeft (y : Types) (us : List EflProcedure) (all : List Outer) (units : Units) (p : Walk) (z : Types) (q : Walk) (n : ℕ) (rest : List EflProcedure) (os : List Outer) : Type 0 where
   pub later : Later y z
   pub at : (i : ℕ) → slice_get us (n + i) ≡ slice_get rest i
   pub fit : ProceduresFit us → ProceduresFit rest
-  pub left : ProceduresFit us → AreOuters y us all → AreAllUnits y (signatures us) units → Behind us [] p →
-      AreOuters z rest os × ((ws : List Part) × Behind us ws q × (ws ++ parts_from n rest ≡ parts_from 0 us))
+  pub left : ProceduresFit us → AreOuters y us all → AreAllUnits y (signatures us) units → Read us [] p →
+      AreOuters z rest os × ((ws : List Part) × Read us ws q × (ws ++ parts_from n rest ≡ parts_from 0 us))
 
-pub procedures_begun : (y : Types) (us : List EflProcedure) (all : List Outer) (units : Units) (p : Progress) → ProceduresLeft y us all units p y p 0 us all
+pub procedures_begun : (y : Types) (us : List EflProcedure) (all : List Outer) (units : Units) (p : Walk) → ProceduresLeft y us all units p y p 0 us all
 procedures_begun y us all units p = record {
   later = later_same y;
   at = λ i. (let e : 0 + i ≡ i = omega arith in ap (slice_get us) e);
   fit = λ fit. fit;
-  left = λ fit outers signed behind. (outers, ([], behind, refl));
+  left = λ fit outers signed read. (outers, ([], read, refl));
 }
 
-pub procedure_passed : (y z w : Types) (us : List EflProcedure) (all : List Outer) (units : Units) (p q r : Progress) (n : ℕ) (u : EflProcedure) (rest : List EflProcedure) (o : Outer) (os : List Outer) →
+pub procedure_passed : (y z w : Types) (us : List EflProcedure) (all : List Outer) (units : Units) (p q r : Walk) (n : ℕ) (u : EflProcedure) (rest : List EflProcedure) (o : Outer) (os : List Outer) →
     ProceduresLeft y us all units p z q n (u ∷ rest) (o ∷ os) → ReadsProcedure z n u o units q w r → ProceduresLeft y us all units p w r (n + 1) rest os
 procedure_passed y z w us all units p q r n u rest o os before reads = record {
   later = later_on y z w before.later reads.later;
   at = λ i. (let e : n + 1 + i ≡ n + suc i = omega arith in ap (slice_get us) e ∙ before.at (suc i));
   fit = λ fit. (before.fit fit).1;
-  left = λ fit outers signed behind.
-      let here = before.left fit outers signed behind in
+  left = λ fit outers signed read.
+      let here = before.left fit outers signed read in
       let found : slice_get us n ≡ Some u = (let e : n ≡ n + 0 = omega arith in ap (slice_get us) e ∙ before.at 0) in
       let read = reads.adds (before.fit fit).0 us here.1.0 found here.0.0 (units_later y z (signatures us) units before.later signed) here.1.1 in
       (outers_later z w rest os reads.later here.0.1, (here.1.0 ++ parts_by n u, read, append_assoc here.1.0 (parts_by n u) (parts_from (n + 1) rest) ∙ here.1.2));
 }
 
 -- there is an outer block for each
-pub procedure_missed : (y z : Types) (us : List EflProcedure) (all : List Outer) (units : Units) (p q : Progress) (n : ℕ) (u : EflProcedure) (rest : List EflProcedure) (os : List Outer) →
+pub procedure_missed : (y z : Types) (us : List EflProcedure) (all : List Outer) (units : Units) (p q : Walk) (n : ℕ) (u : EflProcedure) (rest : List EflProcedure) (os : List Outer) →
     ProceduresLeft y us all units p z q n (u ∷ rest) [] → ProceduresLeft y us all units p z q (n + 1) rest os
 procedure_missed y z us all units p q n u rest os before = record {
   later = before.later;
   at = λ i. (let e : n + 1 + i ≡ n + suc i = omega arith in ap (slice_get us) e ∙ before.at (suc i));
   fit = λ fit. (before.fit fit).1;
-  left = λ fit outers signed behind. absurd (before.left fit outers signed behind).0;
+  left = λ fit outers signed read. absurd (before.left fit outers signed read).0;
 }
 
-pub procedures_ended : (y z : Types) (us : List EflProcedure) (all : List Outer) (units : Units) (p q : Progress) (n : ℕ) (os : List Outer) → ProceduresLeft y us all units p z q n [] os →
+pub procedures_ended : (y z : Types) (us : List EflProcedure) (all : List Outer) (units : Units) (p q : Walk) (n : ℕ) (os : List Outer) → ProceduresLeft y us all units p z q n [] os →
     ReadsAll y us all units p z q
 procedures_ended y z us all units p q n os done = record {
   later = done.later;
-  adds = λ fit outers signed behind. let at = (done.left fit outers signed behind).1 in subst (λ ws. Behind us ws q) (sym (append-nil at.0) ∙ at.2) at.1;
+  adds = λ fit outers signed read. let at = (done.left fit outers signed read).1 in subst (λ ws. Read us ws q) (sym (append-nil at.0) ∙ at.2) at.1;
 }
 
 -- ---- outer blocks one by one ----

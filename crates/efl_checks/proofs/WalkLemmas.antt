@@ -25,6 +25,8 @@ use Rattle.efl_types.specs.Statements.{clause_faults}
 use Rattle.efl_expressions.specs.FirstRule.{first_rule}
 use Rattle.efl_scoped.specs.Seen.{table_of}
 use Rattle.efl_expressions.specs.NameViews.{Know}
+use Rattle.efl_storage.specs.declared.storage.Storage.{Storage}
+use Rattle.efl_storage.specs.Firsts.{AreFirsts}
 use Rattle.efl_blocks.specs.declared.types.Types.{Types}
 use Rattle.efl_blocks.specs.declared.homes.Position.{Position}
 use Rattle.efl_blocks.specs.Within.{Later}
@@ -32,10 +34,14 @@ use Rattle.efl_blocks.specs.HomeViews.{position_of, AreHomes}
 use Rattle.efl_blocks.proofs.LaterLemmas.{later_same, later_on}
 use Rattle.efl_reading.specs.declared.sites.Site.{Site}
 use Rattle.efl_reading.specs.declared.progress.Progress.{Progress}
+use Rattle.efl_reading.specs.declared.walk.Walk.{Walk}
 use Rattle.efl_statements.specs.declared.clauses.Chosen.{Chosen}
 use Rattle.efl_statements.specs.Clauses.{AreChosen}
 use Rattle.efl_reading.specs.Reading.{IsProcedure, IsSite, Behind}
+use Rattle.efl_reading.specs.Counting.{CountsAt}
+use Rattle.efl_reading.specs.Walked.{Read}
 use Rattle.efl_reading.proofs.SiteLemmas.{site_later}
+use Rattle.efl_reading.proofs.CountingLemmas.{none_counted}
 use Rattle.efl_checks.specs.Walks.{IsFit, KindFits, AllFit, CasesFit, OtherFits, IsListed, names_around, IsMade, Adds, Reads, first_parts, other_parts, until_parts}
 
 -- ---- one part ----
@@ -53,40 +59,40 @@ found_there y us u a s is = ap (slice_get us) is.unit ∙ is.procedure.found
 
 -- ---- one behind the other ----
 
-pub reads_one : (y : Types) (s : Site) (p q : Progress) (Fit : Type 0) (parts : Around → List Part) → Adds y s p parts q → Reads y s p Fit parts y q
+pub reads_one : (y : Types) (s : Site) (p q : Walk) (Fit : Type 0) (parts : Around → List Part) → Adds y s p parts q → Reads y s p Fit parts y q
 reads_one y s p q Fit parts adds = record { later = later_same y; adds = λ fit. adds }
 
-pub reads_none : (y : Types) (s : Site) (p : Progress) (Fit : Type 0) → Reads y s p Fit (λ a. []) y p
-reads_none y s p Fit = record { later = later_same y; adds = λ fit us u a vs is behind. subst (λ ws. Behind us ws p) (sym (append-nil vs)) behind }
+pub reads_none : (y : Types) (s : Site) (p : Walk) (Fit : Type 0) → Reads y s p Fit (λ a. []) y p
+reads_none y s p Fit = record { later = later_same y; adds = λ fit us u a vs is read. subst (λ ws. Read us ws p) (sym (append-nil vs)) read }
 
-pub reads_on : (y z w : Types) (s : Site) (p q r : Progress) (Fit : Type 0) (one two : Around → List Part) → Reads y s p Fit one z q → Reads z s q Fit two w r →
+pub reads_on : (y z w : Types) (s : Site) (p q r : Walk) (Fit : Type 0) (one two : Around → List Part) → Reads y s p Fit one z q → Reads z s q Fit two w r →
     Reads y s p Fit (λ a. one a ++ two a) w r
 reads_on y z w s p q r Fit one two first second = record {
   later = later_on y z w first.later second.later;
-  adds = λ fit us u a vs is behind.
-      subst (λ ws. Behind us ws r) (append_assoc vs (one a) (two a))
-      (second.adds fit us u a (vs ++ one a) (site_later y z us u a s first.later is) (first.adds fit us u a vs is behind));
+  adds = λ fit us u a vs is read.
+      subst (λ ws. Read us ws r) (append_assoc vs (one a) (two a))
+      (second.adds fit us u a (vs ++ one a) (site_later y z us u a s first.later is) (first.adds fit us u a vs is read));
 }
 
-pub reads_same : (y z : Types) (s : Site) (p q : Progress) (Fit : Type 0) (one two : Around → List Part) → ((a : Around) → one a ≡ two a) → Reads y s p Fit one z q → Reads y s p Fit two z q
+pub reads_same : (y z : Types) (s : Site) (p q : Walk) (Fit : Type 0) (one two : Around → List Part) → ((a : Around) → one a ≡ two a) → Reads y s p Fit one z q → Reads y s p Fit two z q
 reads_same y z s p q Fit one two same reads = record {
   later = reads.later;
-  adds = λ fit us u a vs is behind. subst (λ ws. Behind us (vs ++ ws) q) (same a) (reads.adds fit us u a vs is behind);
+  adds = λ fit us u a vs is read. subst (λ ws. Read us (vs ++ ws) q) (same a) (reads.adds fit us u a vs is read);
 }
 
-pub reads_fit : (y z : Types) (s : Site) (p q : Progress) (Fit More : Type 0) (parts : Around → List Part) → (More → Fit) → Reads y s p Fit parts z q → Reads y s p More parts z q
+pub reads_fit : (y z : Types) (s : Site) (p q : Walk) (Fit More : Type 0) (parts : Around → List Part) → (More → Fit) → Reads y s p Fit parts z q → Reads y s p More parts z q
 reads_fit y z s p q Fit More parts fits reads = record { later = reads.later; adds = λ more. reads.adds (fits more) }
 
 -- at another site
-reads_moved : (y z : Types) (s t : Site) (p q : Progress) (Fit : Type 0) (f : Around → Around) (parts : Around → List Part) →
+reads_moved : (y z : Types) (s t : Site) (p q : Walk) (Fit : Type 0) (f : Around → Around) (parts : Around → List Part) →
     ((us : List EflProcedure) (u : EflProcedure) (a : Around) → IsSite y us u a s → IsSite y us u (f a) t) → Reads y t p Fit parts z q → Reads y s p Fit (λ a. parts (f a)) z q
 reads_moved y z s t p q Fit f parts there reads = record {
   later = reads.later;
-  adds = λ fit us u a vs is behind. reads.adds fit us u (f a) vs (there us u a is) behind;
+  adds = λ fit us u a vs is read. reads.adds fit us u (f a) vs (there us u a is) read;
 }
 
 -- in a list
-pub into_read : (y z : Types) (s t : Site) (p q : Progress) (Fit : Type 0) (n : ℕ) (place : Position) (parts : Around → List Part) →
+pub into_read : (y z : Types) (s t : Site) (p q : Walk) (Fit : Type 0) (n : ℕ) (place : Position) (parts : Around → List Part) →
     IsMade s.procedure.now place s.formals.now s.blocks.now s.homes.now t → position_of place ≡ n ∷ position_of s.position.now → Reads y t p Fit parts z q → Reads y s p Fit (λ a. parts (into n a)) z q
 into_read y z s t p q Fit n place parts made e reads = reads_moved y z s t p q Fit (into n) parts there reads
   where
@@ -101,7 +107,7 @@ into_read y z s t p q Fit n place parts made e reads = reads_moved y z s t p q F
     }
 
 -- a statement of a list stands there
-pub at_read : (y z : Types) (s t : Site) (p q : Progress) (Fit : Type 0) (n : ℕ) (place : Position) (parts : Around → List Part) →
+pub at_read : (y z : Types) (s t : Site) (p q : Walk) (Fit : Type 0) (n : ℕ) (place : Position) (parts : Around → List Part) →
     IsMade s.procedure.now place s.formals.now s.blocks.now s.homes.now t → position_of place ≡ n ∷ position_of s.position.now →
     Reads y t p (Fit × IsListed t.position.now) parts z q → Reads y s p Fit (λ a. parts (into n a)) z q
 at_read y z s t p q Fit n place parts made e reads =
@@ -111,29 +117,29 @@ at_read y z s t p q Fit n place parts made e reads =
 -- ---- what is left ----
 
 -- of these parts the rest is left, whatever stands before
-pub record PartsLeft (y : Types) (s : Site) (p : Progress) (Fit : Type 0) (parts : Around → List Part) (z : Types) (q : Progress) (Rest : Type 0) (rest : Around → List Part) : Type 0 where
+pub record PartsLeft (y : Types) (s : Site) (p : Walk) (Fit : Type 0) (parts : Around → List Part) (z : Types) (q : Walk) (Rest : Type 0) (rest : Around → List Part) : Type 0 where
   pub later : Later y z
   pub fit : Fit → Rest
-  pub left : Fit → (us : List EflProcedure) (u : EflProcedure) (a : Around) (vs : List Part) → IsSite y us u a s → Behind us vs p →
-      (ws : List Part) × Behind us ws q × (ws ++ rest a ≡ vs ++ parts a)
+  pub left : Fit → (us : List EflProcedure) (u : EflProcedure) (a : Around) (vs : List Part) → IsSite y us u a s → Read us vs p →
+      (ws : List Part) × Read us ws q × (ws ++ rest a ≡ vs ++ parts a)
 
-pub parts_begun : (y : Types) (s : Site) (p : Progress) (Fit : Type 0) (parts : Around → List Part) → PartsLeft y s p Fit parts y p Fit parts
-parts_begun y s p Fit parts = record { later = later_same y; fit = λ fit. fit; left = λ fit us u a vs is behind. (vs, behind, refl) }
+pub parts_begun : (y : Types) (s : Site) (p : Walk) (Fit : Type 0) (parts : Around → List Part) → PartsLeft y s p Fit parts y p Fit parts
+parts_begun y s p Fit parts = record { later = later_same y; fit = λ fit. fit; left = λ fit us u a vs is read. (vs, read, refl) }
 
-pub parts_passed : (y z w : Types) (s : Site) (p q r : Progress) (Fit One Rest : Type 0) (parts one rest : Around → List Part) → PartsLeft y s p Fit parts z q (One × Rest) (λ a. one a ++ rest a) →
+pub parts_passed : (y z w : Types) (s : Site) (p q r : Walk) (Fit One Rest : Type 0) (parts one rest : Around → List Part) → PartsLeft y s p Fit parts z q (One × Rest) (λ a. one a ++ rest a) →
     Reads z s q One one w r → PartsLeft y s p Fit parts w r Rest rest
 parts_passed y z w s p q r Fit One Rest parts one rest before reads = record {
   later = later_on y z w before.later reads.later;
   fit = λ fit. (before.fit fit).1;
-  left = λ fit us u a vs is behind.
-      let at = before.left fit us u a vs is behind in
+  left = λ fit us u a vs is read.
+      let at = before.left fit us u a vs is read in
       (at.0 ++ one a, reads.adds (before.fit fit).0 us u a at.0 (site_later y z us u a s before.later is) at.1, append_assoc at.0 (one a) (rest a) ∙ at.2);
 }
 
-pub parts_ended : (y z : Types) (s : Site) (p q : Progress) (Fit Rest : Type 0) (parts : Around → List Part) → PartsLeft y s p Fit parts z q Rest (λ a. []) → Reads y s p Fit parts z q
+pub parts_ended : (y z : Types) (s : Site) (p q : Walk) (Fit Rest : Type 0) (parts : Around → List Part) → PartsLeft y s p Fit parts z q Rest (λ a. []) → Reads y s p Fit parts z q
 parts_ended y z s p q Fit Rest parts all = record {
   later = all.later;
-  adds = λ fit us u a vs is behind. let at = all.left fit us u a vs is behind in subst (λ ws. Behind us ws q) (sym (append-nil at.0) ∙ at.2) at.1;
+  adds = λ fit us u a vs is read. let at = all.left fit us u a vs is read in subst (λ ws. Read us ws q) (sym (append-nil at.0) ∙ at.2) at.1;
 }
 
 -- ---- statements ----
@@ -141,29 +147,38 @@ parts_ended y z s p q Fit Rest parts all = record {
 abbrev NotesPart : Place → Option TypeRule → Progress → Progress → Type 0
 NotesPart place rule q m = (us : List EflProcedure) (vs : List Part) (v : Part) → Behind us vs q → v.place ≡ place → presets_of v.form ≡ [] → rule ≡ first_rule (part_faults us v) → Behind us (vs ++ v ∷ []) m
 
-pub part_noted : (y : Types) (s : Site) (q m : Progress) (place : Place) (rule : Option TypeRule) (form : Form) → NotesPart place rule q m → presets_of form ≡ [] →
-    ((us : List EflProcedure) (u : EflProcedure) (a : Around) → IsSite y us u a s → rule ≡ first_rule (faults_by u (names_around us u a) a form)) → Adds y s q (λ a. part a place form ∷ []) m
-part_noted y s q m place rule form notes none ruled us u a vs is behind =
-    notes us vs (part a place form) behind refl none (rule_there first_rule us u a place form rule (found_there y us u a s is) (ruled us u a is))
+-- noted and counted
+pub part_read : (y : Types) (s : Site) (q m : Walk) (place : Place) (rule : Option TypeRule) (form : Form) → NotesPart place rule q.progress m.progress → presets_of form ≡ [] →
+    ((us : List EflProcedure) (u : EflProcedure) (a : Around) → IsSite y us u a s → rule ≡ first_rule (faults_by u (names_around us u a) a form)) → CountsAt y s form q.storage m.storage →
+    m.firsts ≡ q.firsts → Adds y s q (λ a. part a place form ∷ []) m
+part_read y s q m place rule form notes none ruled counts same us u a vs is read = record {
+  tells = notes us vs (part a place form) read.tells refl none (rule_there first_rule us u a place form rule (found_there y us u a s is) (ruled us u a is));
+  counts = counts us u a place vs is read.counts;
+  firsts = subst (AreFirsts us) (sym same) read.firsts;
+}
+
+-- a clause meets no variable
+clause_counted : (y : Types) (s : Site) (zs before : List ℤ) (fallback seen : Bool) (storage : Storage) → CountsAt y s (Chooses zs fallback before seen) storage storage
+clause_counted y s zs before fallback seen storage us u a p vs is counted = none_counted us vs (part a p (Chooses zs fallback before seen) ∷ []) storage (refl, refl, tt) counted
 
 listing : (ss : EflStmts) (y : Types) (us : List EflProcedure) (u : EflProcedure) (a : Around) (s : Site) → IsSite y us u a s → IsSite y us u (in_list ss a) s
 listing ss y us u a s is = record { procedure = is.procedure; unit = is.unit; position = is.position; formals = is.formals; blocks = is.blocks; homes = is.homes }
 
 -- a list, whose labels no type asks about
-pub list_read : (y z : Types) (s : Site) (p q : Progress) (Fit : Type 0) (ss : EflStmts) → Reads y s p Fit (λ a. parts_in 0 a ss) z q → Reads y s p Fit (λ a. parts_in 0 (in_list ss a) ss) z q
+pub list_read : (y z : Types) (s : Site) (p q : Walk) (Fit : Type 0) (ss : EflStmts) → Reads y s p Fit (λ a. parts_in 0 a ss) z q → Reads y s p Fit (λ a. parts_in 0 (in_list ss a) ss) z q
 list_read y z s p q Fit ss reads = reads_moved y z s s p q Fit (in_list ss) (λ a. parts_in 0 a ss) (λ us u a is. listing ss y us u a s is) reads
 
 looping : (k : LoopKind) (y : Types) (us : List EflProcedure) (u : EflProcedure) (a : Around) (s : Site) → IsSite y us u a s → IsSite y us u (in_loop k a) s
 looping k y us u a s is = record { procedure = is.procedure; unit = is.unit; position = is.position; formals = is.formals; blocks = is.blocks; homes = is.homes }
 
 -- what stands in a loop or a switch
-pub loop_read : (k : LoopKind) (y z : Types) (s : Site) (p q : Progress) (Fit : Type 0) (parts : Around → List Part) → Reads y s p Fit parts z q → Reads y s p Fit (λ a. parts (in_loop k a)) z q
+pub loop_read : (k : LoopKind) (y z : Types) (s : Site) (p q : Walk) (Fit : Type 0) (parts : Around → List Part) → Reads y s p Fit parts z q → Reads y s p Fit (λ a. parts (in_loop k a)) z q
 loop_read k y z s p q Fit parts reads = reads_moved y z s s p q Fit (in_loop k) parts (λ us u a is. looping k y us u a s is) reads
 
-abbrev pub ReadsKind : Types → Site → Progress → EflKind → Types → Progress → Type 0
+abbrev pub ReadsKind : Types → Site → Walk → EflKind → Types → Walk → Type 0
 ReadsKind y s p k z q = Reads y s p (KindFits k × IsListed s.position.now) (λ a. parts_within a k) z q
 
-pub until_read : (y z : Types) (s : Site) (p q r : Progress) (x : EflStmt) (o : Option (EflExpr × Place)) → Reads y s p (IsFit x × IsListed s.position.now) (λ a. parts_of a x) z q →
+pub until_read : (y z : Types) (s : Site) (p q r : Walk) (x : EflStmt) (o : Option (EflExpr × Place)) → Reads y s p (IsFit x × IsListed s.position.now) (λ a. parts_of a x) z q →
     Adds z s q (until_parts o) r → ReadsKind y s p (repeated x o) z r
 until_read y z s p q r x None reads adds =
     let Fit = IsFit x × IsListed s.position.now in
@@ -176,7 +191,7 @@ until_read y z s p q r x (Some u) reads adds =
     (reads_one z s q r Fit (until_parts (Some u)) adds)
 
 -- both statements of an `if`
-pub branches_read : (y z w : Types) (s : Site) (p q r : Progress) (e : exprs.EflExpr) (b : Box stmts.EflStmt Global) (o : Option (Box stmts.EflStmt Global)) →
+pub branches_read : (y z w : Types) (s : Site) (p q r : Walk) (e : exprs.EflExpr) (b : Box stmts.EflStmt Global) (o : Option (Box stmts.EflStmt Global)) →
     Reads y s p (IsFit (stmt_of b.value) × IsListed s.position.now) (first_parts (stmt_of b.value) o) z q → Reads z s q (OtherFits o) (other_parts o) w r → ReadsKind y s p (kind_of (kinds.If e b o)) w r
 branches_read y z w s p q r e b None first second =
     let Fit = IsFit (stmt_of b.value) × IsListed s.position.now in
@@ -197,7 +212,7 @@ IsPlain a =
     ⊎ (((o : Option EflExpr) × (a ≡ kinds.Return o)) ⊎ (((x : Text) × (a ≡ kinds.Goto x)) ⊎ (((o : Option EflExpr) × (all : Vec WriteItem Global) × (a ≡ kinds.Write o all))
     ⊎ ((o : Option EflExpr) × (all : Vec ReadItem Global) × (a ≡ kinds.Read o all))))))))
 
-pub plain_read : (y : Types) (s : Site) (p : Progress) (a : kinds_in.EflKind) → IsPlain a → ReadsKind y s p (kind_of a) y p
+pub plain_read : (y : Types) (s : Site) (p : Walk) (a : kinds_in.EflKind) → IsPlain a → ReadsKind y s p (kind_of a) y p
 plain_read y s p a is = each a is
   where
     none : (k : kinds_in.EflKind) → a ≡ k → ReadsKind y s p (kind_of k) y p → ReadsKind y s p (kind_of a) y p
@@ -214,7 +229,7 @@ plain_read y s p a is = each a is
     each b (inr (inr (inr (inr (inr (inr (inr (o, all, e)))))))) = none (kinds.Read o all) e (reads_none y s p (Unit {0} × IsListed s.position.now))
 
 -- one statement more
-pub statement_passed : (y z w : Types) (s : Site) (p q r : Progress) (all : EflStmts) (n : ℕ) (x : EflStmt) (rest : EflStmts) →
+pub statement_passed : (y z w : Types) (s : Site) (p q r : Walk) (all : EflStmts) (n : ℕ) (x : EflStmt) (rest : EflStmts) →
     PartsLeft y s p (AllFit all) (λ a. parts_in 0 a all) z q (AllFit (AndStmt x rest)) (λ a. parts_in n a (AndStmt x rest)) → Reads z s q (IsFit x) (λ a. parts_of (into n a) x) w r →
     PartsLeft y s p (AllFit all) (λ a. parts_in 0 a all) w r (AllFit rest) (λ a. parts_in (n + 1) a rest)
 statement_passed y z w s p q r all n x rest before reads =
@@ -222,26 +237,27 @@ statement_passed y z w s p q r all n x rest before reads =
 
 -- ---- clauses ----
 
-pub record ClausesLeft (y : Types) (s : Site) (p : Progress) (all : EflCases) (z : Types) (q : Progress) (now : Chosen) (n : ℕ) (rest : EflCases) : Type 0 where
+pub record ClausesLeft (y : Types) (s : Site) (p : Walk) (all : EflCases) (z : Types) (q : Walk) (now : Chosen) (n : ℕ) (rest : EflCases) : Type 0 where
   pub before : List ℤ
   pub seen : Bool
   pub chosen : AreChosen before seen now
   pub left : PartsLeft y s p (CasesFit all) (λ a. clauses_in 0 a [] false all) z q (CasesFit rest) (λ a. clauses_in n a before seen rest)
 
-pub clauses_begun : (y : Types) (s : Site) (p : Progress) (all : EflCases) (now : Chosen) → AreChosen [] false now → ClausesLeft y s p all y p now 0 all
+pub clauses_begun : (y : Types) (s : Site) (p : Walk) (all : EflCases) (now : Chosen) → AreChosen [] false now → ClausesLeft y s p all y p now 0 all
 clauses_begun y s p all now none = record { before = []; seen = false; chosen = none; left = parts_begun y s p (CasesFit all) (λ a. clauses_in 0 a [] false all) }
 
 -- one clause more
-pub clause_passed : (y z w : Types) (s : Site) (p q m r : Progress) (all : EflCases) (now new : Chosen) (n : ℕ) (zs : List ℤ) (fallback : Bool) (ss : EflStmts) (place : Place) (rest : EflCases)
+pub clause_passed : (y z w : Types) (s : Site) (p q m r : Walk) (all : EflCases) (now new : Chosen) (n : ℕ) (zs : List ℤ) (fallback : Bool) (ss : EflStmts) (place : Place) (rest : EflCases)
     (rule : Option TypeRule) → ClausesLeft y s p all z q now n (AndCase zs fallback ss place rest) →
     ((before : List ℤ) (seen : Bool) → AreChosen before seen now → rule ≡ first_rule (clause_faults zs fallback before seen)) →
     ((before : List ℤ) (seen : Bool) → AreChosen before seen now → AreChosen (before ++ zs) (seen || fallback) new) →
-    NotesPart place rule q m → Reads z s m (AllFit ss) (λ a. parts_in 0 (in_list ss (into n a)) ss) w r → ClausesLeft y s p all w r new (n + 1) rest
-clause_passed y z w s p q m r all now new n zs fallback ss place rest rule before ruled grows notes body =
+    NotesPart place rule q.progress m.progress → m.storage ≡ q.storage → m.firsts ≡ q.firsts → Reads z s m (AllFit ss) (λ a. parts_in 0 (in_list ss (into n a)) ss) w r → ClausesLeft y s p all w r new (n + 1) rest
+clause_passed y z w s p q m r all now new n zs fallback ss place rest rule before ruled grows notes stored same body =
     let zs0 = before.before in
     let seen = before.seen in
     let form = Chooses zs fallback zs0 seen in
-    let own = part_noted z s q m place rule form notes refl (λ us u a is. ruled zs0 seen before.chosen) in
+    let own = part_read z s q m place rule form notes refl (λ us u a is. ruled zs0 seen before.chosen)
+    (subst (CountsAt z s form q.storage) (sym stored) (clause_counted z s zs zs0 fallback seen q.storage)) same in
     let one = reads_on z z w s q m r (AllFit ss) (λ a. part a place form ∷ []) (λ a. parts_in 0 (in_list ss (into n a)) ss) (reads_one z s q m (AllFit ss) (λ a. part a place form ∷ []) own) body in
     record {
       before = zs0 ++ zs;
@@ -251,7 +267,7 @@ clause_passed y z w s p q m r all now new n zs fallback ss place rest rule befor
           (λ a. clauses_in (n + 1) a (zs0 ++ zs) (seen || fallback) rest) before.left one;
     }
 
-pub clauses_ended : (y z : Types) (s : Site) (p q : Progress) (all : EflCases) (now : Chosen) (n : ℕ) → ClausesLeft y s p all z q now n NoCase →
+pub clauses_ended : (y z : Types) (s : Site) (p q : Walk) (all : EflCases) (now : Chosen) (n : ℕ) → ClausesLeft y s p all z q now n NoCase →
     Reads y s p (CasesFit all) (λ a. clauses_in 0 a [] false all) z q
 clauses_ended y z s p q all now n done = parts_ended y z s p q (CasesFit all) (Unit {0}) (λ a. clauses_in 0 a [] false all) done.left
 

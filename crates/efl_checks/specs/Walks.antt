@@ -28,8 +28,9 @@ use Rattle.efl_blocks.specs.ProcedureViews.{AreAllUnits, AreOuters}
 use Rattle.efl_initial_values.specs.declared.areas.Areas.{Areas}
 use Rattle.efl_reading.specs.declared.sites.Procedure.{Procedure}
 use Rattle.efl_reading.specs.declared.sites.Site.{Site}
-use Rattle.efl_reading.specs.declared.progress.Progress.{Progress}
-use Rattle.efl_reading.specs.Reading.{IsProcedure, IsSite, Behind}
+use Rattle.efl_reading.specs.declared.walk.Walk.{Walk}
+use Rattle.efl_reading.specs.Reading.{IsProcedure, IsSite}
+use Rattle.efl_reading.specs.Walked.{Read}
 use Rattle.efl_declarations.specs.Checks.{IsInner}
 
 -- the names of the parts there
@@ -95,19 +96,19 @@ pub record IsMade (own : Procedure) (at : Position) (xs : List Text) (bs : Block
   pub homes : s.homes.now ≡ hs
 
 -- the parts that stand there come behind those that were read
-abbrev pub Adds : Types → Site → Progress → (Around → List Part) → Progress → Type 0
-Adds y s p parts q = (us : List EflProcedure) (u : EflProcedure) (a : Around) (vs : List Part) → IsSite y us u a s → Behind us vs p → Behind us (vs ++ parts a) q
+abbrev pub Adds : Types → Site → Walk → (Around → List Part) → Walk → Type 0
+Adds y s p parts q = (us : List EflProcedure) (u : EflProcedure) (a : Around) (vs : List Part) → IsSite y us u a s → Read us vs p → Read us (vs ++ parts a) q
 
 -- the same while types are made, of what is fit
-pub record Reads (y : Types) (s : Site) (p : Progress) (Fit : Type 0) (parts : Around → List Part) (z : Types) (q : Progress) : Type 0 where
+pub record Reads (y : Types) (s : Site) (p : Walk) (Fit : Type 0) (parts : Around → List Part) (z : Types) (q : Walk) : Type 0 where
   pub later : Later y z
   pub adds : Fit → Adds y s p parts q
 
 -- the statements of a block, which is known
-pub record ReadsInside (y : Types) (known : memory.Block) (s : Site) (p : Progress) (ss : EflStmts) (z : Types) (q : Progress) : Type 0 where
+pub record ReadsInside (y : Types) (known : memory.Block) (s : Site) (p : Walk) (ss : EflStmts) (z : Types) (q : Walk) : Type 0 where
   pub later : Later y z
   pub adds : AllFit ss → (us : List EflProcedure) (u : EflProcedure) (a : Around) (b : scopes.Block) (bs : scopes.Blocks) (vs : List Part) → IsInner y us u a b bs s known →
-      Behind us vs p → Behind us (vs ++ parts_in 0 a ss) q
+      Read us vs p → Read us (vs ++ parts_in 0 a ss) q
 
 -- ---- statements ----
 
@@ -126,24 +127,25 @@ until_parts (Some u) a = part a u.1 (Until (expr_of u.0)) ∷ []
 
 -- ---- procedures ----
 
-abbrev pub AddsHeader : EflProcedure → Letters → Progress → Progress → Type 0
-AddsHeader u letters p q = (y : Types) (us : List EflProcedure) (a : Around) (vs : List Part) → slice_get us a.unit ≡ Some u → AreRules y (implied_of u) letters →
-    Behind us vs p → Behind us (vs ++ part a u.place (Header u.result u.formals) ∷ []) q
+-- the header of the procedure with this number
+abbrev pub AddsHeader : ℕ → EflProcedure → Letters → Walk → Walk → Type 0
+AddsHeader n u letters p q = (y : Types) (us : List EflProcedure) (a : Around) (vs : List Part) → slice_get us n ≡ Some u → a.unit ≡ n → a.blocks ≡ outer u → AreRules y (implied_of u) letters →
+    Read us vs p → Read us (vs ++ part a u.place (Header u.result u.formals) ∷ []) q
 
 -- the declarations and statements
 abbrev pub outer_parts : ℕ → EflProcedure → List Part
 outer_parts n u = let a = around_unit n u in declarations_in a [] u.declarations ++ parts_in 0 (among (behind_all (outer u) u.declarations) a) u.body
 
-pub record ReadsOuter (y : Types) (u : EflProcedure) (block : memory.Block) (own : Procedure) (p : Progress) (z : Types) (q : Progress) : Type 0 where
+pub record ReadsOuter (y : Types) (u : EflProcedure) (block : memory.Block) (own : Procedure) (p : Walk) (z : Types) (q : Walk) : Type 0 where
   pub later : Later y z
-  pub adds : AllFit u.body → (us : List EflProcedure) (vs : List Part) → IsProcedure y us u own → Within y (outer u) block Outside → Behind us vs p → Behind us (vs ++ outer_parts own.unit u) q
+  pub adds : AllFit u.body → (us : List EflProcedure) (vs : List Part) → IsProcedure y us u own → Within y (outer u) block Outside → Read us vs p → Read us (vs ++ outer_parts own.unit u) q
 
 -- a procedure of this number
-pub record ReadsProcedure (y : Types) (n : ℕ) (u : EflProcedure) (o : Outer) (units : Units) (p : Progress) (z : Types) (q : Progress) : Type 0 where
+pub record ReadsProcedure (y : Types) (n : ℕ) (u : EflProcedure) (o : Outer) (units : Units) (p : Walk) (z : Types) (q : Walk) : Type 0 where
   pub later : Later y z
-  pub adds : AllFit u.body → (us : List EflProcedure) (vs : List Part) → slice_get us n ≡ Some u → IsOuter y u o → AreAllUnits y (signatures us) units → Behind us vs p → Behind us (vs ++ parts_by n u) q
+  pub adds : AllFit u.body → (us : List EflProcedure) (vs : List Part) → slice_get us n ≡ Some u → IsOuter y u o → AreAllUnits y (signatures us) units → Read us vs p → Read us (vs ++ parts_by n u) q
 
 -- all procedures of a program
-pub record ReadsAll (y : Types) (us : List EflProcedure) (os : List Outer) (units : Units) (p : Progress) (z : Types) (q : Progress) : Type 0 where
+pub record ReadsAll (y : Types) (us : List EflProcedure) (os : List Outer) (units : Units) (p : Walk) (z : Types) (q : Walk) : Type 0 where
   pub later : Later y z
-  pub adds : ProceduresFit us → AreOuters y us os → AreAllUnits y (signatures us) units → Behind us [] p → Behind us (parts_from 0 us) q
+  pub adds : ProceduresFit us → AreOuters y us os → AreAllUnits y (signatures us) units → Read us [] p → Read us (parts_from 0 us) q

@@ -1,23 +1,26 @@
-// The first fault of a program by the rules of types.
-ghost use Rattle.std.specs.Prelude.{◌≡◌, None, IfOk, IfErr, OnOk};
-ghost use Rattle.efl_tree.specs.Views.{program_of};
-ghost use Rattle.efl_types.specs.TypeRules.{first_fault};
+// The first fault of a program by the rules of types, and the limit on all variables.
+ghost use Rattle.std.specs.Prelude.{◌≡◌, None, map, IfOk, IfErr, OnOk};
+ghost use Rattle.efl_tree.specs.Syntax.{EflProgram as ProgramSeen};
+ghost use Rattle.efl_tree.specs.Views.{procedure_of, program_of};
+ghost use Rattle.efl_scope.specs.Parts.{program_parts};
+ghost use Rattle.efl_reading.specs.Walked.{Read};
 ghost use Rattle.efl_checks.specs.Walks.{ProceduresFit};
-ghost use Rattle.efl_checks.specs.Answers.{IsRightRefusal};
+ghost use Rattle.efl_checks.specs.Answers.{IsRightRefusal, typed_fault};
 
 use crate::procedures::check_procedures;
 use efl_blocks::{Types, open_procedures};
 use efl_expressions::Structures;
-use efl_reading::Progress;
+use efl_reading::Walk;
 use efl_scoped::Pairs;
-use efl_tree::EflProgram;
+use efl_tree::{EflProcedure, EflProgram};
 use ground::{Fault, Refusal};
 use std::alloc::{AllocError, Global};
 
-/// Whether no part of a program breaks a rule of types, where its scopes have no fault and lists of common stand in outer blocks alone; else exactly the first fault (Feldman, The
-/// Programming Language EFL: data types and variables; expressions; declarations; executable statements; procedures).
+/// Whether no part of a program breaks a rule of types and its variables have no more places than a program may have, where its scopes
+/// have no fault and lists of common stand in outer blocks alone; else exactly the first fault, that of the limit behind all others
+/// (Feldman, The Programming Language EFL: data types and variables; expressions; declarations; executable statements; procedures).
 pub fn check(alloc: Global, program: &EflProgram) -> Result<(), Refusal>
-    ensures accepted { OnOk result (ProceduresFit (program_of program.now).procedures → first_fault (program_of program.now) ≡ None) }
+    ensures accepted { OnOk result (ProceduresFit (program_of program.now).procedures → typed_fault (program_of program.now) ≡ None) }
     ensures refused { IfErr result (IsRightRefusal (program_of program.now)) }
 {
     match program_fault(alloc, program) {
@@ -28,7 +31,7 @@ pub fn check(alloc: Global, program: &EflProgram) -> Result<(), Refusal>
 }
 
 fn program_fault(alloc: Global, program: &EflProgram) -> Result<Option<Fault>, AllocError>
-    ensures { IfOk result (λ fault. ProceduresFit (program_of program.now).procedures → fault ≡ first_fault (program_of program.now)) }
+    ensures { IfOk result (λ fault. ProceduresFit (program_of program.now).procedures → fault ≡ typed_fault (program_of program.now)) }
 {
     let mut types = Types {
         structures: Structures {
@@ -37,14 +40,24 @@ fn program_fault(alloc: Global, program: &EflProgram) -> Result<Option<Fault>, A
         numbers: Pairs::new(alloc),
     };
     let opened = open_procedures(alloc, &program.procedures, &mut types)?;
-    let mut progress = Progress::new(alloc);
+    let mut walk = Walk::new(alloc, &program.procedures)?;
     check_procedures(
         alloc,
         &program.procedures,
         opened.outers,
         &opened.units,
         &mut types,
-        &mut progress,
+        &mut walk,
     )?;
-    Ok(progress.fault)
+    Ok(walked_fault(&walk, &program.procedures))
+}
+
+/// The fault of a program whose parts are all read.
+fn walked_fault(walk: &Walk, procedures: &[EflProcedure]) -> Option<Fault>
+    ensures { (p : ProgramSeen) → p.procedures ≡ map procedure_of procedures.now → Read p.procedures (program_parts p) walk.now → result ≡ typed_fault p }
+{
+    match walk.progress.fault {
+        Some(fault) => Some(fault),
+        None => walk.storage.fault(procedures),
+    }
 }

@@ -10,7 +10,7 @@ use efl_declarations::check_declarations;
 use efl_expressions::{Block, Blocks};
 use efl_initial_values::areas_of;
 use efl_names::{Letters, Units};
-use efl_reading::{Procedure, Progress};
+use efl_reading::{Procedure, Walk, count_header};
 use efl_statements::header_rule;
 use efl_tree::EflProcedure;
 use std::alloc::{AllocError, Global};
@@ -22,14 +22,14 @@ pub fn check_procedures<'a>(
     outers: Vec<Outer<'a>>,
     units: &Units<'a>,
     types: &mut Types<'a>,
-    progress: &mut Progress,
+    walk: &mut Walk,
 ) -> Result<(), AllocError>
-    ensures { OnOk result (ReadsAll types.old (map procedure_of list.now) outers.entry.items units.now progress.old types.new progress.new) }
+    ensures { OnOk result (ReadsAll types.old (map procedure_of list.now) outers.entry.items units.now walk.old types.new walk.new) }
 {
     let mut rest = outers.into_iter();
     for (unit, procedure) in list.iter().enumerate() {
         if let Some(outer) = rest.next() {
-            check_procedure(alloc, unit, procedure, outer, units, types, progress)?;
+            check_procedure(alloc, unit, procedure, outer, units, types, walk)?;
         }
     }
     Ok(())
@@ -43,12 +43,12 @@ fn check_procedure<'a>(
     outer: Outer<'a>,
     units: &Units<'a>,
     types: &mut Types<'a>,
-    progress: &mut Progress,
+    walk: &mut Walk,
 ) -> Result<(), AllocError>
-    ensures { OnOk result (ReadsProcedure types.old unit (procedure_of procedure.now) outer.entry units.now progress.old types.new progress.new) }
+    ensures { OnOk result (ReadsProcedure types.old unit (procedure_of procedure.now) outer.entry units.now walk.old types.new walk.new) }
 {
     let letters = outer.letters;
-    note_header(alloc, procedure, &letters, progress)?;
+    note_header(alloc, unit, procedure, &letters, walk)?;
     let areas = areas_of(alloc, &procedure.declarations)?;
     let own = procedure_at(
         unit,
@@ -58,21 +58,22 @@ fn check_procedure<'a>(
         outcome_of(&procedure.result),
         &areas,
     );
-    check_outer(alloc, procedure, outer.block, &own, types, progress)
+    check_outer(alloc, procedure, outer.block, &own, types, walk)
 }
 
-/// The header of a procedure.
+/// The header of the procedure with this number.
 fn note_header(
     alloc: Global,
+    unit: usize,
     procedure: &EflProcedure,
     letters: &Letters,
-    progress: &mut Progress,
+    walk: &mut Walk,
 ) -> Result<(), AllocError>
-    ensures { OnOk result (AddsHeader (procedure_of procedure.now) letters.now progress.old progress.new) }
+    ensures { OnOk result (AddsHeader unit (procedure_of procedure.now) letters.now walk.old walk.new) }
 {
     let rule = header_rule(alloc, procedure, letters)?;
-    progress.note(procedure.place, rule);
-    Ok(())
+    walk.progress.note(procedure.place, rule);
+    count_header(alloc, unit, &procedure.formals, &mut walk.storage)
 }
 
 /// The declarations and statements of a procedure, of which this is the outer block.
@@ -82,9 +83,9 @@ fn check_outer<'a>(
     block: Block<'a>,
     own: &Procedure<'_, 'a>,
     types: &mut Types<'a>,
-    progress: &mut Progress,
+    walk: &mut Walk,
 ) -> Result<(), AllocError>
-    ensures { OnOk result (ReadsOuter types.old (procedure_of procedure.now) block.entry own.now progress.old types.new progress.new) }
+    ensures { OnOk result (ReadsOuter types.old (procedure_of procedure.now) block.entry own.now walk.old types.new walk.new) }
 {
     let mut known = block;
     let site = site_at(
@@ -100,7 +101,7 @@ fn check_outer<'a>(
         &site,
         &mut known,
         types,
-        progress,
+        walk,
     )?;
-    check_inside(alloc, &procedure.body, &known, &site, types, progress)
+    check_inside(alloc, &procedure.body, &known, &site, types, walk)
 }

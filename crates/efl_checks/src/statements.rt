@@ -10,7 +10,7 @@ use efl_blocks::{Homes, Position, Types, open_block};
 use efl_declarations::check_declarations;
 use efl_expressions::{Block, Blocks};
 use efl_places::check_value;
-use efl_reading::{Progress, Site};
+use efl_reading::{Site, Walk, count_condition, count_statement};
 use efl_statements::{Chosen, clause_rule, statement_rule};
 use efl_tree::{EflCase, EflDecl, EflExpr, EflKind, EflStmt};
 use ground::{Kind, Place};
@@ -24,14 +24,14 @@ pub fn check_inside<'a>(
     known: &Block<'a>,
     site: &Site<'_, 'a>,
     types: &mut Types<'a>,
-    progress: &mut Progress,
+    walk: &mut Walk,
 ) -> Result<(), AllocError>
-    ensures { OnOk result (ReadsInside types.old known.now site.now progress.old (stmts_of list.now) types.new progress.new) }
+    ensures { OnOk result (ReadsInside types.old known.now site.now walk.old (stmts_of list.now) types.new walk.new) }
 {
     let blocks = Blocks::Inside(&*known, site.blocks);
     let homes = Homes::Inside(site.position, &*known, site.homes);
     let inside = site_at(site.procedure, site.position, site.formals, &blocks, &homes);
-    check_statements(alloc, list, &inside, types, progress)
+    check_statements(alloc, list, &inside, types, walk)
 }
 
 #[cycle(check)]
@@ -40,12 +40,12 @@ fn check_statements<'a>(
     list: &'a [EflStmt],
     site: &Site<'_, 'a>,
     types: &mut Types<'a>,
-    progress: &mut Progress,
+    walk: &mut Walk,
 ) -> Result<(), AllocError>
-    ensures { OnOk result (Reads types.old site.now progress.old (AllFit (stmts_of list.now)) (λ a. parts_in 0 a (stmts_of list.now)) types.new progress.new) }
+    ensures { OnOk result (Reads types.old site.now walk.old (AllFit (stmts_of list.now)) (λ a. parts_in 0 a (stmts_of list.now)) types.new walk.new) }
 {
     for (number, statement) in list.iter().enumerate() {
-        check_at(alloc, number, statement, &*site, types, progress)?;
+        check_at(alloc, number, statement, &*site, types, walk)?;
     }
     Ok(())
 }
@@ -58,9 +58,9 @@ fn check_at<'a>(
     statement: &'a EflStmt,
     site: &Site<'_, 'a>,
     types: &mut Types<'a>,
-    progress: &mut Progress,
+    walk: &mut Walk,
 ) -> Result<(), AllocError>
-    ensures { OnOk result (Reads types.old site.now progress.old (IsFit (stmt_of statement.now)) (λ a. parts_of (into number a) (stmt_of statement.now)) types.new progress.new) }
+    ensures { OnOk result (Reads types.old site.now walk.old (IsFit (stmt_of statement.now)) (λ a. parts_of (into number a) (stmt_of statement.now)) types.new walk.new) }
 {
     let position = Position::Inside(number, site.position);
     let inside = site_at(
@@ -70,7 +70,7 @@ fn check_at<'a>(
         site.blocks,
         site.homes,
     );
-    check_statement(alloc, statement, &inside, types, progress)
+    check_statement(alloc, statement, &inside, types, walk)
 }
 
 /// A statement with all that it holds.
@@ -80,26 +80,35 @@ fn check_statement<'a>(
     statement: &'a EflStmt,
     site: &Site<'_, 'a>,
     types: &mut Types<'a>,
-    progress: &mut Progress,
+    walk: &mut Walk,
 ) -> Result<(), AllocError>
-    ensures { OnOk result (Reads types.old site.now progress.old (IsFit (stmt_of statement.now) × IsListed site.now.position.now) (λ a. parts_of a (stmt_of statement.now)) types.new progress.new) }
+    ensures { OnOk result (Reads types.old site.now walk.old (IsFit (stmt_of statement.now) × IsListed site.now.position.now) (λ a. parts_of a (stmt_of statement.now)) types.new walk.new) }
 {
-    note_statement(&statement.kind, statement.place, &*site, &*types, progress);
-    check_within(alloc, &statement.kind, &*site, types, progress)
+    note_statement(
+        alloc,
+        &statement.kind,
+        statement.place,
+        &*site,
+        &*types,
+        walk,
+    )?;
+    check_within(alloc, &statement.kind, &*site, types, walk)
 }
 
 /// A statement by itself.
 fn note_statement<'a>(
+    alloc: Global,
     kind: &EflKind,
     place: Place,
     site: &Site<'_, 'a>,
     types: &Types<'a>,
-    progress: &mut Progress,
-)
-    ensures { (ls : List Text) → Adds types.now site.now progress.old (λ a. part a place (States ls (kind_of kind.now)) ∷ []) progress.new }
+    walk: &mut Walk,
+) -> Result<(), AllocError>
+    ensures { OnOk result ((ls : List Text) → Adds types.now site.now walk.old (λ a. part a place (States ls (kind_of kind.now)) ∷ []) walk.new) }
 {
     let names = names_at(site, types);
-    progress.note(place, statement_rule(kind, &names));
+    walk.progress.note(place, statement_rule(kind, &names));
+    count_statement(alloc, kind, site, &mut walk.storage)
 }
 
 /// What a statement holds.
@@ -109,27 +118,26 @@ fn check_within<'a>(
     kind: &'a EflKind,
     site: &Site<'_, 'a>,
     types: &mut Types<'a>,
-    progress: &mut Progress,
+    walk: &mut Walk,
 ) -> Result<(), AllocError>
-    ensures { OnOk result (Reads types.old site.now progress.old (KindFits (kind_of kind.now) × IsListed site.now.position.now) (λ a. parts_within a (kind_of kind.now)) types.new progress.new) }
+    ensures { OnOk result (Reads types.old site.now walk.old (KindFits (kind_of kind.now) × IsListed site.now.position.now) (λ a. parts_within a (kind_of kind.now)) types.new walk.new) }
 {
     match kind {
         EflKind::Block(declarations, list) => {
-            check_block(alloc, declarations, list, &*site, types, progress)
+            check_block(alloc, declarations, list, &*site, types, walk)
         }
         EflKind::If(_, body, other) => {
-            check_first(alloc, body, other, &*site, types, progress)?;
-            check_other(alloc, other, &*site, types, progress)
+            check_first(alloc, body, other, &*site, types, walk)?;
+            check_other(alloc, other, &*site, types, walk)
         }
-        EflKind::While(_, body) => check_statement(alloc, body, &*site, types, progress),
-        EflKind::For(_, _, _, body) => check_statement(alloc, body, &*site, types, progress),
+        EflKind::While(_, body) => check_statement(alloc, body, &*site, types, walk),
+        EflKind::For(_, _, _, body) => check_statement(alloc, body, &*site, types, walk),
         EflKind::Repeat(body, until) => {
-            check_statement(alloc, body, &*site, types, progress)?;
-            note_until(until, &*site, &*types, progress);
-            Ok(())
+            check_statement(alloc, body, &*site, types, walk)?;
+            note_until(alloc, until, &*site, &*types, walk)
         }
-        EflKind::Do(_, _, _, _, body) => check_statement(alloc, body, &*site, types, progress),
-        EflKind::Switch(_, list) => check_clauses(alloc, list, &*site, types, progress),
+        EflKind::Do(_, _, _, _, body) => check_statement(alloc, body, &*site, types, walk),
+        EflKind::Switch(_, list) => check_clauses(alloc, list, &*site, types, walk),
         EflKind::Empty
         | EflKind::Act(_)
         | EflKind::Break(_, _)
@@ -149,13 +157,13 @@ fn check_first<'a>(
     other: &Option<Box<EflStmt>>,
     site: &Site<'_, 'a>,
     types: &mut Types<'a>,
-    progress: &mut Progress,
+    walk: &mut Walk,
 ) -> Result<(), AllocError>
-    ensures { OnOk result (Reads types.old site.now progress.old (IsFit (stmt_of body.now) × IsListed site.now.position.now) (first_parts (stmt_of body.now) other.now) types.new progress.new) }
+    ensures { OnOk result (Reads types.old site.now walk.old (IsFit (stmt_of body.now) × IsListed site.now.position.now) (first_parts (stmt_of body.now) other.now) types.new walk.new) }
 {
     match other {
-        None => check_statement(alloc, body, &*site, types, progress),
-        Some(_) => check_at(alloc, 0, body, &*site, types, progress),
+        None => check_statement(alloc, body, &*site, types, walk),
+        Some(_) => check_at(alloc, 0, body, &*site, types, walk),
     }
 }
 
@@ -166,28 +174,34 @@ fn check_other<'a>(
     other: &'a Option<Box<EflStmt>>,
     site: &Site<'_, 'a>,
     types: &mut Types<'a>,
-    progress: &mut Progress,
+    walk: &mut Walk,
 ) -> Result<(), AllocError>
-    ensures { OnOk result (Reads types.old site.now progress.old (OtherFits other.now) (other_parts other.now) types.new progress.new) }
+    ensures { OnOk result (Reads types.old site.now walk.old (OtherFits other.now) (other_parts other.now) types.new walk.new) }
 {
     match other {
         None => Ok(()),
-        Some(other) => check_at(alloc, 1, other, &*site, types, progress),
+        Some(other) => check_at(alloc, 1, other, &*site, types, walk),
     }
 }
 
 /// The condition of `until`.
 fn note_until<'a>(
+    alloc: Global,
     until: &Option<(EflExpr, Place)>,
     site: &Site<'_, 'a>,
     types: &Types<'a>,
-    progress: &mut Progress,
-)
-    ensures { Adds types.now site.now progress.old (until_parts until.now) progress.new }
+    walk: &mut Walk,
+) -> Result<(), AllocError>
+    ensures { OnOk result (Adds types.now site.now walk.old (until_parts until.now) walk.new) }
 {
-    if let Some((test, place)) = until {
-        let names = names_at(site, types);
-        progress.note(*place, check_value(Kind::Logical, test, &names));
+    match until {
+        None => Ok(()),
+        Some((test, place)) => {
+            let names = names_at(site, types);
+            walk.progress
+                .note(*place, check_value(Kind::Logical, test, &names));
+            count_condition(alloc, test, site, &mut walk.storage)
+        }
     }
 }
 
@@ -199,14 +213,14 @@ fn check_block<'a>(
     list: &'a [EflStmt],
     site: &Site<'_, 'a>,
     types: &mut Types<'a>,
-    progress: &mut Progress,
+    walk: &mut Walk,
 ) -> Result<(), AllocError>
-    ensures { OnOk result (Reads types.old site.now progress.old (KindFits (ABlock (decls_of declarations.now) (stmts_of list.now)) × IsListed site.now.position.now) (λ a. parts_within a (ABlock (decls_of declarations.now) (stmts_of list.now))) types.new progress.new) }
+    ensures { OnOk result (Reads types.old site.now walk.old (KindFits (ABlock (decls_of declarations.now) (stmts_of list.now)) × IsListed site.now.position.now) (λ a. parts_within a (ABlock (decls_of declarations.now) (stmts_of list.now))) types.new walk.new) }
 {
     let mut known = open_block(alloc, declarations, site.blocks, types)?;
     let inner = site_at(site.procedure, site.position, &[], site.blocks, site.homes);
-    check_declarations(alloc, declarations, &inner, &mut known, types, progress)?;
-    check_inside(alloc, list, &known, &*site, types, progress)
+    check_declarations(alloc, declarations, &inner, &mut known, types, walk)?;
+    check_inside(alloc, list, &known, &*site, types, walk)
 }
 
 /// The clauses of a switch.
@@ -216,15 +230,15 @@ fn check_clauses<'a>(
     list: &'a [EflCase],
     site: &Site<'_, 'a>,
     types: &mut Types<'a>,
-    progress: &mut Progress,
+    walk: &mut Walk,
 ) -> Result<(), AllocError>
-    ensures { OnOk result (Reads types.old site.now progress.old (CasesFit (cases_of list.now)) (λ a. clauses_in 0 a [] false (cases_of list.now)) types.new progress.new) }
+    ensures { OnOk result (Reads types.old site.now walk.old (CasesFit (cases_of list.now)) (λ a. clauses_in 0 a [] false (cases_of list.now)) types.new walk.new) }
 {
     let mut chosen = Chosen::new(alloc);
     for (number, clause) in list.iter().enumerate() {
         let rule = clause_rule(&mut chosen, &clause.tests, clause.fallback)?;
-        progress.note(clause.place, rule);
-        check_body(alloc, number, &clause.body, &*site, types, progress)?;
+        walk.progress.note(clause.place, rule);
+        check_body(alloc, number, &clause.body, &*site, types, walk)?;
     }
     Ok(())
 }
@@ -237,9 +251,9 @@ fn check_body<'a>(
     list: &'a [EflStmt],
     site: &Site<'_, 'a>,
     types: &mut Types<'a>,
-    progress: &mut Progress,
+    walk: &mut Walk,
 ) -> Result<(), AllocError>
-    ensures { OnOk result (Reads types.old site.now progress.old (AllFit (stmts_of list.now)) (λ a. parts_in 0 (in_list (stmts_of list.now) (into number a)) (stmts_of list.now)) types.new progress.new) }
+    ensures { OnOk result (Reads types.old site.now walk.old (AllFit (stmts_of list.now)) (λ a. parts_in 0 (in_list (stmts_of list.now) (into number a)) (stmts_of list.now)) types.new walk.new) }
 {
     let position = Position::Inside(number, site.position);
     let inside = site_at(
@@ -249,5 +263,5 @@ fn check_body<'a>(
         site.blocks,
         site.homes,
     );
-    check_statements(alloc, list, &inside, types, progress)
+    check_statements(alloc, list, &inside, types, walk)
 }

@@ -1,51 +1,83 @@
--- The parts of a declaration and of its groups: none of a group gives values, and their first fault is that of the groups.
-use Rattle.std.proofs.Common.{◌≡◌, List, [], ◌∷◌, ◌++◌, Option, Some, option_map, unwrap_or, refl, ap, ◌∙◌}
+-- The parts of a declaration and of its groups: those of groups give no values and meet no variable, and their first fault is that of
+-- the groups.
+use Rattle.std.proofs.Common.{◌≡◌, List, [], ◌∷◌, ◌++◌, Option, Some, None, option_map, unwrap_or, refl, ap, ◌∙◌}
 use Rattle.std.specs.List.{slice_get}
 use Rattle.std.specs.Option.{option_or}
 use Rattle.ground.specs.declared.fault.Fault.{Fault}
 use Rattle.ground.specs.declared.place.Place.{Place}
 use Rattle.efl_tree.specs.Syntax.{Text, EflVar, EflType, Integer, Logical, Real, Complex, Named, Shape, EflGroups, NoGroup, AndGroup, EflDeclKind, Implicit, Initial, Variables, Area, Structure, EflProcedure}
 use Rattle.efl_scope.specs.Scopes.{data_type, behind}
-use Rattle.efl_scope.specs.Parts.{Form, Declares, Groups, Around, Part, part, among, names_of, shapes_in, groups_in, members_in, area_groups, groups_by}
+use Rattle.efl_scope.specs.Parts.{Form, Declares, Groups, Around, Part, part, among, names_of, shapes_in, groups_in, members_in, area_groups, groups_by, header_type_groups}
+use Rattle.efl_scope.specs.Marks.{variables_by}
+use Rattle.efl_scope.specs.Uses.{uses_in}
 use Rattle.efl_scope.proofs.WalkLemmas.{option_or_assoc}
 use Rattle.efl_types.specs.TypeRules.{faults_by, presets_of}
 use Rattle.efl_types.specs.TypeRules as rules
 use Rattle.efl_reading.specs.Alone.{fault_alone, first_alone, GiveNone}
+use Rattle.efl_reading.specs.Counting.{MeetNone}
 use Rattle.efl_declarations.specs.GroupFaults.{fault_if, sizes_fault, type_fault, groups_fault, inner_fault, outer_fault, declaration_fault}
 
--- ---- parts that give no values ----
+-- ---- parts that give no values, and list and use no variable ----
 
-pub none_more : (vs ws : List Part) → GiveNone vs → GiveNone ws → GiveNone (vs ++ ws)
-none_more [] ws one two = two
-none_more (v ∷ vs) ws one two = (one.0, none_more vs ws one.1 two)
+abbrev IsQuiet : Form → Type 0
+IsQuiet f = (presets_of f ≡ []) × (variables_by f ≡ []) × (uses_in f ≡ [])
+
+abbrev AreQuiet : List Part → Type 0
+AreQuiet [] = Unit {0}
+AreQuiet (v ∷ vs) = IsQuiet v.form × AreQuiet vs
+
+quiet_more : (vs ws : List Part) → AreQuiet vs → AreQuiet ws → AreQuiet (vs ++ ws)
+quiet_more [] ws one two = two
+quiet_more (v ∷ vs) ws one two = (one.0, quiet_more vs ws one.1 two)
+
+quiet_give_none : (vs : List Part) → AreQuiet vs → GiveNone vs
+quiet_give_none [] quiet = tt
+quiet_give_none (v ∷ vs) quiet = (quiet.0.0, quiet_give_none vs quiet.1)
+
+quiet_meet_none : (vs : List Part) → AreQuiet vs → MeetNone vs
+quiet_meet_none [] quiet = tt
+quiet_meet_none (v ∷ vs) quiet = (quiet.0.1, quiet.0.2, quiet_meet_none vs quiet.1)
 
 mutual
-  pub groups_give_none : (a : Around) (t : EflType) → GiveNone (groups_in a t)
-  groups_give_none a Integer = tt
-  groups_give_none a Logical = tt
-  groups_give_none a (Real b) = tt
-  groups_give_none a (Complex b) = tt
-  groups_give_none a (Named x) = tt
-  groups_give_none a (Shape o gs) = members_give_none a [] gs
+  groups_quiet : (a : Around) (t : EflType) → AreQuiet (groups_in a t)
+  groups_quiet a Integer = tt
+  groups_quiet a Logical = tt
+  groups_quiet a (Real b) = tt
+  groups_quiet a (Complex b) = tt
+  groups_quiet a (Named x) = tt
+  groups_quiet a (Shape o gs) = members_quiet a [] gs
 
-  pub members_give_none : (a : Around) (before : List Text) (gs : EflGroups) → GiveNone (members_in a before gs)
-  members_give_none a before NoGroup = tt
-  members_give_none a before (AndGroup t vs p gs) =
-      (refl, none_more (groups_in a t) (members_in (among (behind a.blocks t) a) (before ++ names_of vs) gs) (groups_give_none a t) (members_give_none (among (behind a.blocks t) a) (before ++ names_of vs) gs))
+  members_quiet : (a : Around) (before : List Text) (gs : EflGroups) → AreQuiet (members_in a before gs)
+  members_quiet a before NoGroup = tt
+  members_quiet a before (AndGroup t vs p gs) =
+      let b = among (behind a.blocks t) a in
+      let names = before ++ names_of vs in
+      ((refl, refl, refl), quiet_more (groups_in a t) (members_in b names gs) (groups_quiet a t) (members_quiet b names gs))
 
-pub area_gives_none : (a : Around) (before : List Text) (gs : EflGroups) → GiveNone (area_groups a before gs)
-area_gives_none a before NoGroup = tt
-area_gives_none a before (AndGroup t vs p gs) =
+area_quiet : (a : Around) (before : List Text) (gs : EflGroups) → AreQuiet (area_groups a before gs)
+area_quiet a before NoGroup = tt
+area_quiet a before (AndGroup t vs p gs) =
     let b = among (behind a.blocks t) a in
     let names = before ++ shapes_in t ++ names_of vs in
-    (refl, none_more (groups_in a t) (area_groups b names gs) (groups_give_none a t) (area_gives_none b names gs))
+    ((refl, refl, refl), quiet_more (groups_in a t) (area_groups b names gs) (groups_quiet a t) (area_quiet b names gs))
+
+by_quiet : (a : Around) (before : List Text) (k : EflDeclKind) → AreQuiet (groups_by a before k)
+by_quiet a before (Implicit rs t) = groups_quiet a t
+by_quiet a before (Initial ps) = tt
+by_quiet a before (Variables q t vs) = groups_quiet a t
+by_quiet a before (Area q gs) = area_quiet a (a.formals ++ before) gs
+by_quiet a before (Structure x gs) = members_quiet a [] gs
 
 pub by_gives_none : (a : Around) (before : List Text) (k : EflDeclKind) → GiveNone (groups_by a before k)
-by_gives_none a before (Implicit rs t) = groups_give_none a t
-by_gives_none a before (Initial ps) = tt
-by_gives_none a before (Variables q t vs) = groups_give_none a t
-by_gives_none a before (Area q gs) = area_gives_none a (a.formals ++ before) gs
-by_gives_none a before (Structure x gs) = members_give_none a [] gs
+by_gives_none a before k = quiet_give_none (groups_by a before k) (by_quiet a before k)
+
+pub by_meets_none : (a : Around) (before : List Text) (k : EflDeclKind) → MeetNone (groups_by a before k)
+by_meets_none a before k = quiet_meet_none (groups_by a before k) (by_quiet a before k)
+
+-- the groups of a header's type
+pub header_meets_none : (a : Around) (o : Option EflType) → MeetNone (header_type_groups a o)
+header_meets_none a None = tt
+header_meets_none a (Some t) = quiet_meet_none (groups_in (among [] a) t) (groups_quiet (among [] a) t)
 
 -- ---- their first fault ----
 

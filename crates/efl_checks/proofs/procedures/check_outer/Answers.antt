@@ -19,9 +19,9 @@ returns c =
     let block = c.args.block in
     let known = c.check_declarations.new.known in
     let own = c.args.own.now in
-    let p = c.args.progress.now in
-    let q = c.check_declarations.new.progress in
-    let r = c.check_inside.new.progress in
+    let p = c.args.walk.now in
+    let q = c.check_declarations.new.walk in
+    let r = c.check_inside.new.walk in
     on_ok_weaker c.check_inside.result
     (λ reads. outer_read y z w s block known own p q r (procedure_of c.args.procedure.now) Top around.Outside
     (subst (λ xs. IsMade own Top xs Outside around.Outside s) c.deref.ensures.value c.site_at-site.ensures) refl (λ x. refl)

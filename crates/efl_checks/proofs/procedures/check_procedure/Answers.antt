@@ -16,7 +16,7 @@ returns c =
     let areas = c.in_ok-areas.areas in
     let own = c.procedure_at-own.result in
     on_ok_weaker c.check_outer.result
-    (procedure_read c.args.types.now c.check_outer.new.types n u o units outcome areas own c.args.progress.now c.note_header.new.progress c.check_outer.new.progress
+    (procedure_read c.args.types.now c.check_outer.new.types n u o units outcome areas own c.args.walk.now c.note_header.new.walk c.check_outer.new.walk
     (subst (λ xs. IsKnown n xs o.letters units outcome areas own) c.deref-2.ensures.value c.procedure_at-own.ensures) c.outcome_of.ensures
     (c.in_ok-areas.ensures u (ap decls_of (sym c.deref.ensures.value))) c.in_ok-note_header.ensures)
     c.check_outer.ensures

@@ -1,13 +1,20 @@
--- The first rule that the header breaks.
-use Rattle.std.proofs.Common.{refl}
+-- The first rule that the header breaks, and its formals.
+use Rattle.std.proofs.Common.{refl, subst}
+use Rattle.std.proofs.lemmas.Result.{on_ok_weaker}
 use Rattle.efl_tree.specs.Views.{procedure_of}
-use Rattle.efl_scope.specs.Parts.{Header, part}
-use Rattle.efl_expressions.specs.FirstRule.{first_rule}
-use Rattle.efl_checks.proofs.WalkLemmas.{rule_there}
+use Rattle.efl_reading.specs.Counting.{CountsHeader}
+use Rattle.efl_reading.specs.declared.walk.Walk.{Walk}
+use Rattle.efl_checks.proofs.ProcedureLemmas.{header_added}
 use Rattle.efl_checks.proofs.procedures.note_header.Goals as goal
 
 pub returns : goal.returns
-returns c = λ y us a vs found letters behind.
+returns c =
     let u = procedure_of c.args.procedure.now in
-    let form = Header u.result u.formals in
-    c.note.ensures us vs (part a u.place form) behind refl refl (rule_there first_rule us u a u.place form c.in_ok-rule.rule found (c.in_ok-rule.ensures y letters))
+    let n = c.args.unit in
+    let old = c.args.walk.now in
+    let new : Walk = record { progress = c.note.new.self; storage = c.count_header.new.storage; firsts = old.firsts } in
+    on_ok_weaker c.count_header.result
+    (λ counts.
+    header_added n u c.args.letters.now old new c.in_ok-rule.rule c.in_ok-rule.ensures (c.note.ensures)
+    (subst (λ xs. CountsHeader n xs old.storage new.storage) c.deref.ensures.value counts) refl)
+    c.count_header.ensures

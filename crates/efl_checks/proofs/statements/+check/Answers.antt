@@ -20,7 +20,7 @@ pub check_at-returns : goal.check_at-returns
 check_at-returns t c =
     let x = stmt_of c.args.statement.now in
     on_ok_weaker c.check_statement.result
-    (at_read c.args.types.now c.check_statement.new.types c.args.site.now c.site_at-inside.result c.args.progress.now c.check_statement.new.progress (IsFit x) c.args.number _ (λ a. parts_of a x)
+    (at_read c.args.types.now c.check_statement.new.types c.args.site.now c.site_at-inside.result c.args.walk.now c.check_statement.new.walk (IsFit x) c.args.number _ (λ a. parts_of a x)
     c.site_at-inside.ensures refl)
     c.check_statement.ensures
 
@@ -29,8 +29,8 @@ check_body-returns t c =
     let y = c.args.types.now in
     let z = c.check_statements.new.types in
     let s = c.site_at-inside.result in
-    let p = c.args.progress.now in
-    let q = c.check_statements.new.progress in
+    let p = c.args.walk.now in
+    let q = c.check_statements.new.walk in
     let ss = stmts_of c.args.list.now in
     on_ok_weaker c.check_statements.result
     (λ reads. into_read y z c.args.site.now s p q (AllFit ss) c.args.number _ (λ a. parts_in 0 (in_list ss a) ss) c.site_at-inside.ensures refl (list_read y z s p q (AllFit ss) ss reads))
@@ -39,7 +39,7 @@ check_body-returns t c =
 pub check_inside-returns : goal.check_inside-returns
 check_inside-returns t c =
     on_ok_weaker c.check_statements.result
-    (inside_read c.args.types.now c.check_statements.new.types c.args.site.now c.site_at-inside.result c.args.known.now _ _ c.args.progress.now c.check_statements.new.progress (stmts_of c.args.list.now)
+    (inside_read c.args.types.now c.check_statements.new.types c.args.site.now c.site_at-inside.result c.args.known.now _ _ c.args.walk.now c.check_statements.new.walk (stmts_of c.args.list.now)
     c.site_at-inside.ensures (λ x. refl) (λ x. refl))
     c.check_statements.ensures
 
@@ -47,7 +47,7 @@ pub check_block-returns : goal.check_block-returns
 check_block-returns t c =
     on_ok_weaker c.check_inside.result
     (block_read c.args.types.now c.open_block.new.types c.check_declarations.new.types c.check_inside.new.types c.args.site.now c.site_at-inner.result c.in_ok-known.known c.check_declarations.new.known
-    c.args.progress.now c.check_declarations.new.progress c.check_inside.new.progress (decls_of c.args.declarations.now) (stmts_of c.args.list.now) c.site_at-inner.ensures c.in_ok-known.ensures
+    c.args.walk.now c.check_declarations.new.walk c.check_inside.new.walk (decls_of c.args.declarations.now) (stmts_of c.args.list.now) c.site_at-inner.ensures c.in_ok-known.ensures
     c.in_ok-check_declarations.ensures)
     c.check_inside.ensures
 
@@ -55,7 +55,7 @@ pub check_first-returns-in-None : goal.check_first-returns-in-None
 check_first-returns-in-None t c =
     let x = stmt_of c.args.body.now in
     let s = c.args.site.now in
-    subst (λ o. OnOk c.check_statement.result (Reads c.args.types.now s c.args.progress.now (IsFit x × IsListed s.position.now) (first_parts x o) c.check_statement.new.types c.check_statement.new.progress))
+    subst (λ o. OnOk c.check_statement.result (Reads c.args.types.now s c.args.walk.now (IsFit x × IsListed s.position.now) (first_parts x o) c.check_statement.new.types c.check_statement.new.walk))
     (sym c.in-None.is) c.check_statement.ensures
 
 pub check_first-returns-in-Some : goal.check_first-returns-in-Some
@@ -64,23 +64,23 @@ check_first-returns-in-Some t c =
     let s = c.args.site.now in
     let y = c.args.types.now in
     let z = c.check_at.new.types in
-    let p = c.args.progress.now in
-    let q = c.check_at.new.progress in
+    let p = c.args.walk.now in
+    let q = c.check_at.new.walk in
     subst (λ o. OnOk c.check_at.result (Reads y s p (IsFit x × IsListed s.position.now) (first_parts x o) z q)) (sym c.in-Some.is)
     (on_ok_weaker c.check_at.result (reads_fit y z s p q (IsFit x) (IsFit x × IsListed s.position.now) (λ a. parts_of (into 0 a) x) (λ fit. fit.0)) c.check_at.ensures)
 
 pub check_other-returns-in-None : goal.check_other-returns-in-None
 check_other-returns-in-None t c =
-    subst (λ o. Reads c.args.types.now c.args.site.now c.args.progress.now (OtherFits o) (other_parts o) c.args.types.now c.args.progress.now) (sym c.in-None.is)
-    (reads_none c.args.types.now c.args.site.now c.args.progress.now (Unit {0}))
+    subst (λ o. Reads c.args.types.now c.args.site.now c.args.walk.now (OtherFits o) (other_parts o) c.args.types.now c.args.walk.now) (sym c.in-None.is)
+    (reads_none c.args.types.now c.args.site.now c.args.walk.now (Unit {0}))
 
 pub check_other-returns-in-Some : goal.check_other-returns-in-Some
 check_other-returns-in-Some t c =
     let s = c.args.site.now in
     let y = c.args.types.now in
     let z = c.check_at.new.types in
-    let p = c.args.progress.now in
-    let q = c.check_at.new.progress in
+    let p = c.args.walk.now in
+    let q = c.check_at.new.walk in
     subst (λ o. OnOk c.check_at.result (Reads y s p (OtherFits o) (other_parts o) z q)) (sym c.in-Some.is)
     (subst (λ v. OnOk c.check_at.result (Reads y s p (IsFit (stmt_of v)) (λ a. parts_of (into 1 a) (stmt_of v)) z q)) c.deref.ensures c.check_at.ensures)
 
@@ -89,18 +89,18 @@ check_statement-returns t c =
     let x = c.args.statement.now in
     let y = c.args.types.now in
     let s = c.args.site.now in
-    let p = c.args.progress.now in
-    let m = c.note_statement.new.progress in
+    let p = c.args.walk.now in
+    let m = c.note_statement.new.walk in
     let k = kind_of x.kind in
     let Fit = KindFits k × IsListed s.position.now in
     on_ok_weaker c.check_within.result
-    (reads_on y y c.check_within.new.types s p m c.check_within.new.progress Fit (λ a. part a x.place (States x.labels.items k) ∷ []) (λ a. parts_within a k)
-    (reads_one y s p m Fit (λ a. part a x.place (States x.labels.items k) ∷ []) (c.note_statement.ensures x.labels.items)))
+    (reads_on y y c.check_within.new.types s p m c.check_within.new.walk Fit (λ a. part a x.place (States x.labels.items k) ∷ []) (λ a. parts_within a k)
+    (reads_one y s p m Fit (λ a. part a x.place (States x.labels.items k) ∷ []) (c.in_ok-note_statement.ensures x.labels.items)))
     c.check_within.ensures
 
 pub check_statements-loop-number-init : goal.check_statements-loop-number-init
 check_statements-loop-number-init t c =
-    let ss = stmts_of c.args.list.now in parts_begun c.args.types.now c.args.site.now c.args.progress.now (AllFit ss) (λ a. parts_in 0 a ss)
+    let ss = stmts_of c.args.list.now in parts_begun c.args.types.now c.args.site.now c.args.walk.now (AllFit ss) (λ a. parts_in 0 a ss)
 
 pub check_statements-loop-number-preserved : goal.check_statements-loop-number-preserved
 check_statements-loop-number-preserved t c =
@@ -110,9 +110,9 @@ check_statements-loop-number-preserved t c =
     let x = c.index-list-number.result in
     let y = c.args.types.now in
     let s = c.args.site.now in
-    let p = c.args.progress.now in
-    statement_passed y l.types c.check_at.new.types s p l.progress c.check_at.new.progress ss l.number (stmt_of x) (stmts_of (drop (l.number + 1) list))
-    (subst (λ xs. PartsLeft y s p (AllFit ss) (λ a. parts_in 0 a ss) l.types l.progress (AllFit (stmts_of xs)) (λ a. parts_in l.number a (stmts_of xs)))
+    let p = c.args.walk.now in
+    statement_passed y l.types c.check_at.new.types s p l.walk c.check_at.new.walk ss l.number (stmt_of x) (stmts_of (drop (l.number + 1) list))
+    (subst (λ xs. PartsLeft y s p (AllFit ss) (λ a. parts_in 0 a ss) l.types l.walk (AllFit (stmts_of xs)) (λ a. parts_in l.number a (stmts_of xs)))
     (drop_next list l.number x c.loop-number-test.true c.index-list-number.is) l.invariant)
     c.in_ok-check_at.ensures
 
@@ -123,13 +123,13 @@ check_statements-returns t c =
     let ss = stmts_of list in
     let y = c.args.types.now in
     let s = c.args.site.now in
-    let p = c.args.progress.now in
-    parts_ended y l.types s p l.progress (AllFit ss) (Unit {0}) (λ a. parts_in 0 a ss)
-    (subst (λ xs. PartsLeft y s p (AllFit ss) (λ a. parts_in 0 a ss) l.types l.progress (AllFit (stmts_of xs)) (λ a. parts_in l.number a (stmts_of xs))) (drop_all l.number list c.loop-number-test.false)
+    let p = c.args.walk.now in
+    parts_ended y l.types s p l.walk (AllFit ss) (Unit {0}) (λ a. parts_in 0 a ss)
+    (subst (λ xs. PartsLeft y s p (AllFit ss) (λ a. parts_in 0 a ss) l.types l.walk (AllFit (stmts_of xs)) (λ a. parts_in l.number a (stmts_of xs))) (drop_all l.number list c.loop-number-test.false)
     l.invariant)
 
 pub check_clauses-loop-number-init : goal.check_clauses-loop-number-init
-check_clauses-loop-number-init t c = clauses_begun c.args.types.now c.args.site.now c.args.progress.now (cases_of c.args.list.now) c.new-chosen.result c.new-chosen.ensures
+check_clauses-loop-number-init t c = clauses_begun c.args.types.now c.args.site.now c.args.walk.now (cases_of c.args.list.now) c.new-chosen.result c.new-chosen.ensures
 
 pub check_clauses-loop-number-preserved : goal.check_clauses-loop-number-preserved
 check_clauses-loop-number-preserved t c =
@@ -139,28 +139,29 @@ check_clauses-loop-number-preserved t c =
     let o = out-EflCase x in
     let y = c.args.types.now in
     let s = c.args.site.now in
-    let p = c.args.progress.now in
+    let p = c.args.walk.now in
     let new = c.clause_rule.new.chosen in
+    let m = record l.walk { progress = c.note.new.self } in
     let rule = c.in_ok-rule.rule in
     let w = c.check_body.new.types in
-    let r = c.check_body.new.progress in
-    clause_passed y l.types w s p l.progress c.note.new.self r (cases_of list) l.chosen new l.number o.tests.items o.fallback (stmts_of o.body.items) o.place (cases_of (drop (l.number + 1) list)) rule
-    (subst (ClausesLeft y s p (cases_of list) l.types l.progress l.chosen l.number) (clauses_next list l.number x c.loop-number-test.true c.index-list-number.is) l.invariant)
+    let r = c.check_body.new.walk in
+    clause_passed y l.types w s p l.walk m r (cases_of list) l.chosen new l.number o.tests.items o.fallback (stmts_of o.body.items) o.place (cases_of (drop (l.number + 1) list)) rule
+    (subst (ClausesLeft y s p (cases_of list) l.types l.walk l.chosen l.number) (clauses_next list l.number x c.loop-number-test.true c.index-list-number.is) l.invariant)
     (subst (λ zs. (before : List ℤ) (seen : Bool) → AreChosen before seen l.chosen → rule ≡ first_rule (clause_faults zs o.fallback before seen)) c.deref.ensures.value c.in_ok-rule.ensures.first)
     (subst (λ zs. (before : List ℤ) (seen : Bool) → AreChosen before seen l.chosen → AreChosen (before ++ zs) (seen || o.fallback) new) c.deref.ensures.value c.in_ok-rule.ensures.chosen)
-    c.note.ensures
-    (subst (λ xs. Reads l.types s c.note.new.self (AllFit (stmts_of xs)) (λ a. parts_in 0 (in_list (stmts_of xs) (into l.number a)) (stmts_of xs)) w r) c.deref-in-loop-number.ensures.value c.in_ok-check_body.ensures)
+    c.note.ensures refl refl
+    (subst (λ xs. Reads l.types s m (AllFit (stmts_of xs)) (λ a. parts_in 0 (in_list (stmts_of xs) (into l.number a)) (stmts_of xs)) w r) c.deref-in-loop-number.ensures.value c.in_ok-check_body.ensures)
 
 pub check_clauses-returns : goal.check_clauses-returns
 check_clauses-returns t c =
     let l = c.loop-number in
     let list = c.args.list.now in
-    clauses_ended c.args.types.now l.types c.args.site.now c.args.progress.now l.progress (cases_of list) l.chosen l.number
-    (subst (λ xs. ClausesLeft c.args.types.now c.args.site.now c.args.progress.now (cases_of list) l.types l.progress l.chosen l.number (cases_of xs)) (drop_all l.number list c.loop-number-test.false) l.invariant)
+    clauses_ended c.args.types.now l.types c.args.site.now c.args.walk.now l.walk (cases_of list) l.chosen l.number
+    (subst (λ xs. ClausesLeft c.args.types.now c.args.site.now c.args.walk.now (cases_of list) l.types l.walk l.chosen l.number (cases_of xs)) (drop_all l.number list c.loop-number-test.false) l.invariant)
 
 pub check_within-returns-in-Block : goal.check_within-returns-in-Block
 check_within-returns-in-Block t c =
-    subst (λ k. OnOk c.check_block.result (ReadsKind c.args.types.now c.args.site.now c.args.progress.now k c.check_block.new.types c.check_block.new.progress))
+    subst (λ k. OnOk c.check_block.result (ReadsKind c.args.types.now c.args.site.now c.args.walk.now k c.check_block.new.types c.check_block.new.walk))
     (block_is c.args.kind.now c.in-Block.declarations c.in-Block.list c.deref.result.now c.deref-in-Block.result.now c.in-Block.is c.deref.ensures.value c.deref-in-Block.ensures.value)
     c.check_block.ensures
 
@@ -170,9 +171,9 @@ check_within-returns-in_ok-check_first-in-If t c =
     let z = c.check_first.new.types in
     let w = c.check_other.new.types in
     let s = c.args.site.now in
-    let p = c.args.progress.now in
-    let q = c.check_first.new.progress in
-    let r = c.check_other.new.progress in
+    let p = c.args.walk.now in
+    let q = c.check_first.new.walk in
+    let r = c.check_other.new.walk in
     let o = c.in-If.other in
     subst (λ k. OnOk c.check_other.result (ReadsKind y s p (kind_of k) w r)) (sym c.in-If.is)
     (on_ok_weaker c.check_other.result
@@ -185,8 +186,8 @@ check_within-returns-in-While t c =
     let y = c.args.types.now in
     let z = c.check_statement.new.types in
     let s = c.args.site.now in
-    let p = c.args.progress.now in
-    let q = c.check_statement.new.progress in
+    let p = c.args.walk.now in
+    let q = c.check_statement.new.walk in
     let x = stmt_of c.in-While.body.value in
     subst (λ k. OnOk c.check_statement.result (ReadsKind y s p (kind_of k) z q)) (sym c.in-While.is)
     (on_ok_weaker c.check_statement.result (loop_read loops.While y z s p q (IsFit x × IsListed s.position.now) (λ a. parts_of a x))
@@ -197,8 +198,8 @@ check_within-returns-in-For t c =
     let y = c.args.types.now in
     let z = c.check_statement-in-For.new.types in
     let s = c.args.site.now in
-    let p = c.args.progress.now in
-    let q = c.check_statement-in-For.new.progress in
+    let p = c.args.walk.now in
+    let q = c.check_statement-in-For.new.walk in
     let x = stmt_of c.in-For.body.value in
     subst (λ k. OnOk c.check_statement-in-For.result (ReadsKind y s p (kind_of k) z q)) (sym c.in-For.is)
     (on_ok_weaker c.check_statement-in-For.result (loop_read loops.For y z s p q (IsFit x × IsListed s.position.now) (λ a. parts_of a x))
@@ -209,20 +210,23 @@ check_within-returns-in_ok-check_statement-in-Repeat t c =
     let y = c.args.types.now in
     let z = c.check_statement-in-Repeat.new.types in
     let s = c.args.site.now in
-    let p = c.args.progress.now in
-    let q = c.check_statement-in-Repeat.new.progress in
-    let r = c.note_until.new.progress in
-    subst (λ k. ReadsKind y s p (kind_of k) z r) (sym c.in-Repeat.is)
-    (until_read y z s p q r (stmt_of c.in-Repeat.body.value) c.in-Repeat.until
-    (subst (λ v. Reads y s p (IsFit (stmt_of v) × IsListed s.position.now) (λ a. parts_of a (stmt_of v)) z q) c.deref-in-Repeat.ensures c.in_ok-check_statement-in-Repeat.ensures) c.note_until.ensures)
+    let p = c.args.walk.now in
+    let q = c.check_statement-in-Repeat.new.walk in
+    let r = c.note_until.new.walk in
+    let x = c.in-Repeat.body in
+    subst (λ k. OnOk c.note_until.result (ReadsKind y s p (kind_of k) z r)) (sym c.in-Repeat.is)
+    (on_ok_weaker c.note_until.result
+    (until_read y z s p q r (stmt_of x.value) c.in-Repeat.until
+    (subst (λ v. Reads y s p (IsFit (stmt_of v) × IsListed s.position.now) (λ a. parts_of a (stmt_of v)) z q) c.deref-in-Repeat.ensures c.in_ok-check_statement-in-Repeat.ensures))
+    c.note_until.ensures)
 
 pub check_within-returns-in-Do : goal.check_within-returns-in-Do
 check_within-returns-in-Do t c =
     let y = c.args.types.now in
     let z = c.check_statement-in-Do.new.types in
     let s = c.args.site.now in
-    let p = c.args.progress.now in
-    let q = c.check_statement-in-Do.new.progress in
+    let p = c.args.walk.now in
+    let q = c.check_statement-in-Do.new.walk in
     let x = stmt_of c.in-Do.body.value in
     subst (λ k. OnOk c.check_statement-in-Do.result (ReadsKind y s p (kind_of k) z q)) (sym c.in-Do.is)
     (on_ok_weaker c.check_statement-in-Do.result (loop_read loops.Do y z s p q (IsFit x × IsListed s.position.now) (λ a. parts_of a x))
@@ -233,8 +237,8 @@ check_within-returns-in-Switch t c =
     let y = c.args.types.now in
     let z = c.check_clauses.new.types in
     let s = c.args.site.now in
-    let p = c.args.progress.now in
-    let q = c.check_clauses.new.progress in
+    let p = c.args.walk.now in
+    let q = c.check_clauses.new.walk in
     let cs = cases_of c.deref-in-Switch.result.now in
     subst (λ k. OnOk c.check_clauses.result (ReadsKind y s p k z q)) (switch_is c.args.kind.now c.in-Switch.field-0 c.in-Switch.list c.deref-in-Switch.result.now c.in-Switch.is c.deref-in-Switch.ensures.value)
     (on_ok_weaker c.check_clauses.result
@@ -243,4 +247,4 @@ check_within-returns-in-Switch t c =
     c.check_clauses.ensures)
 
 pub check_within-returns-in-Empty : goal.check_within-returns-in-Empty
-check_within-returns-in-Empty t c = plain_read c.args.types.now c.args.site.now c.args.progress.now c.args.kind.now c.in-Empty.is
+check_within-returns-in-Empty t c = plain_read c.args.types.now c.args.site.now c.args.walk.now c.args.kind.now c.in-Empty.is

@@ -8,8 +8,8 @@ use Rattle.efl_checks.proofs.statements.+check.Given as goal
 
 abbrev pub invariant-check_statements-loop-number : goal.invariant-check_statements-loop-number
 invariant-check_statements-loop-number l =
-    PartsLeft l.fn.types l.site l.fn.progress (AllFit (stmts_of l.list)) (λ a. parts_in 0 a (stmts_of l.list)) l.types l.progress (AllFit (stmts_of (drop l.number l.list)))
+    PartsLeft l.fn.types l.site l.fn.walk (AllFit (stmts_of l.list)) (λ a. parts_in 0 a (stmts_of l.list)) l.types l.walk (AllFit (stmts_of (drop l.number l.list)))
     (λ a. parts_in l.number a (stmts_of (drop l.number l.list)))
 
 abbrev pub invariant-check_clauses-loop-number : goal.invariant-check_clauses-loop-number
-invariant-check_clauses-loop-number l = ClausesLeft l.fn.types l.site l.fn.progress (cases_of l.list) l.types l.progress l.chosen l.number (cases_of (drop l.number l.list))
+invariant-check_clauses-loop-number l = ClausesLeft l.fn.types l.site l.fn.walk (cases_of l.list) l.types l.walk l.chosen l.number (cases_of (drop l.number l.list))

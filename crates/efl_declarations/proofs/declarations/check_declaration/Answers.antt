@@ -1,27 +1,15 @@
--- Initial values among all blocks, and what the others break.
-use Rattle.std.proofs.Common.{map, sym, subst}
+-- Counted, and then told.
+use Rattle.std.proofs.Common.{refl}
 use Rattle.std.proofs.lemmas.Result.{on_ok_weaker}
-use Rattle.efl_tree.specs.Syntax.{Initial}
-use Rattle.efl_tree.specs.Views.{preset_of, decl_kind_of}
-use Rattle.efl_declarations.specs.Checks.{ChecksDeclaration}
-use Rattle.efl_declarations.proofs.CheckLemmas.{other_presets, declaration_checked}
+use Rattle.efl_tree.specs.Views.{decl_of}
+use Rattle.efl_reading.specs.declared.walk.Walk.{Walk}
+use Rattle.efl_declarations.proofs.CheckLemmas.{declaration_checked}
 use Rattle.efl_declarations.proofs.declarations.check_declaration.Goals as goal
 
-pub returns-in-Initial : goal.returns-in-Initial
-returns-in-Initial c =
-    let y = c.args.types.now in
-    let known = c.args.known.now in
-    let s = c.args.site.now in
-    let old = c.args.progress.now in
-    let new = c.check_presets.new.progress in
-    let p = c.args.declaration.now.place in
-    on_ok_weaker c.check_presets.result
-    (λ checked. subst (λ k. ChecksDeclaration y known s old (record { kind = decl_kind_of k; place = p }) y known new) (sym c.in-Initial.is)
-    (subst (λ ps. ChecksDeclaration y known s old (record { kind = Initial (map preset_of ps); place = p }) y known new) c.deref.ensures.value checked))
-    c.check_presets.ensures
-
-pub returns-in_ok-fault-in_default : goal.returns-in_ok-fault-in_default
-returns-in_ok-fault-in_default c =
-    let k = c.args.declaration.now.kind in
-    declaration_checked c.args.types.now c.see_declaration.new.types c.args.known.now c.see_declaration.new.block c.args.site.now c.args.progress.now c.note_all.new.self
-    c.args.declaration.now.place (decl_kind_of k) c.in_ok-fault-in_default.fault (other_presets k c.in_default.not-Initial) c.in_ok-fault-in_default.ensures c.note_all.ensures
+pub returns : goal.returns
+returns c =
+    let old = c.args.walk.now in
+    let new : Walk = record { progress = c.tell_declaration.new.progress; storage = c.count_inside.new.storage; firsts = old.firsts } in
+    on_ok_weaker c.tell_declaration.result
+    (declaration_checked c.args.types.now c.tell_declaration.new.types c.args.known.now c.tell_declaration.new.known c.args.site.now old new (decl_of c.args.declaration.now) c.in_ok-count_inside.ensures refl)
+    c.tell_declaration.ensures

@@ -7,7 +7,7 @@ use Rattle.efl_declarations.proofs.CheckLemmas.{DeclarationsLeft, declarations_b
 use Rattle.efl_declarations.proofs.declarations.check_declarations.Goals as goal
 
 pub loop-declaration-init : goal.loop-declaration-init
-loop-declaration-init c = declarations_begun c.args.types.now c.args.known.now c.args.site.now c.args.progress.now (decls_of c.args.list.now)
+loop-declaration-init c = declarations_begun c.args.types.now c.args.known.now c.args.site.now c.args.walk.now (decls_of c.args.list.now)
 
 pub loop-declaration-preserved : goal.loop-declaration-preserved
 loop-declaration-preserved c =
@@ -17,10 +17,10 @@ loop-declaration-preserved c =
     let y = c.args.types.now in
     let known = c.args.known.now in
     let s = c.args.site.now in
-    let old = c.args.progress.now in
+    let old = c.args.walk.now in
     let next = c.check_declaration.new in
-    declaration_passed y l.types next.types known l.known next.known s old l.progress next.progress (decls_of list) (decl_of d) (decls_of (drop (l.declaration-index + 1) list))
-    (subst (λ xs. DeclarationsLeft y known s old (decls_of list) l.types l.known l.progress (decls_of xs)) (drop_next list l.declaration-index d c.loop-declaration-test.true c.declaration-item.is) l.invariant)
+    declaration_passed y l.types next.types known l.known next.known s old l.walk next.walk (decls_of list) (decl_of d) (decls_of (drop (l.declaration-index + 1) list))
+    (subst (λ xs. DeclarationsLeft y known s old (decls_of list) l.types l.known l.walk (decls_of xs)) (drop_next list l.declaration-index d c.loop-declaration-test.true c.declaration-item.is) l.invariant)
     c.in_ok-check_declaration.ensures
 
 pub returns : goal.returns
@@ -30,6 +30,6 @@ returns c =
     let y = c.args.types.now in
     let known = c.args.known.now in
     let s = c.args.site.now in
-    let old = c.args.progress.now in
-    declarations_ended y l.types known l.known s old l.progress (decls_of list)
-    (subst (λ xs. DeclarationsLeft y known s old (decls_of list) l.types l.known l.progress (decls_of xs)) (drop_all l.declaration-index list c.loop-declaration-test.false) l.invariant)
+    let old = c.args.walk.now in
+    declarations_ended y l.types known l.known s old l.walk (decls_of list)
+    (subst (λ xs. DeclarationsLeft y known s old (decls_of list) l.types l.known l.walk (decls_of xs)) (drop_all l.declaration-index list c.loop-declaration-test.false) l.invariant)

@@ -6,4 +6,4 @@ use Rattle.efl_declarations.proofs.declarations.check_declarations.Given as goal
 
 abbrev pub invariant-loop-declaration : goal.invariant-loop-declaration
 invariant-loop-declaration l =
-    DeclarationsLeft l.fn.types l.fn.known l.site l.fn.progress (decls_of l.list) l.types l.known l.progress (decls_of (drop l.declaration-index l.list))
+    DeclarationsLeft l.fn.types l.fn.known l.site l.fn.walk (decls_of l.list) l.types l.known l.walk (decls_of (drop l.declaration-index l.list))
