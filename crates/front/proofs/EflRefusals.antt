@@ -4,7 +4,7 @@ use Rattle.ground.specs.declared.fault.Refusal.{Refusal}
 use Rattle.ground.specs.declared.fault.Refusal.TheVariants as refusals
 use Rattle.efl_tree.specs.Syntax.{EflProgram}
 use Rattle.efl_scoped.specs.Answers.{IsScoped}
-use Rattle.efl_types.specs.TypeRules.{first_fault}
+use Rattle.efl_checks.specs.Answers.{typed_fault}
 use Rattle.efl_whole.specs.Names.{IsRightRefusal}
 use Rattle.front.specs.Efl.{IsTyped, IsJudged}
 use Rattle.front.specs.Translated.{Refused}
@@ -13,6 +13,6 @@ pub whole_refused : (tree : EflProgram) (r : Refusal) → IsRightRefusal tree r 
 whole_refused tree (refusals.Fault f) h = (Some f, h, refl)
 whole_refused tree refusals.Memory h = tt
 
-pub scoped_refused : (tree : EflProgram) (r : Refusal) → IsScoped tree → Refused (IsTyped tree (first_fault tree)) r → Refused (IsJudged tree) r
+pub scoped_refused : (tree : EflProgram) (r : Refusal) → IsScoped tree → Refused (IsTyped tree (typed_fault tree)) r → Refused (IsJudged tree) r
 scoped_refused tree (refusals.Fault f) scoped h = inr (scoped, h)
 scoped_refused tree refusals.Memory scoped h = tt

@@ -17,7 +17,7 @@ use Rattle.rat_grammar.specs.Laws as ratfor
 use Rattle.efl_tree.specs.Syntax.{EflProgram}
 use Rattle.efl_grammar.specs.Answers as efl_answers
 use Rattle.efl_grammar.specs.Laws as efl
-use Rattle.efl_types.specs.TypeRules.{first_fault}
+use Rattle.efl_checks.specs.Answers.{typed_fault}
 use Rattle.front.specs.Checked.{Checked, Faulty, Means}
 use Rattle.front.specs.Ratfor.{IsJudged}
 use Rattle.front.specs.Efl as efl_front
@@ -69,7 +69,7 @@ one_scoped : (tree : EflProgram) (a b : Checked) → efl_front.IsJudged tree a �
 one_scoped tree a b (inl h) (inl k) = h.2 ∙ (ap Faulty (one_first tree h.0 k.0 h.1 k.1) ∙ sym k.2)
 one_scoped tree a b (inl h) (inr k) = absurd (scoped_has_none tree h.0 k.0 h.1)
 one_scoped tree a b (inr h) (inl k) = absurd (scoped_has_none tree k.0 h.0 k.1)
-one_scoped tree a b (inr h) (inr k) = one_typed tree (first_fault tree) a b h.1 k.1
+one_scoped tree a b (inr h) (inr k) = one_typed tree (typed_fault tree) a b h.1 k.1
 
 module _ (ratfor_same : ratfor.AnswersArePublished) (efl_same : efl.AnswersArePublished) (faults : OneFirstFault) (none : AcceptedHasNone) (meanings : OneMeaning) where
   one_judged : (p : RatProgram) (a b : Checked) → IsJudged p a → IsJudged p b → a ≡ b

@@ -9,8 +9,8 @@ use Rattle.ground.specs.declared.token.Token.{Token}
 use Rattle.efl_grammar.specs.Answers.{IsFirstFault, IsAccepted}
 use Rattle.efl_tree.specs.Syntax.{EflDecl, Statement, EflStmts, NoStmt, AndStmt, EflProcedure, EflProgram}
 use Rattle.efl_scoped.specs.Answers.{IsScoped, IsFirst}
-use Rattle.efl_types.specs.TypeRules.{first_fault}
 use Rattle.efl_types.specs.Whole.{TellsWhole}
+use Rattle.efl_checks.specs.Answers.{typed_fault}
 use Rattle.front.specs.Checked.{Checked, Faulty}
 
 -- ---- what is not built ----
@@ -36,14 +36,14 @@ abbrev pub whole_of : EflProgram → Option Fault → Checked
 whole_of tree (Some fault) = Faulty fault
 whole_of tree None = unbuilt_of tree
 
--- the first fault of types, or where there is none the first one of the whole program, or the first part of a tree without one
+-- the first fault of types and of the limit on all variables, or where there is none the first one of the whole program, or the first part of a tree without one
 abbrev pub IsTyped : EflProgram → Option Fault → Checked → Type 0
 IsTyped tree (Some fault) c = c ≡ Faulty fault
 IsTyped tree None c = (o : Option Fault) × TellsWhole tree o × (c ≡ whole_of tree o)
 
 -- the first fault of scopes, or what is said behind them
 abbrev pub IsJudged : EflProgram → Checked → Type 0
-IsJudged tree c = ((fault : Fault) × IsFirst tree fault × (c ≡ Faulty fault)) ⊎ (IsScoped tree × IsTyped tree (first_fault tree) c)
+IsJudged tree c = ((fault : Fault) × IsFirst tree fault × (c ≡ Faulty fault)) ⊎ (IsScoped tree × IsTyped tree (typed_fault tree) c)
 
 -- ---- parse ----
 

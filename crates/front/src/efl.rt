@@ -3,8 +3,8 @@ ghost use Rattle.std.specs.Prelude.{◌≡◌, None};
 ghost use Rattle.ground.specs.Faults.{fault_at};
 ghost use Rattle.ground.specs.declared.fault.FaultKind.TheVariants.{Unbuilt};
 ghost use Rattle.efl_tree.specs.Views.{procedure_of, program_of};
-ghost use Rattle.efl_types.specs.TypeRules.{first_fault};
 ghost use Rattle.efl_checks.specs.Walks.{ProceduresFit};
+ghost use Rattle.efl_checks.specs.Answers.{typed_fault};
 ghost use Rattle.macro_define.specs.GatherAnswers.{EndsText};
 ghost use Rattle.front.specs.Efl.{IsEfl, IsJudged, IsTyped, first_part, unbuilt_place};
 ghost use Rattle.front.specs.Translated.{Refused};
@@ -43,7 +43,7 @@ fn refusal_of_tree(alloc: Global, program: EflProgram) -> Refusal
 /// What a tree is refused for whose scopes have no fault.
 fn refusal_of_scoped(alloc: Global, program: &EflProgram) -> Refusal
     requires { ProceduresFit (program_of program.now).procedures }
-    ensures { Refused (IsTyped (program_of program.now) (first_fault (program_of program.now))) result }
+    ensures { Refused (IsTyped (program_of program.now) (typed_fault (program_of program.now))) result }
 {
     match check(alloc, program) {
         Ok(()) => refusal_of_typed(alloc, program),
