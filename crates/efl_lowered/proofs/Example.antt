@@ -46,17 +46,17 @@ k = codes "K"
 abbrev n : Text
 n = codes "N"
 
-abbrev f : EflProcedure
+abbrev pub f : EflProcedure
 f = procedure 7 (Some efl.Integer) (Some (codes "F")) (n ∷ []) (declare 8 efl.Integer (n ∷ []) ∷ []) (stmt 9 (efl.Return (Some (efl.Pair Add (efl.At (at n)) (num 1)))) ∷ [])
 
 abbrev first : EflProcedure
 first = main (declare 2 efl.Integer (k ∷ []) ∷ []) (set 3 (at k) (efl.Call (codes "F") (exprs (num 2 ∷ []))) ∷ stmt 4 (efl.Write None (efl.Value (efl.At (at k)) (edits.Whole (pos 3)) ∷ [])) ∷ [])
 
-abbrev text : EflProgram
+abbrev pub text : EflProgram
 text = program (first ∷ f ∷ [])
 
 -- a list of two numbers is a name, and its first number tells what of
-abbrev names : Naming
+abbrev pub names : Naming
 names = record { home = λ v. 1 ∷ v ∷ []; callee = λ m. 4 ∷ m ∷ []; label = λ m. list_number; made = λ m i. suc i; temp = temporary; room = λ m. 2 }
   where
     temporary : Kind → ℕ → f66.Text

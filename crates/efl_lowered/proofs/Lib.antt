@@ -1,5 +1,16 @@
 -- The lemmas of efl_lowered.
 pub mod Lists
+pub mod TypedRules
+pub mod TypedExpressions
+pub mod TypedActs
+pub mod TypedStatements
+pub mod TypedChecks
+pub mod TypedCalls
+pub mod TypedBlocks
+pub mod TypedWalk
+pub mod TypedVariables
+pub mod TypedParts
+pub mod TypedReady
 pub mod Acts
 pub mod Declared
 pub mod Ties
@@ -13,3 +24,4 @@ pub mod Lowered
 pub mod Agrees
 pub mod Labels
 pub mod Example
+pub mod TypedExample
