@@ -12,9 +12,8 @@ use Rattle.stack_code.specs.ValidCode.{is_counted}
 use Rattle.stack_code.specs.Safety.{IsRight, IsSafe, ValidIsSafe}
 use Rattle.runner.specs.declared.words.Word.{Word}
 use Rattle.runner.specs.declared.words.Cell.{Cell}
-use Rattle.runner.specs.declared.frames.Resume.{Resume}
 use Rattle.runner.specs.Words.{Stand, Lies, pile_of}
-use Rattle.runner.specs.Frames.{IsKept, IsKeptIn, Wait, Level, Framed, MayFind, Finds, AreHanded}
+use Rattle.runner.specs.Frames.{Back, IsKept, IsKeptIn, Wait, Level, Framed, MayFind, Finds, AreHanded}
 use Rattle.runner.specs.Recording.{tape_at}
 use Rattle.runner.specs.Running.{IsValidCode, program}
 use Rattle.stack_code.proofs.FactsLemmas.{get_set_same}
@@ -77,7 +76,7 @@ module _ {code : Code} (valid : IsValidCode code) (law : ValidIsSafe) {steps pc 
     pub call_counted : is_counted (slice_get (code_of code.ops.items) to) ≡ true
     call_counted = begin_counted (slice_get (code_of code.ops.items) to) (in_range valid law t at)
 
-    module _ {from1 : ℕ} {spots1 : List Word} {resumes1 : List Resume} {resume : Resume} (low : from1 ≡ top - n) (handed : AreHanded stack (top - n) n level.spots spots1 (level.base + code.dummies)) (kept : resumes1 ≡ slice_set level.resumes level.level resume) (back : resume.at ≡ pc + 1) (line : resume.place ≡ place) (short : level.level < length level.resumes) where
+    module _ {from1 : ℕ} {spots1 : List Word} {resumes1 : List Back} {resume : Back} (low : from1 ≡ top - n) (handed : AreHanded stack (top - n) n level.spots spots1 (level.base + code.dummies)) (kept : resumes1 ≡ slice_set level.resumes level.level resume) (back : resume.at ≡ pc + 1) (line : resume.place ≡ place) (short : level.level < length level.resumes) where
       abbrev next_level : Level
       next_level = record { level = suc level.level; base = level.base + code.dummies; spots = spots1; resumes = resumes1 }
 
@@ -125,7 +124,7 @@ module _ {code : Code} (valid : IsValidCode code) (law : ValidIsSafe) {steps pc 
     pub returns_low : code.dummies ≤ level.base
     returns_low = let e = (gone_back []).level_is in let base = (t.held []).live.framed.base in let more = times_more 1 level.level code.dummies returns_some in omega arith
 
-    module _ {resume : Resume} (there : slice_get level.resumes (level.level - 1) ≡ Some resume) where
+    module _ {resume : Back} (there : slice_get level.resumes (level.level - 1) ≡ Some resume) where
       abbrev below : Level
       below = record { level = level.level - 1; base = level.base - code.dummies; spots = level.spots; resumes = level.resumes }
 

@@ -9,10 +9,9 @@ use Rattle.stack_code.specs.StackMachine.{Spot, At, Caller, Core, act, dummy, pu
 use Rattle.stack_code.specs.Safety.{IsRight, CallersWithin}
 use Rattle.stack_code.proofs.FactsLemmas.{get_set_same}
 use Rattle.runner.specs.declared.words.Word.{Word}
-use Rattle.runner.specs.declared.frames.Resume.{Resume}
 use Rattle.runner.specs.Words.{Shows, Stand, Lies}
 use Rattle.runner.specs.Work.{IsGiven, GoesTo, IsFine, IsAtMost}
-use Rattle.runner.specs.Frames.{IsKeptIn, Wait, MayFind, AreHanded}
+use Rattle.runner.specs.Frames.{Back, IsKeptIn, Wait, MayFind, AreHanded}
 use Rattle.runner.proofs.Piles.{set_later}
 use Rattle.runner.proofs.Tops.{spot_given, tall}
 
@@ -85,7 +84,7 @@ lies_kept ps a b x edge l le f = lies_moved ps a b x x l (λ k lt. f (x + k) (om
 
 -- ---- callers ----
 
-pub wait_level : (wide : ℕ) (spots : List Word) (resumes : List Resume) (callers : List Caller) (level : ℕ) → Wait wide spots resumes callers level → length callers ≡ level
+pub wait_level : (wide : ℕ) (spots : List Word) (resumes : List Back) (callers : List Caller) (level : ℕ) → Wait wide spots resumes callers level → length callers ≡ level
 wait_level wide spots resumes [] level h = sym h
 wait_level wide spots resumes (c ∷ callers) zero h = absurd h
 wait_level wide spots resumes (c ∷ callers) (suc level) h = ap suc (wait_level wide spots resumes callers level h.2)
@@ -95,7 +94,7 @@ times_more zero b k h = omega arith
 times_more (suc a) zero k h = absurd (omega arith)
 times_more (suc a) (suc b) k h = let ih = times_more a b k (omega arith) in omega arith
 
-module _ (units wide : ℕ) (spots spots1 : List Word) (resumes resumes1 : List Resume) (top : ℕ) (same : (q : ℕ) → q < top * wide → slice_get spots1 q ≡ slice_get spots q) (kept : (q : ℕ) → q < top → slice_get resumes1 q ≡ slice_get resumes q) where
+module _ (units wide : ℕ) (spots spots1 : List Word) (resumes resumes1 : List Back) (top : ℕ) (same : (q : ℕ) → q < top * wide → slice_get spots1 q ≡ slice_get spots q) (kept : (q : ℕ) → q < top → slice_get resumes1 q ≡ slice_get resumes q) where
   -- what is written from a level on does not change the callers below it
   pub wait_kept : (callers : List Caller) (level : ℕ) → level ≤ top → CallersWithin units wide callers → Wait wide spots resumes callers level → Wait wide spots1 resumes1 callers level
   wait_kept [] level le c h = h
@@ -107,7 +106,7 @@ module _ (units wide : ℕ) (spots spots1 : List Word) (resumes resumes1 : List 
 
 -- ---- a return ----
 
-pub record GoneBack (wide : ℕ) (spots : List Word) (resumes : List Resume) (callers : List Caller) (level : ℕ) : Type 0 where
+pub record GoneBack (wide : ℕ) (spots : List Word) (resumes : List Back) (callers : List Caller) (level : ℕ) : Type 0 where
   pub caller : Caller
   pub rest : List Caller
   pub is : callers ≡ caller ∷ rest
@@ -117,7 +116,7 @@ pub record GoneBack (wide : ℕ) (spots : List Word) (resumes : List Resume) (ca
   pub lies : Lies At caller.frame.spots spots (under * wide)
   pub wait : Wait wide spots resumes rest under
 
-pub goes_back : (P : Core → Type 0) (wide : ℕ) (spots : List Word) (resumes : List Resume) (s : Core) (w : World) (callers : List Caller) (level : ℕ) → IsRight P (back_to s w callers) → Wait wide spots resumes callers level → GoneBack wide spots resumes callers level
+pub goes_back : (P : Core → Type 0) (wide : ℕ) (spots : List Word) (resumes : List Back) (s : Core) (w : World) (callers : List Caller) (level : ℕ) → IsRight P (back_to s w callers) → Wait wide spots resumes callers level → GoneBack wide spots resumes callers level
 goes_back P wide spots resumes s w [] level h wait = absurd h
 goes_back P wide spots resumes s w (c ∷ callers) zero h wait = absurd wait
 goes_back P wide spots resumes s w (c ∷ callers) (suc under) h wait = record { caller = c; rest = callers; is = refl; under = under; level_is = refl; kept = wait.0; lies = wait.1; wait = wait.2 }

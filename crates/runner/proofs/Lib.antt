@@ -29,6 +29,7 @@ pub mod Lettered
 pub mod RowSteps
 pub mod Extents
 pub mod RowArms
+pub mod Begun
 pub mod UnderWay
 pub mod RecordArms
 pub mod Calls

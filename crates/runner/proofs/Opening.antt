@@ -110,22 +110,24 @@ open_ended (Some p) o1 e = (p, refl, sym (same_Some _ _ e))
 
 -- the next instruction is one of those to which it leads
 abbrev pub is_straight : Role → Bool
-is_straight (roles.Begins p) = true
+is_straight roles.Begins = true
 is_straight roles.Turns = true
 is_straight (roles.Spots first size) = true
 is_straight roles.Works = true
 is_straight roles.Operates = true
+is_straight roles.Stores = true
 is_straight roles.Holds = true
 is_straight (roles.Dummies n) = true
 is_straight (roles.Calls to n) = true
 is_straight _ = false
 
 pub straight_apart : (r : Role) → is_straight r ≡ true → is_apart r ≡ true
-straight_apart (roles.Begins p) e = refl
+straight_apart roles.Begins e = refl
 straight_apart roles.Turns e = refl
 straight_apart (roles.Spots first size) e = refl
 straight_apart roles.Works e = refl
 straight_apart roles.Operates e = refl
+straight_apart roles.Stores e = refl
 straight_apart roles.Holds e = refl
 straight_apart (roles.Dummies n) e = refl
 straight_apart (roles.Calls to n) e = refl

@@ -1,6 +1,7 @@
 -- What the role of an instruction tells of it.
 use Rattle.std.proofs.Common.{◌≡◌, ℕ, ◌+◌, ◌<◌, ◌^◌, true, false, List, [], ◌∷◌, Some, None, refl, sym, subst, arith}
 use Rattle.std.proofs.lemmas.Bool.{leb-true, ltb-true, and_parts}
+use Rattle.ground.specs.declared.place.Place.{Place}
 use Rattle.ground.specs.Content.{Nothing, Whole, Truth}
 use Rattle.stack_code.specs.Instructions as i
 use Rattle.stack_code.specs.Instructions.{Instruction}
@@ -16,7 +17,7 @@ abbrev pub IsNext : Instruction → Type 0
 IsNext j = (pc : ℕ) → ways j pc ≡ (pc + 1) ∷ []
 
 abbrev pub Tells : Role → Instruction → Type 0
-Tells (roles.Begins p) j = j ≡ i.Begin p
+Tells roles.Begins j = (p : Place) × (j ≡ i.Begin p)
 Tells roles.Turns j = j ≡ i.Step
 Tells roles.Halts j = j ≡ i.Halt None
 Tells (roles.Stops n) j = j ≡ i.Halt (Some n)
@@ -24,6 +25,7 @@ Tells roles.Leaps j = (is_leap j ≡ true) × (is_counted (Some j) ≡ false)
 Tells (roles.Spots first size) j = j ≡ i.PushSpot first size
 Tells roles.Works j = is_counted (Some j) ≡ false
 Tells roles.Operates j = is_counted (Some j) ≡ false
+Tells roles.Stores j = j ≡ i.Store
 Tells roles.Holds j = is_counted (Some j) ≡ false
 Tells (roles.Loops limit step to) j = j ≡ i.LoopTurn limit step to
 Tells (roles.Dummies n) j = j ≡ i.Dummy n
@@ -32,7 +34,7 @@ Tells roles.Returns j = j ≡ i.Return
 Tells roles.Records j = (is_counted (Some j) ≡ false) × IsNext j
 
 tells : (j : Instruction) → Tells (role j) j
-tells (i.Begin p) = refl
+tells (i.Begin p) = (p, refl)
 tells i.Step = refl
 tells (i.Push v) = refl
 tells (i.PushSpot first size) = refl

@@ -1,7 +1,7 @@
 -- What is known at each turn of the loop, and what one more turn keeps.
 use Rattle.std.proofs.Common.{◌≡◌, ℕ, zero, suc, ◌+◌, ◌-◌, ◌*◌, ◌<◌, ◌≤◌, List, [], ◌∷◌, ◌++◌, length, get_or, drop, Option, Some, None, refl, sym, ap, ◌∙◌, subst, arith, slice_get}
 use Rattle.std.specs.Prelude.{Ok, true, false, option_map}
-use Rattle.std.proofs.lemmas.List.{get_or-drop}
+use Rattle.std.proofs.lemmas.List.{drop-drop, get_or-drop, length-drop}
 use Rattle.std.proofs.lemmas.Option.{slice_get-map, slice_get_read, slice_get_within}
 use Rattle.ground.specs.declared.place.Place.{Place}
 use Rattle.ground.specs.declared.trap.Trap.{Trap}
@@ -21,9 +21,8 @@ use Rattle.stack_code.specs.Safety.{IsRight, AllWithin, IsSafe, ValidIsSafe}
 use Rattle.runner.specs.declared.words.Word.{Word}
 use Rattle.runner.specs.declared.words.Cell.{Cell}
 use Rattle.runner.specs.declared.words.Cell.TheVariants as cell
-use Rattle.runner.specs.declared.frames.Resume.{Resume}
 use Rattle.runner.specs.Words.{Stand, Agrees, Lies, content_in, pile_of}
-use Rattle.runner.specs.Frames.{Level, Framed}
+use Rattle.runner.specs.Frames.{Back, place_by, place_at, Level, Framed}
 use Rattle.runner.specs.Work.{MayWork, MayHold, IsFine, IsAtMost, GoesOver, Works, Holds, Leaps, LeapsOver, is_leap}
 use Rattle.runner.specs.Recording.{tape_at, InHand}
 use Rattle.runner.specs.Running.{role, is_apart, bounded, RunsTo, IsValidCode, program}
@@ -76,7 +75,7 @@ pub second : {xs : List Op} {op : Op} (ops : List Op) (pc : ℕ) → xs ≡ drop
 second {xs} {op} ops pc same is = is ∙ ap (λ v. get_or v 1 op) same ∙ get_or-drop pc ops 1 op
 
 -- at first
-pub begins : (code : Code) (steps : ℕ) (stack : List Word) (cells : List Cell) (place : Place) (spots : List Word) (resumes : List Resume) (stand : Standing) (plan : ℕ) → place ≡ start.frame.place → length cells ≡ code.units → ((q : ℕ) → q < length cells → slice_get cells q ≡ Some cell.Nothing) → IsTurn code steps 0 steps 0 stack cells place 0 0 (record { level = 0; base = 0; spots = spots; resumes = resumes }) [] [] empty_hand stand plan
+pub begins : (code : Code) (steps : ℕ) (stack : List Word) (cells : List Cell) (place : Place) (spots : List Word) (resumes : List Back) (stand : Standing) (plan : ℕ) → place ≡ start.frame.place → length cells ≡ code.units → ((q : ℕ) → q < length cells → slice_get cells q ≡ Some cell.Nothing) → IsTurn code steps 0 steps 0 stack cells place 0 0 (record { level = 0; base = 0; spots = spots; resumes = resumes }) [] [] empty_hand stand plan
 begins code steps stack cells place spots resumes stand plan first units none =
     record {
       held = λ input. record { count = 0; core = start; world = first_world input steps; comes = refl; live = record { here = refl; stack = tt; line = sym first; agrees = empty_agrees cells none; rest = refl; sums = omega arith; taped = refl; framed = record { base = omega arith; own = tt; wait = refl } }; waits = tt; base = 0; told = refl; adds = omega arith };
@@ -95,6 +94,14 @@ right_fine P (Halts e w) h = h
 right_more : (P Q : Core → Type 0) (o : Out Core) → ((s : Core) → P s → Q s) → IsRight P o → IsRight Q o
 right_more P Q (Gives s w) f h = f s h
 right_more P Q (Halts e w) f h = h
+
+-- the same of what stands behind some more instructions
+pub further : {xs ys : List Op} (ops : List Op) (pc k : ℕ) → xs ≡ drop pc ops → ys ≡ drop k xs → ys ≡ drop (pc + k) ops
+further ops pc k same is = is ∙ ap (drop k) same ∙ drop-drop k pc ops
+
+-- so many instructions are there, where the last of them is
+pub reaches_to : {xs : List Op} {j : Instruction} (ops : List Op) (pc at k : ℕ) → xs ≡ drop pc ops → slice_get (code_of ops) at ≡ Some j → pc + k ≡ at + 1 → k ≤ length xs
+reaches_to ops pc at k same there e = let within = slice_get_within (code_of ops) at _ there in let all = length-code_of ops in let rest = ap length same ∙ length-drop pc ops in omega (arith, within, all, rest)
 
 module _ {code : Code} (valid : IsValidCode code) (law : ValidIsSafe) {steps pc left top : ℕ} {stack : List Word} {cells : List Cell} {place : Place} {executed from : ℕ} {level : Level} {taken written : List Record} {hand : Hand} {stand : Standing} {plan : ℕ} (t : IsTurn code steps pc left top stack cells place executed from level taken written hand stand plan) where
   abbrev pub Safe : Core → Type 0
@@ -272,6 +279,10 @@ module _ {code : Code} (valid : IsValidCode code) (law : ValidIsSafe) {steps pc 
 
     pub begins_on : {p : Place} → j ≡ i.Begin p → (left ≡ 0 → ⊥) → IsTurn code steps (pc + 1) (left - 1) top stack cells p executed from level taken written hand stand plan
     begins_on {p} e some = counts_on (λ s. entered s p) p (begin_is p e) (ap (λ x. is_straight (role x)) e) some (λ s. refl) (λ s. refl) (λ s h. refl) (λ s f. record { base = f.base; own = f.own; wait = f.wait }) (λ s. refl)
+
+    -- the place of the statement is told by the instruction that began it
+    pub begins_here : {p : Place} → j ≡ i.Begin p → (left ≡ 0 → ⊥) → IsTurn code steps (pc + 1) (left - 1) top stack cells (place_at (code_of code.ops.items) pc) executed from level taken written hand stand plan
+    begins_here {p} e some = subst (λ q. IsTurn code steps (pc + 1) (left - 1) top stack cells q executed from level taken written hand stand plan) (sym (ap place_by (at ∙ ap Some e))) (begins_on e some)
 
     pub begins_out : {p : Place} {executed1 : ℕ} → j ≡ i.Begin p → CountsOne executed from pc executed1 → left ≡ 0 → (input : List Record) → RunsTo (program code) (taken ++ input) steps written GoesOn left executed1
     begins_out {p} e told none = counts_out (λ s. entered s p) p (begin_is p e) told none

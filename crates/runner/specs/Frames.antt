@@ -2,24 +2,42 @@
 use Rattle.std.specs.Prelude.{◌≡◌, ℕ, zero, suc, ◌+◌, ◌*◌, ◌<◌, List, [], ◌∷◌, Option, Some, None, slice_get}
 use Rattle.f66_tree.specs.Fields.{Fields}
 use Rattle.f66_tree.specs.World.{World}
-use Rattle.stack_code.specs.Instructions.{Dummy}
+use Rattle.ground.specs.declared.place.Place.{Place}
+use Rattle.stack_code.specs.Instructions.{Instruction, Begin, Dummy}
 use Rattle.stack_code.specs.StackMachine.{At, Caller, Core, act}
 use Rattle.runner.specs.declared.words.Word.{Word}
 use Rattle.runner.specs.declared.frames.Resume.{Resume}
 use Rattle.runner.specs.Words.{Stand, Lies, pile_of}
 use Rattle.runner.specs.Work.{MayWork, GoesTo, IsFine}
 
--- where a caller goes on
-pub record IsKept (c : Caller) (r : Resume) : Type 0 where
+-- the place of the statement that an instruction begins
+abbrev pub place_by : Option Instruction → Place
+place_by (Some (Begin p)) = p
+place_by _ = record { file = 0; line = 0 }
+
+-- the same by the instruction's number
+abbrev pub place_at : List Instruction → ℕ → Place
+place_at code begun = place_by (slice_get code begun)
+
+-- where a caller goes on, and the place of its statement
+pub record Back : Type 0 where
+  pub at : ℕ
+  pub place : Place
+
+abbrev pub back_of : List Instruction → Resume → Back
+back_of code r = record { at = r.at; place = place_at code r.begun }
+
+-- it is this caller's
+pub record IsKept (c : Caller) (r : Back) : Type 0 where
   pub at : r.at ≡ c.back
   pub place : r.place ≡ c.frame.place
 
-abbrev pub IsKeptIn : Caller → Option Resume → Type 0
+abbrev pub IsKeptIn : Caller → Option Back → Type 0
 IsKeptIn c (Some r) = IsKept c r
 IsKeptIn c None = ⊥
 
 -- so many callers wait, each at its level, with the spots of its frame there
-abbrev pub Wait : ℕ → List Word → List Resume → List Caller → ℕ → Type 0
+abbrev pub Wait : ℕ → List Word → List Back → List Caller → ℕ → Type 0
 Wait wide spots resumes [] level = level ≡ 0
 Wait wide spots resumes (c ∷ callers) zero = ⊥
 Wait wide spots resumes (c ∷ callers) (suc level) = IsKeptIn c (slice_get resumes level) × Lies At c.frame.spots spots (level * wide) × Wait wide spots resumes callers level
@@ -29,7 +47,7 @@ pub record Level : Type 0 where
   pub level : ℕ
   pub base : ℕ
   pub spots : List Word
-  pub resumes : List Resume
+  pub resumes : List Back
 
 -- it is this state's
 pub record Framed (wide : ℕ) (l : Level) (s : Core) : Type 0 where

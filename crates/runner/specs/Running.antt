@@ -22,14 +22,14 @@ use Rattle.runner.specs.declared.words.Cell.TheVariants as cells
 
 -- what an instruction is to the loop
 abbrev pub role : Instruction → Role
-role (i.Begin p) = roles.Begins p
+role (i.Begin p) = roles.Begins
 role i.Step = roles.Turns
 role (i.Push v) = roles.Works
 role (i.PushSpot first size) = roles.Spots first size
 role (i.Dummy n) = roles.Dummies n
 role (i.Element n) = roles.Works
 role (i.Load k) = roles.Holds
-role i.Store = roles.Holds
+role i.Store = roles.Stores
 role i.Forget = roles.Holds
 role (i.Lend q) = roles.Holds
 role (i.Both op) = roles.Operates

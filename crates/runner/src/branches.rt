@@ -67,8 +67,8 @@ fn target_at(targets: &[u32], index: usize) -> Option<usize>
     }
 }
 
-/// An integer is popped, and the target of that number is gone to.
-#[inline(always)]
+/// An integer is popped, and the target of that number is gone to. It stands apart from the loop that runs code, since it comes seldom.
+#[inline(never)]
 fn jump_table(targets: &[u32], stack: &[Word], top: usize) -> Result<(usize, usize), Trap>
     requires work { MayWork (JumpTable targets.now) stack.now top }
     ensures leaps { (pc : ℕ) → Leaps (JumpTable targets.now) pc stack.now top result }

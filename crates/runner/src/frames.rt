@@ -3,13 +3,12 @@ ghost use Rattle.std.specs.Prelude.{◌≡◌, ◌+◌, ◌-◌, ◌<◌, ◌≤
 ghost use Rattle.runner.specs.Frames.{MayFind, Finds, AreHanded};
 
 use crate::words::{Word, push};
-use ground::Place;
 
-/// Where a caller goes on: at an instruction, within the statement at a place.
+/// Where a caller goes on: at an instruction, within the statement that another one begins.
 #[derive(Clone, Copy)]
 pub struct Resume {
     pub at: usize,
-    pub place: Place,
+    pub begun: usize,
 }
 
 #[inline(always)]
@@ -38,8 +37,9 @@ pub(crate) fn dummy(
     top + 1
 }
 
-/// So many spots become the dummies of a frame that begins at `base`.
-#[inline(always)]
+/// So many spots become the dummies of a frame that begins at `base`. It stands apart from the loop that runs code, whose registers
+/// its own loop would take.
+#[inline(never)]
 fn hand_on(stack: &[Word], from: usize, count: usize, spots: &mut [Word], base: usize)
     requires stack { from + count ≤ length stack.now }
     requires spots { base + count ≤ length spots.old }

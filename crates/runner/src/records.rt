@@ -127,6 +127,8 @@ fn row_at<S: Source, K: Sink>(
 }
 
 /// An instruction that has to do with records. How many entries the stack has then, and the number of the open statement's format.
+/// It stands apart from the loop that runs code, whose registers it would take.
+#[inline(never)]
 pub(crate) fn record_step<S: Source, K: Sink>(
     op: &Op,
     plans: &[Plan],

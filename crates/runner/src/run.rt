@@ -1,11 +1,13 @@
 // The loop that runs code, over a stack and a store that are given to it.
-ghost use Rattle.std.specs.Prelude.{◌≡◌, ◌+◌, ◌-◌, ◌<◌, ◌≤◌, ◌^◌, ℕ, [], true, length, drop, IfSome};
+ghost use Rattle.std.specs.Prelude.{◌≡◌, ◌+◌, ◌-◌, ◌<◌, ◌≤◌, ◌^◌, ℕ, [], true, length, drop, Some, IfSome};
 ghost use Rattle.ground.specs.declared.value.Kind.TheVariants.{Integer};
 ghost use Rattle.stack_code.specs.Instructions.{Load, LoopTurn};
 ghost use Rattle.stack_code.specs.Views.{code_of, instruction_of};
 ghost use Rattle.runner.specs.Work.{MayWork, Works, MayHold, Holds, IsRoomFor};
+ghost use Rattle.runner.specs.Frames.{place_by, place_at};
 ghost use Rattle.runner.specs.Running.{IsReady, HasRange, HasUnits, bounded, ran, role as role_for};
 ghost use Rattle.runner.specs.Endings.{IsUnread, IsRunOf, end_in};
+ghost use Rattle.runner.specs.declared.run.End.TheVariants.{Trapped};
 ghost use Rattle.runner.specs.declared.run.Role.TheVariants.{Works as works, Operates as operates, Holds as holds};
 
 use crate::branches::leap;
@@ -55,8 +57,8 @@ pub struct Ran {
 /// What an instruction is to the loop.
 #[derive(Clone, Copy)]
 enum Role {
-    /// A statement begins at this place.
-    Begins(Place),
+    /// A statement begins.
+    Begins,
     /// A turn of an implied DO begins.
     Turns,
     Halts,
@@ -69,7 +71,9 @@ enum Role {
     Works,
     /// It is an operator of two values.
     Operates,
-    /// It works on the stack and the store.
+    /// It stores a value.
+    Stores,
+    /// It works on the stack and the store in another way.
     Holds,
     /// A turn of a DO ends: the units of its limit and its step, and where the next turn begins.
     Loops(u32, u32, u32),
@@ -87,10 +91,7 @@ fn role_of(op: &Op) -> Role
     ensures { result ≡ role_for (instruction_of op.now) }
 {
     match op {
-        Op::Begin(place) => Role::Begins(Place {
-            file: place.file,
-            line: place.line,
-        }),
+        Op::Begin(_) => Role::Begins,
         Op::Step => Role::Turns,
         Op::PushInt(_) => Role::Works,
         Op::PushLog(_) => Role::Works,
@@ -99,7 +100,7 @@ fn role_of(op: &Op) -> Role
         Op::Element(_) => Role::Works,
         Op::LoadInt => Role::Holds,
         Op::LoadLog => Role::Holds,
-        Op::Store => Role::Holds,
+        Op::Store => Role::Stores,
         Op::Forget => Role::Holds,
         Op::Lend(_) => Role::Holds,
         Op::Add => Role::Operates,
@@ -212,7 +213,6 @@ fn hold(op: &Op, stack: &mut [Word], top: usize, cells: &mut [Cell]) -> Result<u
     match op {
         Op::LoadInt => load(Kind::Integer, stack, top, cells),
         Op::LoadLog => load(Kind::Logical, stack, top, cells),
-        Op::Store => store(stack, top, cells),
         Op::Forget => forget(stack, top, cells),
         Op::Lend(unit) => Ok(lend(*unit, stack, top, cells)),
         Op::LoopStart(limit, step) => loop_start(*limit, *step, stack, top, cells),
@@ -240,7 +240,8 @@ fn counted(executed: u64, from: usize, pc: usize) -> u64
     executed.saturating_add((pc - from) as u64 + 1)
 }
 
-/// Runs the code, and takes no memory.
+/// Runs the code, and takes no memory. It stands apart from its caller, with whose variables the loop would share its registers.
+#[inline(never)]
 pub(crate) fn run_code<S: Source, K: Sink>(
     code: &Code,
     flow: &mut Flow,
@@ -259,99 +260,89 @@ pub(crate) fn run_code<S: Source, K: Sink>(
     valid_is_safe();
     let ops: &[Op] = &code.ops;
     let mut pc = 0;
+    let mut ahead = code_from(ops, 0);
     let mut top = 0;
     let mut left = steps;
-    let mut place = Place { file: 0, line: 0 };
-    let mut executed = 0;
+    // The instruction that began the statement: at first none.
+    let mut begun = ops.len();
+    let mut done = 0;
     let mut from = 0;
     let mut level = 0;
     let mut base = 0;
     let mut plan: usize = 0;
     'turn: loop {
-        prove!(pc < ops.len());
-        let ahead = code_from(ops, pc);
+        prove!(0 < ahead.len());
         let op = &ahead[0];
         match role_of(op) {
-            Role::Begins(begun) => {
+            Role::Begins => {
                 if left == 0 {
-                    return over(End::StepLimit, left, counted(executed, from, pc));
+                    return over(End::StepLimit, left, counted(done, from, pc));
                 }
                 left -= 1;
-                place = begun;
+                begun = pc;
                 pc += 1;
+                ahead = code_from(ahead, 1);
             }
             Role::Turns => {
                 if left == 0 {
-                    return over(End::StepLimit, left, counted(executed, from, pc));
+                    return over(End::StepLimit, left, counted(done, from, pc));
                 }
                 left -= 1;
                 pc += 1;
+                ahead = code_from(ahead, 1);
             }
-            Role::Halts => return over(End::Done, left, counted(executed, from, pc)),
-            Role::Stops(number) => return over(
-                End::Stopped(number),
-                left,
-                counted(executed, from, pc),
-            ),
+            Role::Halts => return over(End::Done, left, counted(done, from, pc)),
+            Role::Stops(number) => return over(End::Stopped(number), left, counted(done, from, pc)),
             Role::Leaps => match leap(op, pc, stack, top) {
                 Ok((to, rest)) => {
-                    executed = counted(executed, from, pc);
+                    done = counted(done, from, pc);
                     pc = to;
                     from = to;
+                    ahead = code_from(ops, to);
                     top = rest;
                 }
-                Err(trap) => return over(
-                    End::Trapped(trap, place),
-                    left,
-                    counted(executed, from, pc),
-                ),
+                Err(trap) => return halted(trap, code, begun, left, done, from, pc),
             },
             Role::Loops(limit, step, to) => {
                 match loop_turn(limit, step, to, pc, stack, top, cells) {
                     Ok((next, rest)) => {
-                        executed = counted(executed, from, pc);
+                        done = counted(done, from, pc);
                         pc = next;
                         from = next;
+                        ahead = code_from(ops, next);
                         top = rest;
                     }
-                    Err(trap) => {
-                        return over(End::Trapped(trap, place), left, counted(executed, from, pc));
-                    }
+                    Err(trap) => return halted(trap, code, begun, left, done, from, pc),
                 }
             }
             Role::Spots(first, size) => {
-                prove!(pc + 1 < ops.len());
+                prove!(1 < ahead.len());
                 if is_load(&ahead[1]) {
                     match variable(first, stack, top, cells) {
                         Ok(rest) => {
                             top = rest;
                             pc += 2;
+                            ahead = code_from(ahead, 2);
                         }
-                        Err(trap) => return over(
-                            End::Trapped(trap, place),
-                            left,
-                            counted(executed, from, pc + 1),
-                        ),
+                        Err(trap) => return halted(trap, code, begun, left, done, from, pc + 1),
                     }
                 } else if let Some((limit, step, to)) = turn_behind(size, &ahead[1]) {
                     match variable_turn(first, limit, step, to, pc + 1, top, cells) {
                         Ok((next, rest)) => {
-                            executed = counted(executed, from, pc + 1);
+                            done = counted(done, from, pc + 1);
                             pc = next;
                             from = next;
+                            ahead = code_from(ops, next);
                             top = rest;
                         }
-                        Err(trap) => return over(
-                            End::Trapped(trap, place),
-                            left,
-                            counted(executed, from, pc + 1),
-                        ),
+                        Err(trap) => return halted(trap, code, begun, left, done, from, pc + 1),
                     }
                 } else {
-                    match subscripts_behind(size, ahead, 1) {
+                    match subscripts_behind(size, ahead, 1, ops.len() - pc) {
                         Subscripts::Other => {
                             top = push_spot(first, size, stack, top);
                             pc += 1;
+                            ahead = code_from(ahead, 1);
                         }
                         Subscripts::One(unit, extent) => match subscript(unit, cells) {
                             Ok(value) => {
@@ -359,19 +350,20 @@ pub(crate) fn run_code<S: Source, K: Sink>(
                                     Ok(rest) => {
                                         top = rest;
                                         pc += 5;
+                                        ahead = code_from(ahead, 5);
                                     }
-                                    Err(trap) => return over(
-                                        End::Trapped(trap, place),
+                                    Err(trap) => return halted(
+                                        trap,
+                                        code,
+                                        begun,
                                         left,
-                                        counted(executed, from, pc + 4),
+                                        done,
+                                        from,
+                                        pc + 4,
                                     ),
                                 }
                             }
-                            Err(trap) => return over(
-                                End::Trapped(trap, place),
-                                left,
-                                counted(executed, from, pc + 2),
-                            ),
+                            Err(trap) => return halted(trap, code, begun, left, done, from, pc + 2),
                         },
                         Subscripts::Two(one, two, rows, columns) => match subscript(one, cells) {
                             Ok(x) => match subscript(two, cells) {
@@ -382,25 +374,30 @@ pub(crate) fn run_code<S: Source, K: Sink>(
                                         Ok(rest) => {
                                             top = rest;
                                             pc += 8;
+                                            ahead = code_from(ahead, 8);
                                         }
-                                        Err(trap) => return over(
-                                            End::Trapped(trap, place),
+                                        Err(trap) => return halted(
+                                            trap,
+                                            code,
+                                            begun,
                                             left,
-                                            counted(executed, from, pc + 7),
+                                            done,
+                                            from,
+                                            pc + 7,
                                         ),
                                     }
                                 }
-                                Err(trap) => return over(
-                                    End::Trapped(trap, place),
+                                Err(trap) => return halted(
+                                    trap,
+                                    code,
+                                    begun,
                                     left,
-                                    counted(executed, from, pc + 4),
+                                    done,
+                                    from,
+                                    pc + 4,
                                 ),
                             },
-                            Err(trap) => return over(
-                                End::Trapped(trap, place),
-                                left,
-                                counted(executed, from, pc + 2),
-                            ),
+                            Err(trap) => return halted(trap, code, begun, left, done, from, pc + 2),
                         },
                     }
                 }
@@ -409,58 +406,57 @@ pub(crate) fn run_code<S: Source, K: Sink>(
                 Ok(rest) => {
                     top = rest;
                     pc += 1;
+                    ahead = code_from(ahead, 1);
                 }
-                Err(trap) => return over(
-                    End::Trapped(trap, place),
-                    left,
-                    counted(executed, from, pc),
-                ),
+                Err(trap) => return halted(trap, code, begun, left, done, from, pc),
             },
             Role::Operates => match operation(op, stack, top) {
                 Ok(rest) => {
                     top = rest;
                     pc += 1;
+                    ahead = code_from(ahead, 1);
                 }
-                Err(trap) => return over(
-                    End::Trapped(trap, place),
-                    left,
-                    counted(executed, from, pc),
-                ),
+                Err(trap) => return halted(trap, code, begun, left, done, from, pc),
+            },
+            Role::Stores => match store(stack, top, cells) {
+                Ok(rest) => {
+                    top = rest;
+                    pc += 1;
+                    ahead = code_from(ahead, 1);
+                }
+                Err(trap) => return halted(trap, code, begun, left, done, from, pc),
             },
             Role::Holds => match hold(op, stack, top, cells) {
                 Ok(rest) => {
                     top = rest;
                     pc += 1;
+                    ahead = code_from(ahead, 1);
                 }
-                Err(trap) => return over(
-                    End::Trapped(trap, place),
-                    left,
-                    counted(executed, from, pc),
-                ),
+                Err(trap) => return halted(trap, code, begun, left, done, from, pc),
             },
             Role::Dummies(number) => {
                 top = dummy(number, spots, base, stack, top);
                 pc += 1;
+                ahead = code_from(ahead, 1);
             }
             Role::Calls(to, count) => {
                 let above = base + code.dummies as usize;
                 top = call(count, stack, top, spots, above);
-                keep_caller(resumes, level, Resume { at: pc + 1, place });
-                executed = counted(executed, from, pc);
+                keep_caller(resumes, level, Resume { at: pc + 1, begun });
+                done = counted(done, from, pc);
                 pc = to as usize;
                 from = to as usize;
+                ahead = code_from(ops, to as usize);
                 level += 1;
                 base = above;
             }
             Role::Returns => {
                 let resume = caller_below(resumes, level);
-                executed = counted(executed, from, pc);
+                done = counted(done, from, pc);
                 pc = resume.at;
                 from = resume.at;
-                place = Place {
-                    file: resume.place.file,
-                    line: resume.place.line,
-                };
+                ahead = code_from(ops, resume.at);
+                begun = resume.begun;
                 level -= 1;
                 base -= code.dummies as usize;
             }
@@ -479,8 +475,13 @@ pub(crate) fn run_code<S: Source, K: Sink>(
                     top = rest;
                     plan = number;
                     pc += 1;
+                    ahead = code_from(ahead, 1);
                 }
-                Err(stop) => return over(end_at(stop, place), left, counted(executed, from, pc)),
+                Err(stop) => return over(
+                    end_at(stop, place_of(code, begun)),
+                    left,
+                    counted(done, from, pc),
+                ),
             },
         }
     }
@@ -495,6 +496,55 @@ fn end_at(stop: Stop, place: Place) -> End
         Stop::Input => End::InputFault,
         Stop::Output => End::OutputFault,
     }
+}
+
+/// The place of the statement that an instruction begins.
+fn begun_by(op: &Op) -> Place
+    ensures { result ≡ place_by (Some (instruction_of op.now)) }
+{
+    match op {
+        Op::Begin(place) => Place {
+            file: place.file,
+            line: place.line,
+        },
+        _ => Place { file: 0, line: 0 },
+    }
+}
+
+/// The place of the statement that the instruction of this number begins.
+#[inline(never)]
+fn place_of(code: &Code, begun: usize) -> Place
+    ensures { result ≡ place_at (code_of code.now.ops.items) begun }
+{
+    let ops: &[Op] = &code.ops;
+    if begun < ops.len() {
+        begun_by(&ops[begun])
+    } else {
+        Place { file: 0, line: 0 }
+    }
+}
+
+/// How a run went that a trap halts at `pc`, in the statement that an instruction begins, with so many instructions more and that one.
+#[inline(never)]
+fn halted(
+    trap: Trap,
+    code: &Code,
+    begun: usize,
+    left: u64,
+    executed: u64,
+    from: usize,
+    pc: usize,
+) -> Ran
+    requires order { from ≤ pc }
+    requires few { pc < 2 ^ 63 }
+    ensures end { result ≡ ran (Trapped trap (place_at (code_of code.now.ops.items) begun)) left result.executed }
+    ensures counts { (base : ℕ) → executed ≡ bounded base → result.executed ≡ bounded (base + (pc - from) + 1) }
+{
+    over(
+        End::Trapped(trap, place_of(code, begun)),
+        left,
+        counted(executed, from, pc),
+    )
 }
 
 /// How a run went.

@@ -6,7 +6,7 @@ ghost use Rattle.runner.specs.Runners.{IsFresh, MayRun, IsRun, AreEmpty};
 use crate::frames::Resume;
 use crate::run::{End, run_code};
 use crate::words::{Cell, Word};
-use ground::{Memory, Place};
+use ground::Memory;
 use ports::{Sink, Source};
 use record_flow::Flow;
 use stack_code::Code;
@@ -133,10 +133,7 @@ fn blank_callers(alloc: Global, count: usize) -> Result<Vec<Resume>, AllocError>
 {
     let mut callers = Vec::new(alloc);
     for made in 0..count {
-        callers.push(Resume {
-            at: 0,
-            place: Place { file: 0, line: 0 },
-        })?;
+        callers.push(Resume { at: 0, begun: 0 })?;
     }
     Ok(callers)
 }

@@ -96,11 +96,12 @@ fn two_at(ops: &[Op], at: usize, one: u32) -> Subscripts
 
 /// The subscripts from here on. The code's length is looked at once, for two of them: of the last few instructions none is found.
 #[inline(always)]
-fn subscripts_at(ops: &[Op], at: usize) -> Subscripts
+fn subscripts_at(ops: &[Op], at: usize, count: usize) -> Subscripts
     requires few { at < 2 ^ 63 }
+    requires count { count ≡ length ops.now }
     ensures { AreSubscripts (code_of ops.now) at result }
 {
-    if at + 6 >= ops.len() {
+    if at + 6 >= count {
         return Subscripts::Other;
     }
     match variable_at(ops, at) {
@@ -118,16 +119,18 @@ fn subscripts_at(ops: &[Op], at: usize) -> Subscripts
     }
 }
 
-/// The same behind a spot of so many units. Where that is one unit it is hardly an array's, and nothing is looked at.
+/// The same behind a spot of so many units. Where that is one unit it is hardly an array's, and nothing is looked at. How many
+/// instructions there are is told apart, so that the loop that runs code need not keep it.
 #[inline(always)]
-pub(crate) fn subscripts_behind(size: u32, ops: &[Op], at: usize) -> Subscripts
+pub(crate) fn subscripts_behind(size: u32, ops: &[Op], at: usize, count: usize) -> Subscripts
     requires few { at < 2 ^ 63 }
+    requires count { count ≡ length ops.now }
     ensures { AreSubscripts (code_of ops.now) at result }
 {
     if size == 1 {
         Subscripts::Other
     } else {
-        subscripts_at(ops, at)
+        subscripts_at(ops, at, count)
     }
 }
 
@@ -160,7 +163,7 @@ fn far_by_two(one: i32, two: i32, rows: i32, columns: i32) -> Option<u64>
 {
     match before(one, rows) {
         Some(left) => match before(two, columns) {
-            Some(above) => Some(left + above * u64::from(rows.unsigned_abs())),
+            Some(above) => Some(left + above * rows as u64),
             None => None,
         },
         None => None,

@@ -12,9 +12,6 @@ returns-in-LoadInt-clause-works c = subst (λ op. Holds (instruction_of op) c.ar
 pub returns-in-LoadLog-clause-works : goal.returns-in-LoadLog-clause-works
 returns-in-LoadLog-clause-works c = subst (λ op. Holds (instruction_of op) c.args.stack.now c.args.top c.args.cells.now c.load-in-LoadLog.new.stack c.args.cells.now c.load-in-LoadLog.result) (sym c.in-LoadLog.is) c.load-in-LoadLog.ensures.works
 
-pub returns-in-Store-clause-works : goal.returns-in-Store-clause-works
-returns-in-Store-clause-works c = subst (λ op. Holds (instruction_of op) c.args.stack.now c.args.top c.args.cells.now c.args.stack.now c.store.new.cells c.store.result) (sym c.in-Store.is) c.store.ensures.works
-
 pub returns-in-Forget-clause-works : goal.returns-in-Forget-clause-works
 returns-in-Forget-clause-works c = subst (λ op. Holds (instruction_of op) c.args.stack.now c.args.top c.args.cells.now c.args.stack.now c.forget.new.cells c.forget.result) (sym c.in-Forget.is) c.forget.ensures.works
 
