@@ -1,0 +1,2 @@
+-- The lemmas of efl_typed_tree.
+pub mod Rows
