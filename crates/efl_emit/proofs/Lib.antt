@@ -1,0 +1,8 @@
+-- The lemmas of efl_emit.
+pub mod Emitting
+pub mod Forms
+pub mod Items
+pub mod Lists
+pub mod Operands
+pub mod Rows
+pub mod Sizes
