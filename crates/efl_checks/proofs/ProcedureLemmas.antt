@@ -127,22 +127,22 @@ module _ (us : List EflProcedure) (u : EflProcedure) (a : Around) (vs : List Par
   }
 
 -- noted and counted
-pub header_added : (n : ℕ) (u : EflProcedure) (letters : Letters) (p q : Walk) (rule : Option TypeRule) → ((y : Types) → AreRules y (implied_of u) letters → rule ≡ first_rule (header_faults u)) →
+pub header_added : (n : ℕ) (u : EflProcedure) (letters : Letters) (block : Block) (p q : Walk) (rule : Option TypeRule) → ((y : Types) → AreRules y (implied_of u) letters → rule ≡ first_rule (header_faults u)) →
     ((us : List EflProcedure) (vs : List Part) (v : Part) → Behind us vs p.progress → v.place ≡ u.place → presets_of v.form ≡ [] → rule ≡ first_rule (part_faults us v) →
-    Behind us (vs ++ v ∷ []) q.progress) → CountsHeader n u.formals p.storage q.storage → q.firsts ≡ p.firsts → AddsHeader n u letters p q
-header_added n u letters p q rule ruled notes counts same y us a vs found unit blocks rules read =
+    Behind us (vs ++ v ∷ []) q.progress) → CountsHeader n u.formals block p.storage q.storage → q.firsts ≡ p.firsts → AddsHeader n u letters block p q
+header_added n u letters block p q rule ruled notes counts same y us a vs found unit blocks rules within read =
     let form = Header u.result u.formals in
     let here : slice_get us a.unit ≡ Some u = ap (slice_get us) unit ∙ found in
     record {
       tells = notes us vs (part a u.place form) read.tells refl refl (rule_there first_rule us u a u.place form rule here (ruled y rules));
-      counts = counts us u a u.place vs found refl unit blocks read.counts;
+      counts = counts y us u a u.place vs found refl unit blocks within read.counts;
       firsts = subst (AreFirsts us) (sym same) read.firsts;
     }
 
 -- ---- a procedure ----
 
 pub procedure_read : (y z : Types) (n : ℕ) (u : EflProcedure) (o : Outer) (units : Units) (outcome : Outcome) (areas : Areas) (own : Procedure) (p q r : Walk) →
-    IsKnown n u.formals o.letters units outcome areas own → result_of u.result ≡ names.result_of outcome → AreAreas u areas → AddsHeader n u o.letters p q → ReadsOuter y u o.block own q z r →
+    IsKnown n u.formals o.letters units outcome areas own → result_of u.result ≡ names.result_of outcome → AreAreas u areas → AddsHeader n u o.letters o.block p q → ReadsOuter y u o.block own q z r →
     ReadsProcedure y n u o units p z r
 procedure_read y z n u o units outcome areas own p q r known gives are head reads = record {
   later = reads.later;
@@ -152,7 +152,7 @@ procedure_read y z n u o units outcome areas own p q r known gives are head read
       let groups = header_type_groups a u.result in
       let declared = declarations_in a [] u.declarations in
       let stated = parts_in 0 (among (behind_all (scopes.outer u) u.declarations) a) u.body in
-      let headed = head y us a vs found refl refl outer.letters read in
+      let headed = head y us a vs found refl refl outer.letters outer.block read in
       let grouped = header_read us u a vs found q headed in
       let is : IsProcedure y us u own = record {
         found = ap (slice_get us) known.unit ∙ found;

@@ -127,10 +127,10 @@ until_parts (Some u) a = part a u.1 (Until (expr_of u.0)) ∷ []
 
 -- ---- procedures ----
 
--- the header of the procedure with this number
-abbrev pub AddsHeader : ℕ → EflProcedure → Letters → Walk → Walk → Type 0
-AddsHeader n u letters p q = (y : Types) (us : List EflProcedure) (a : Around) (vs : List Part) → slice_get us n ≡ Some u → a.unit ≡ n → a.blocks ≡ outer u → AreRules y (implied_of u) letters →
-    Read us vs p → Read us (vs ++ part a u.place (Header u.result u.formals) ∷ []) q
+-- the header of the procedure with this number and this outer block
+abbrev pub AddsHeader : ℕ → EflProcedure → Letters → memory.Block → Walk → Walk → Type 0
+AddsHeader n u letters block p q = (y : Types) (us : List EflProcedure) (a : Around) (vs : List Part) → slice_get us n ≡ Some u → a.unit ≡ n → a.blocks ≡ outer u → AreRules y (implied_of u) letters →
+    Within y (outer u) block Outside → Read us vs p → Read us (vs ++ part a u.place (Header u.result u.formals) ∷ []) q
 
 -- the declarations and statements
 abbrev pub outer_parts : ℕ → EflProcedure → List Part

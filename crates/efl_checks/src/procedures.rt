@@ -48,7 +48,7 @@ fn check_procedure<'a>(
     ensures { OnOk result (ReadsProcedure types.old unit (procedure_of procedure.now) outer.entry units.now walk.old types.new walk.new) }
 {
     let letters = outer.letters;
-    note_header(alloc, unit, procedure, &letters, walk)?;
+    note_header(alloc, unit, procedure, &letters, &outer.block, walk)?;
     let areas = areas_of(alloc, &procedure.declarations)?;
     let own = procedure_at(
         unit,
@@ -61,19 +61,20 @@ fn check_procedure<'a>(
     check_outer(alloc, procedure, outer.block, &own, types, walk)
 }
 
-/// The header of the procedure with this number.
+/// The header of the procedure with this number and this outer block.
 fn note_header(
     alloc: Global,
     unit: usize,
     procedure: &EflProcedure,
     letters: &Letters,
+    block: &Block,
     walk: &mut Walk,
 ) -> Result<(), AllocError>
-    ensures { OnOk result (AddsHeader unit (procedure_of procedure.now) letters.now walk.old walk.new) }
+    ensures { OnOk result (AddsHeader unit (procedure_of procedure.now) letters.now block.now walk.old walk.new) }
 {
     let rule = header_rule(alloc, procedure, letters)?;
     walk.progress.note(procedure.place, rule);
-    count_header(alloc, unit, &procedure.formals, &mut walk.storage)
+    count_header(alloc, unit, &procedure.formals, block, &mut walk.storage)
 }
 
 /// The declarations and statements of a procedure, of which this is the outer block.

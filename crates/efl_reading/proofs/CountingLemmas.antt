@@ -1,12 +1,15 @@
 -- Parts are counted by the variables that they list and by what they use, and parts that meet none change nothing.
 use Rattle.std.proofs.Common.{◌≡◌, ℕ, Bool, true, false, not, ◌&&◌, List, [], ◌∷◌, ◌++◌, Option, Some, None, option_map, if◌then◌else◌, refl, sym, ap, subst, ◌∙◌, append_assoc}
-use Rattle.std.specs.List.{filter_map, cons_option}
+use Rattle.std.specs.List.{filter_map, cons_option, slice_get}
+use Rattle.std.specs.Option.{option_or}
 use Rattle.std.specs.Str.{bytes_eq}
 use Rattle.std.proofs.lemmas.List.{append-nil}
 use Rattle.std.proofs.lemmas.List.Elements.{filter_map-append}
+use Rattle.ground.specs.declared.value.Kind.{Kind}
 use Rattle.efl_tree.specs.Syntax.{Text, EflDeclKind, EflProcedure}
 use Rattle.efl_scope.specs.DataTypes.{NoType}
 use Rattle.efl_scope.specs.Scopes.{Variable, Meaning, IsVariable, IsStructure, meaning, variable_if, implied_of, outer}
+use Rattle.efl_scope.specs.Scopes as scopes
 use Rattle.efl_scope.specs.ScopeRules.{holds}
 use Rattle.efl_scope.specs.Parts.{Header, Declares, Around, Part, part}
 use Rattle.efl_scope.specs.Marks.{implied_at, variables_by}
@@ -14,20 +17,27 @@ use Rattle.efl_scope.specs.Uses.{uses_declared}
 use Rattle.efl_types.specs.Presets.{area_if_outer, number_in_area}
 use Rattle.efl_types.specs.Signatures.{type_by}
 use Rattle.efl_types.specs.Storage.{counted, is_first_of}
+use Rattle.efl_scoped.specs.Numbers.{Table}
 use Rattle.efl_scoped.specs.Seen.{table_of}
 use Rattle.efl_scoped.proofs.DecodeLemmas.{some_of}
+use Rattle.efl_expressions.specs.declared.types.Structure.{Structure}
+use Rattle.efl_expressions.specs.declared.names.Block.{Block}
+use Rattle.efl_expressions.specs.declared.names.Blocks.{Blocks}
+use Rattle.efl_expressions.specs.declared.names.Blocks.TheBlock.{Outside}
+use Rattle.efl_expressions.specs.NameViews.{entry_in, IsMeaningIfAny, Know}
+use Rattle.efl_variables.specs.Numbered.{scalar_kind}
 use Rattle.efl_storage.specs.declared.firsts.Firsts.{Firsts}
 use Rattle.efl_storage.specs.declared.storage.Storage.{Storage}
 use Rattle.efl_storage.specs.declared.met.Sight.{Sight}
 use Rattle.efl_storage.specs.Firsts.{AreFirsts}
-use Rattle.efl_storage.specs.Keys.{list_number}
 use Rattle.efl_storage.specs.Counted.{Counted, value_of}
-use Rattle.efl_storage.specs.Meets.{MeetsNamed, IsWithin}
+use Rattle.efl_storage.specs.Meets.{place_number, MeetsNamed, IsWithin}
 use Rattle.efl_storage.specs.Parts.{Takes, met_in, Sees, TakesUses}
 use Rattle.efl_storage.proofs.PartLemmas.{takes_none, takes_then, part_counted, nothing_counted, rules_of, listed_counted, inner_value, outer_value}
 use Rattle.efl_storage.proofs.ListedLemmas.{its_places, variable_taken, formal_taken}
 use Rattle.efl_blocks.specs.declared.types.Types.{Types}
 use Rattle.efl_blocks.specs.HomeViews.{home_in}
+use Rattle.efl_blocks.proofs.WithinLemmas.{within_known}
 use Rattle.efl_initial_values.specs.declared.areas.Areas.{Areas}
 use Rattle.efl_initial_values.specs.Owners.{shared_in, IsAt}
 use Rattle.efl_initial_values.proofs.VariableLemmas.{home_found}
@@ -45,22 +55,31 @@ none_counted us vs (w ∷ ws) s quiet known =
 
 -- ---- headers ----
 
-pub formals_begun : (n : ℕ) (formals : List Text) (s : Storage) → TakesFormals n formals [] s s
-formals_begun n formals s us u found are = takes_none us n s
+pub formals_begun : (n : ℕ) (formals : List Text) (blocks : Blocks) (s : Storage) → TakesFormals n formals blocks [] s s
+formals_begun n formals blocks s y us u found are know = takes_none us n s
 
-pub formals_passed : (n : ℕ) (formals names : List Text) (x : Text) (a b c : Storage) → holds formals x ≡ true → TakesFormals n formals names a b → MeetsNamed b n 0 x 0 c →
-    TakesFormals n formals (names ++ x ∷ []) a c
-formals_passed n formals names x a b c held first meets us u found are =
-    let seen : Text → Option Variable = λ y. variable_if (meaning (outer u) y) in
+-- the type of a variable among these blocks, where it is a scalar
+abbrev pub TellsKind : Blocks → Text → Option Kind → Type 0
+TellsKind blocks x kind = (f : Table) (ss : List Structure) (bs : scopes.Blocks) (v : Variable) → Know f ss bs blocks → variable_if (meaning bs x) ≡ Some v → scalar_kind v.kind ≡ kind
+
+pub formals_passed : (n : ℕ) (formals : List Text) (blocks : Blocks) (names : List Text) (x : Text) (kind : Option Kind) (a b c : Storage) → holds formals x ≡ true →
+    TakesFormals n formals blocks names a b → TellsKind blocks x kind → MeetsNamed b n 0 x kind 0 c → TakesFormals n formals blocks (names ++ x ∷ []) a c
+formals_passed n formals blocks names x kind a b c held first tells meets y us u found are know =
+    let seen : Text → Option Variable = λ z. variable_if (meaning (outer u) z) in
     subst (λ vs. Takes us n vs a c) (sym (filter_map-append seen names (x ∷ [])))
-    (takes_then us n (filter_map seen names) (filter_map seen (x ∷ [])) a b c (first us u found are) (formal_taken us n u x b c found (ap (λ fs. holds fs x) are ∙ held) meets))
+    (takes_then us n (filter_map seen names) (filter_map seen (x ∷ [])) a b c (first y us u found are know)
+    (formal_taken us n u x kind b c found (ap (λ fs. holds fs x) are ∙ held) (λ v is. tells (table_of y.numbers) y.structures.list.items (outer u) v know is) meets))
 
-pub header_counted : (n : ℕ) (formals names : List Text) (old new : Storage) → names ≡ formals → TakesFormals n names names old new → CountsHeader n formals old new
-header_counted n formals names old new same takes us u a p vs found are unit blocks known =
+-- by the outer block alone
+pub header_counted : (n : ℕ) (formals : List Text) (block : Block) (names : List Text) (old new : Storage) → names ≡ formals →
+    ((y : Types) (us : List EflProcedure) (u : EflProcedure) → slice_get us n ≡ Some u → u.formals ≡ names →
+    ((x : Text) → IsMeaningIfAny (table_of y.numbers) y.structures.list.items (meaning (outer u) x) (option_or (entry_in block x) None)) →
+    Takes us n (filter_map (λ x. variable_if (meaning (outer u) x)) names) old new) → CountsHeader n formals block old new
+header_counted n formals block names old new same takes y us u a p vs found are unit around within known =
     let all : u.formals ≡ names = are ∙ sym same in
     listed_counted us vs (part a p (Header u.result u.formals)) n old new unit refl
     (subst (λ fs. Takes us n (filter_map (λ x. variable_if (meaning a.blocks x)) fs) old new) (sym all)
-    (subst (λ bs. Takes us n (filter_map (λ x. variable_if (meaning bs x)) names) old new) (sym blocks) (takes us u found all)))
+    (subst (λ bs. Takes us n (filter_map (λ x. variable_if (meaning bs x)) names) old new) (sym around) (takes y us u found all (within_known y (outer u) block Outside within))))
     known
 
 -- ---- places in a procedure ----
@@ -97,15 +116,16 @@ none_listed y s firsts x old none us u a is are =
     let n = s.procedure.now.unit in
     subst (λ o. Takes us n (cons_option o []) old old) (sym (no_variable (variable_if (meaning a.blocks x)) (none ∙ is.homes.told x))) (takes_none us n old)
 
-pub one_listed : (y : Types) (s : Site) (firsts : Firsts) (x : Text) (h : List ℕ) (many home : ℕ) (old mid new : Storage) → Some h ≡ home_in s.homes.now x → ArePlaces y s firsts x h many →
-    IsPlace old h mid home → MeetsNamed mid s.procedure.now.unit home x many new → TakesListed y s firsts (x ∷ []) old new
-one_listed y s firsts x h many home old mid new found places place meets us u a is are =
+pub one_listed : (y : Types) (s : Site) (firsts : Firsts) (x : Text) (h : List ℕ) (kind : Option Kind) (many home : ℕ) (old mid new : Storage) → Some h ≡ home_in s.homes.now x → ArePlaces y s firsts x h many →
+    TellsKind s.blocks.now x kind → IsPlace old h mid home → MeetsNamed mid s.procedure.now.unit home x kind many new → TakesListed y s firsts (x ∷ []) old new
+one_listed y s firsts x h kind many home old mid new found places tells place meets us u a is are =
     let n = s.procedure.now.unit in
     let areas = s.procedure.now.areas.now in
     let m = home_found u a.blocks s.homes.now areas x h is.homes is.procedure.areas found in
     let v = m.variable in
     subst (λ o. Takes us n (cons_option (variable_if o) []) old new) (sym m.is)
-    (λ xs known. variable_taken us n v home x many mid new (subst (λ g. list_number (table_of mid.numbers) g ≡ Some home) (sym m.at.home) place.numbered) (sym m.at.name)
+    (λ xs known. variable_taken us n v home x kind many mid new (subst (λ g. place_number mid g ≡ Some home) (sym m.at.home) place.numbered) (sym m.at.name)
+    (tells (table_of y.numbers) y.structures.list.items a.blocks v is.blocks (ap variable_if m.is))
     (its_places us n u v many is.procedure.found (places us u a v is are (ap variable_if m.is) m.at)) meets xs (place.known us xs known))
 
 -- ---- how many places count ----

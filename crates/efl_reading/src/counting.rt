@@ -9,6 +9,7 @@ ghost use Rattle.efl_scoped.specs.Numbers.{Table};
 ghost use Rattle.efl_scoped.specs.Seen.{table_of};
 ghost use Rattle.efl_expressions.specs.declared.types.Structure as structures;
 ghost use Rattle.efl_expressions.specs.NameViews.{Know};
+ghost use Rattle.efl_variables.specs.Numbered.{scalar_kind as kind_seen};
 ghost use Rattle.efl_storage.specs.Named.{texts_of};
 ghost use Rattle.efl_storage.specs.Parts.{Sees};
 ghost use Rattle.efl_blocks.specs.declared.types.Types.{Types};
@@ -19,13 +20,14 @@ ghost use Rattle.efl_reading.specs.Counting.{CountsAt, CountsDeclaration, Counts
 
 use crate::Site;
 use efl_blocks::{Position, home_of};
-use efl_expressions::{Blocks, nothing, variable_type};
+use efl_expressions::{Block, Blocks, nothing, variable_type};
 use efl_initial_values::Areas;
 use efl_storage::{
-    Firsts, Sight, Storage, is_formal, listed_by_declaration, listed_by_header, take_condition,
-    take_statement, take_uses,
+    Firsts, Sight, Storage, is_formal, listed_by_declaration, listed_by_header, scalar_kind,
+    take_condition, take_statement, take_uses,
 };
 use efl_tree::{EflDeclKind, EflExpr, EflKind, EflName};
+use ground::Kind;
 use std::alloc::{AllocError, Global};
 
 /// The number of the place of a procedure's outer block.
@@ -55,17 +57,19 @@ pub fn count_condition(
     take_condition(alloc, e, &sight_of(site), storage)
 }
 
-/// The header of a procedure with this number comes.
+/// The header of a procedure with this number and this outer block comes.
 pub fn count_header(
     alloc: Global,
     unit: usize,
     formals: &[EflName],
+    block: &Block,
     storage: &mut Storage,
 ) -> Result<(), AllocError>
-    ensures { OnOk result (CountsHeader unit formals.now storage.old storage.new) }
+    ensures { OnOk result (CountsHeader unit formals.now block.now storage.old storage.new) }
 {
     let names = listed_by_header(alloc, formals)?;
-    meet_formals(unit, &names, storage)
+    let blocks = Blocks::Inside(block, &Blocks::Outside);
+    meet_formals(alloc, unit, &names, &blocks, storage)
 }
 
 /// A declaration comes, with its block and those around it known.
@@ -79,7 +83,7 @@ pub fn count_declaration(
     ensures { OnOk result ((y : Types) → CountsDeclaration y site.now firsts.now (decl_kind_of kind.now) storage.old storage.new) }
 {
     let names = listed_by_declaration(alloc, kind)?;
-    meet_listed(&names, site, firsts, storage)?;
+    meet_listed(alloc, &names, site, firsts, storage)?;
     take_uses(alloc, kind, &sight_of(site), storage)
 }
 
@@ -98,18 +102,26 @@ fn sight_of<'s, 'a>(site: &Site<'s, 'a>) -> Sight<'s, 'a>
     }
 }
 
-/// All formals of a procedure come. They have no places.
-fn meet_formals(unit: usize, names: &[&[u8]], storage: &mut Storage) -> Result<(), AllocError>
-    ensures { OnOk result (TakesFormals unit (texts_of names.now) (texts_of names.now) storage.old storage.new) }
+/// All formals of a procedure come, of which these are the blocks. They have no places.
+fn meet_formals(
+    alloc: Global,
+    unit: usize,
+    names: &[&[u8]],
+    blocks: &Blocks,
+    storage: &mut Storage,
+) -> Result<(), AllocError>
+    ensures { OnOk result (TakesFormals unit (texts_of names.now) blocks.now (texts_of names.now) storage.old storage.new) }
 {
     for name in names {
-        storage.meet_named(unit, TOP, name, 0)?;
+        let kind = declared_kind(name, blocks);
+        storage.meet_named(alloc, unit, TOP, name, kind, 0)?;
     }
     Ok(())
 }
 
 /// Names that a declaration lists come.
 fn meet_listed(
+    alloc: Global,
     names: &[&[u8]],
     site: &Site,
     firsts: &Firsts,
@@ -118,13 +130,14 @@ fn meet_listed(
     ensures { OnOk result ((y : Types) → TakesListed y site.now firsts.now (texts_of names.now) storage.old storage.new) }
 {
     for name in names {
-        meet_name(name, site, firsts, storage)?;
+        meet_name(alloc, name, site, firsts, storage)?;
     }
     Ok(())
 }
 
 /// A name that a declaration lists comes.
 fn meet_name(
+    alloc: Global,
     name: &[u8],
     site: &Site,
     firsts: &Firsts,
@@ -136,8 +149,9 @@ fn meet_name(
         None => Ok(()),
         Some(position) => {
             let places = places_at(position, name, site, firsts);
+            let kind = declared_kind(name, site.blocks);
             let home = number_place(position, storage)?;
-            storage.meet_named(site.procedure.unit, home, name, places)
+            storage.meet_named(alloc, site.procedure.unit, home, name, kind, places)
         }
     }
 }
@@ -194,4 +208,11 @@ fn declared_places(name: &[u8], blocks: &Blocks) -> u64
     ensures { (f : Table) (ss : List structures.Structure) (bs : BlocksSeen) (v : Variable) → Know f ss bs blocks.now → variable_if (meaning bs name.now) ≡ Some v → result ≡ counted v.kind }
 {
     variable_type(blocks, name, &nothing()).summary.places
+}
+
+/// The type of a variable that is declared, where it is a scalar.
+fn declared_kind(name: &[u8], blocks: &Blocks) -> Option<Kind>
+    ensures { (f : Table) (ss : List structures.Structure) (bs : BlocksSeen) (v : Variable) → Know f ss bs blocks.now → variable_if (meaning bs name.now) ≡ Some v → kind_seen v.kind ≡ result }
+{
+    scalar_kind(&variable_type(blocks, name, &nothing()))
 }

@@ -1,6 +1,6 @@
 -- The lemmas of efl_storage.
 pub mod NamedLemmas
-pub mod KeyLemmas
+pub mod KindLemmas
 pub mod CountLemmas
 pub mod LimitLemmas
 pub mod FirstLemmas

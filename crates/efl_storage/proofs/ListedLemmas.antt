@@ -8,19 +8,19 @@ use Rattle.std.proofs.Math.Bool.{or-true}
 use Rattle.std.proofs.lemmas.List.Folds.{list_any-append, list_any_at}
 use Rattle.std.proofs.lemmas.Slice.Eq.{bytes_eq-Decides}
 use Rattle.rule_table.specs.Words.{find_map}
+use Rattle.ground.specs.declared.value.Kind.{Kind}
 use Rattle.efl_tree.specs.Syntax.{Text, EflVar, EflGroups, NoGroup, AndGroup, EflDeclKind, Implicit, Initial, Variables, Area, Structure, EflDecl, EflProcedure}
 use Rattle.efl_scope.specs.DataTypes.{DataType}
 use Rattle.efl_scope.specs.Scopes.{Variable, Blocks, Implied, Meaning, IsVariable, variable_of, meaning, variable_if, data_type, behind, behind_declaration, variable, group_variables, declared_by, declared_in, naming, implied_of, undeclared, own_variables, outer}
 use Rattle.efl_scope.specs.ScopeRules.{holds}
 use Rattle.efl_scope.specs.Marks.{by_letter_of}
-use Rattle.efl_scoped.specs.Seen.{table_of}
 use Rattle.efl_scoped.proofs.DecodeLemmas.{some_of}
 use Rattle.efl_types.specs.Storage.{counted, is_first_of}
+use Rattle.efl_variables.specs.Numbered.{scalar_kind}
 use Rattle.efl_storage.specs.declared.storage.Storage.{Storage}
 use Rattle.efl_storage.specs.Named.{texts_of}
-use Rattle.efl_storage.specs.Keys.{list_number}
 use Rattle.efl_storage.specs.Counted.{value_of, AreItsPlaces}
-use Rattle.efl_storage.specs.Meets.{MeetsNamed}
+use Rattle.efl_storage.specs.Meets.{place_number, MeetsNamed}
 use Rattle.efl_storage.specs.Parts.{Takes}
 use Rattle.efl_storage.proofs.PartLemmas.{outer_value}
 
@@ -30,9 +30,9 @@ pub its_places : (us : List EflProcedure) (n : ℕ) (u : EflProcedure) (v : Vari
     AreItsPlaces us (record { unit = n; variable = v }) many
 its_places us n u v many found is w at = is ∙ ap (λ y. value_of us n y (record { unit = n; variable = v })) (some_of u w (sym found ∙ at))
 
-pub variable_taken : (us : List EflProcedure) (n : ℕ) (v : Variable) (home : ℕ) (x : Text) (many : ℕ) (old new : Storage) → list_number (table_of old.numbers) v.home ≡ Some home → v.name ≡ x →
-    AreItsPlaces us (record { unit = n; variable = v }) many → MeetsNamed old n home x many new → Takes us n (v ∷ []) old new
-variable_taken us n v home x many old new at name its meets xs known = meets us xs (record { unit = n; variable = v }) refl at name its known
+pub variable_taken : (us : List EflProcedure) (n : ℕ) (v : Variable) (home : ℕ) (x : Text) (kind : Option Kind) (many : ℕ) (old new : Storage) → place_number old v.home ≡ Some home → v.name ≡ x →
+    scalar_kind v.kind ≡ kind → AreItsPlaces us (record { unit = n; variable = v }) many → MeetsNamed old n home x kind many new → Takes us n (v ∷ []) old new
+variable_taken us n v home x kind many old new at name is its meets xs known = meets us xs (record { unit = n; variable = v }) refl at name is its known
 
 -- ---- where the variables of an outer block stand ----
 
@@ -128,13 +128,13 @@ formal_value : (us : List EflProcedure) (n : ℕ) (u : EflProcedure) (v : Variab
 formal_value us n u v home held =
     sym (outer_value us n u v (ap (λ h. bytes_eq h []) home) ∙ ap (λ b. if not b && is_first_of us n v.area then counted v.kind else 0) held)
 
-pub formal_taken : (us : List EflProcedure) (n : ℕ) (u : EflProcedure) (x : Text) (old new : Storage) → slice_get us n ≡ Some u → holds u.formals x ≡ true → MeetsNamed old n 0 x 0 new →
-    Takes us n (cons_option (variable_if (meaning (outer u) x)) []) old new
-formal_taken us n u x old new found held meets =
+pub formal_taken : (us : List EflProcedure) (n : ℕ) (u : EflProcedure) (x : Text) (kind : Option Kind) (old new : Storage) → slice_get us n ≡ Some u → holds u.formals x ≡ true →
+    ((v : Variable) → variable_if (meaning (outer u) x) ≡ Some v → scalar_kind v.kind ≡ kind) → MeetsNamed old n 0 x kind 0 new → Takes us n (cons_option (variable_if (meaning (outer u) x)) []) old new
+formal_taken us n u x kind old new found held kinds meets =
     let one = formal_found u x held in
     let v = one.variable in
     subst (λ o. Takes us n (cons_option o []) old new) (sym one.is)
-    (variable_taken us n v 0 x 0 old new (ap (list_number (table_of old.numbers)) one.home) one.name
+    (variable_taken us n v 0 x kind 0 old new (ap (place_number old) one.home) one.name (kinds v one.is)
     (its_places us n u v 0 found (formal_value us n u v one.home (ap (holds u.formals) one.name ∙ held))) meets)
 
 -- ---- names in memory ----

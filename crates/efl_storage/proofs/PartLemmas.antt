@@ -8,8 +8,9 @@ use Rattle.std.proofs.lemmas.Bool.Decides.{Decides-eqb}
 use Rattle.std.proofs.lemmas.List.{append-nil, map-append, take_more, take_all}
 use Rattle.std.proofs.lemmas.List.Concat.{flat_map-append}
 use Rattle.std.proofs.lemmas.List.Elements.{filter_map-append}
+use Rattle.ground.specs.declared.value.Kind.{Kind}
 use Rattle.efl_tree.specs.Syntax.{Text, EflProcedure}
-use Rattle.efl_scope.specs.Scopes.{Variable, Blocks, Implied, Meaning, meaning, variable_if, implied_of}
+use Rattle.efl_scope.specs.Scopes.{Variable, Blocks, Implied, Meaning, meaning, variable_if, implicit_type, implied_of}
 use Rattle.efl_scope.specs.ScopeRules.{holds}
 use Rattle.efl_scope.specs.Parts.{Part}
 use Rattle.efl_scope.specs.Marks.{undeclared_by, by_letter_of, met_by, variables_by, variables_at, located_at, implied_at}
@@ -19,6 +20,7 @@ use Rattle.efl_scoped.specs.Numbers.{Table}
 use Rattle.efl_expressions.specs.declared.types.Structure.{Structure}
 use Rattle.efl_expressions.specs.declared.names.Meaning as meanings
 use Rattle.efl_expressions.specs.NameViews.{IsMeaningIfAny}
+use Rattle.efl_variables.specs.Numbered.{scalar_kind}
 use Rattle.efl_storage.specs.declared.storage.Storage.{Storage}
 use Rattle.efl_storage.specs.declared.met.Sight.{Sight}
 use Rattle.efl_storage.specs.Named.{named_in, texts_of}
@@ -79,11 +81,12 @@ undeclared_value us n u x v is = subst (λ w. undeclared_places u x ≡ value_of
     each true on false = refl
 
 -- a name that means nothing is one of the outer block
-pub name_met : (s : Sight) (x : Text) (many : ℕ) (old new : Storage) (o : Option meanings.Meaning) → o ≡ None →
+pub name_met : (s : Sight) (x : Text) (kind : Option Kind) (many : ℕ) (old new : Storage) (o : Option meanings.Meaning) → o ≡ None →
     ((f : Table) (ss : List Structure) (us : List EflProcedure) (u : EflProcedure) (bs : Blocks) → Sees f ss us u bs s → IsMeaningIfAny f ss (meaning bs x) o) →
+    ((f : Table) (ss : List Structure) (us : List EflProcedure) (u : EflProcedure) (bs : Blocks) → Sees f ss us u bs s → scalar_kind (implicit_type (implied_of u) x) ≡ kind) →
     ((f : Table) (ss : List Structure) (us : List EflProcedure) (u : EflProcedure) (bs : Blocks) → Sees f ss us u bs s → many ≡ undeclared_places u x) →
-    MeetsNamed old s.unit 0 x many new → TakesName s x old new
-name_met s x many old new o is means places meets f ss us u bs sees xs known = each (meaning bs x) (subst (IsMeaningIfAny f ss (meaning bs x)) is (means f ss us u bs sees))
+    MeetsNamed old s.unit 0 x kind many new → TakesName s x old new
+name_met s x kind many old new o is means kinds places meets f ss us u bs sees xs known = each (meaning bs x) (subst (IsMeaningIfAny f ss (meaning bs x)) is (means f ss us u bs sees))
   where
     v : Variable
     v = by_letter_of (implied_of u) x
@@ -95,7 +98,7 @@ name_met s x many old new o is means places meets f ss us u bs sees xs known = e
         one a b e = cc
 
     each : (n : Option Meaning) → IsMeaningIfAny f ss n None → CountsAll us (xs ++ located s.unit (cons_option (undeclared_by (implied_of u) x n) [])) new
-    each None made = meets us xs (record { unit = s.unit; variable = v }) refl refl refl its known
+    each None made = meets us xs (record { unit = s.unit; variable = v }) refl refl refl (kinds f ss us u bs sees) its known
     each (Some n) made = absurd made
 
 -- ---- parts ----

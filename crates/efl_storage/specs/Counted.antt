@@ -1,31 +1,27 @@
 -- What is known behind parts of a program: which variables were met, and how many places of each procedure count.
-use Rattle.std.specs.Prelude.{◌≡◌, ℕ, ◌+◌, nat_eq, nat_lt, min, Bool, true, List, [], ◌∷◌, flat_map, Option, Some, None, is_some, option_map, unwrap_or, if◌then◌else◌}
-use Rattle.std.specs.HashSet.{contains}
-use Rattle.std.specs.List.{list_all, list_any, slice_get}
-use Rattle.rule_table.specs.Words.{is_number}
+use Rattle.std.specs.Prelude.{◌≡◌, ℕ, ◌+◌, nat_eq, nat_lt, min, List, [], ◌∷◌, flat_map, Option, Some, None, option_map, unwrap_or, if◌then◌else◌}
+use Rattle.std.specs.List.{slice_get}
 use Rattle.ground.specs.declared.fault.Fault.{Fault}
 use Rattle.efl_tree.specs.Syntax.{EflProcedure}
 use Rattle.efl_scope.specs.Parts.{Part}
 use Rattle.efl_scope.specs.Marks.{Located, distinct, located_at}
 use Rattle.efl_types.specs.Storage.{counted, counts_in, unit_places, limit_at}
 use Rattle.efl_types.specs.Whole.{begins_at}
-use Rattle.efl_scoped.specs.Numbers.{Table}
-use Rattle.efl_scoped.specs.Seen.{table_of}
+use Rattle.efl_variables.specs.declared.variables.Variables.{Variables}
+use Rattle.efl_variables.specs.Numbered.{AreVariables}
 use Rattle.efl_storage.specs.declared.storage.Storage.{Storage}
-use Rattle.efl_storage.specs.Keys.{key}
 
 -- more places than a program may have count as one more
 abbrev pub up_to_limit : ℕ → ℕ
 up_to_limit n = min n 1000001
 
--- Of these variables one behind the other: each has a number, seen are those numbers alone, and of each procedure its places are known.
-pub record Counts (us : List EflProcedure) (xs : List Located) (f : Table) (seen : ℕ → Bool) (sums : List ℕ) : Type 0 where
-  pub numbered : list_all (λ x. is_some (key f x)) xs ≡ true
-  pub met : (n : ℕ) → seen n ≡ list_any (λ x. is_number n (key f x)) xs
+-- Of these variables one behind the other: each is known once, and of each procedure its places.
+pub record Counts (us : List EflProcedure) (xs : List Located) (known : Variables) (sums : List ℕ) : Type 0 where
+  pub variables : AreVariables (distinct [] xs) known
   pub places : (n : ℕ) (u : EflProcedure) → slice_get us n ≡ Some u → slice_get sums n ≡ Some (up_to_limit (unit_places us (distinct [] xs) n u))
 
 abbrev pub CountsAll : List EflProcedure → List Located → Storage → Type 0
-CountsAll us xs s = Counts us xs (table_of s.numbers) (λ n. contains nat_eq s.seen n) s.places.items
+CountsAll us xs s = Counts us xs s.variables s.places.items
 
 -- behind these parts
 abbrev pub Counted : List EflProcedure → List Part → Storage → Type 0

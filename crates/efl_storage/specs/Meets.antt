@@ -1,25 +1,26 @@
 -- What is known behind a variable more.
-use Rattle.std.specs.Prelude.{◌≡◌, ℕ, List, [], ◌∷◌, ◌++◌, Some}
+use Rattle.std.specs.Prelude.{◌≡◌, ℕ, List, [], ◌∷◌, ◌++◌, Option, Some}
+use Rattle.ground.specs.declared.value.Kind.{Kind}
 use Rattle.efl_tree.specs.Syntax.{Text, EflProcedure}
 use Rattle.efl_scope.specs.Marks.{Located}
 use Rattle.efl_scoped.specs.Seen.{table_of}
+use Rattle.efl_variables.specs.Keys.{list_number}
+use Rattle.efl_variables.specs.Numbered.{scalar_kind}
 use Rattle.efl_storage.specs.declared.storage.Storage.{Storage}
-use Rattle.efl_storage.specs.Keys.{list_number, key}
 use Rattle.efl_storage.specs.Counted.{AreItsPlaces, CountsAll}
 
--- the variable with this number
-abbrev pub Meets : Storage → ℕ → ℕ → ℕ → Storage → Type 0
-Meets old k unit many new = (us : List EflProcedure) (xs : List Located) (x : Located) → key (table_of old.numbers) x ≡ Some k → x.unit ≡ unit → AreItsPlaces us x many →
-    CountsAll us xs old → CountsAll us (xs ++ x ∷ []) new
+-- the number of a place
+abbrev pub place_number : Storage → List ℕ → Option ℕ
+place_number s h = list_number (table_of s.variables.numbers) h
 
--- the variable of this procedure, block and name
-abbrev pub MeetsNamed : Storage → ℕ → ℕ → Text → ℕ → Storage → Type 0
-MeetsNamed old unit home name many new = (us : List EflProcedure) (xs : List Located) (x : Located) →
-    x.unit ≡ unit → list_number (table_of old.numbers) x.variable.home ≡ Some home → x.variable.name ≡ name → AreItsPlaces us x many →
+-- the variable of this procedure, block, name and type
+abbrev pub MeetsNamed : Storage → ℕ → ℕ → Text → Option Kind → ℕ → Storage → Type 0
+MeetsNamed old unit home name kind many new = (us : List EflProcedure) (xs : List Located) (x : Located) →
+    x.unit ≡ unit → place_number old x.variable.home ≡ Some home → x.variable.name ≡ name → scalar_kind x.variable.kind ≡ kind → AreItsPlaces us x many →
     CountsAll us xs old → CountsAll us (xs ++ x ∷ []) new
 
 -- a place gets its number, by that of the place around it, and what is known stays
 pub record IsWithin (old : Storage) (step outside : ℕ) (new : Storage) (n : ℕ) : Type 0 where
   pub known : (us : List EflProcedure) (xs : List Located) → CountsAll us xs old → CountsAll us xs new
-  pub kept : (h : List ℕ) (k : ℕ) → list_number (table_of old.numbers) h ≡ Some k → list_number (table_of new.numbers) h ≡ Some k
-  pub numbered : (h : List ℕ) → list_number (table_of old.numbers) h ≡ Some outside → list_number (table_of new.numbers) (step ∷ h) ≡ Some n
+  pub kept : (h : List ℕ) (k : ℕ) → place_number old h ≡ Some k → place_number new h ≡ Some k
+  pub numbered : (h : List ℕ) → place_number old h ≡ Some outside → place_number new (step ∷ h) ≡ Some n

@@ -2,7 +2,7 @@
 #![tactic(auto)]
 
 mod firsts;
-mod keys;
+mod kinds;
 mod limit;
 mod listed;
 mod met;
@@ -10,6 +10,7 @@ mod named;
 mod storage;
 
 pub use firsts::{Firsts, first_areas};
+pub use kinds::scalar_kind;
 pub use listed::{listed_by_declaration, listed_by_header};
 pub use met::{Sight, is_formal, take_condition, take_statement, take_uses};
 pub use storage::Storage;

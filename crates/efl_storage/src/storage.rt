@@ -1,28 +1,25 @@
 // The places of a program's variables, counted part by part.
-ghost use Rattle.std.specs.Prelude.{◌≡◌, List, [], length, map, Option, IfOk, OnOk};
+ghost use Rattle.std.specs.Prelude.{◌≡◌, List, [], length, map, IfOk, OnOk};
 ghost use Rattle.efl_tree.specs.Syntax.{EflProcedure as ProcedureSeen, EflProgram as ProgramSeen};
 ghost use Rattle.efl_tree.specs.Views.{procedure_of};
 ghost use Rattle.efl_scope.specs.Parts.{program_parts};
 ghost use Rattle.efl_types.specs.Storage.{storage_fault};
 ghost use Rattle.efl_storage.specs.Counted.{Counted, AddsPlaces};
-ghost use Rattle.efl_storage.specs.Meets.{Meets, MeetsNamed, IsWithin};
+ghost use Rattle.efl_storage.specs.Meets.{MeetsNamed, IsWithin};
 
-use crate::keys::key;
 use crate::limit::passed;
-use efl_scoped::Pairs;
 use efl_tree::EflProcedure;
-use ground::Fault;
+use efl_variables::Variables;
+use ground::{Fault, Kind};
 use std::alloc::{AllocError, Global};
-use std::collections::HashSet;
 
 /// How many places count of a procedure, which are one more than a program may have.
 const PASSED: u64 = 1_000_001;
 
-/// The variables that were met, by their numbers, and the places of each procedure. Contracts see by `Counted` behind which parts.
+/// The variables that were met, and the places of each procedure. Contracts see by `Counted` behind which parts.
 #[derive(Drop)]
 pub struct Storage {
-    pub numbers: Pairs,
-    pub seen: HashSet<usize>,
+    pub variables: Variables,
     pub places: Vec<u64>,
 }
 
@@ -33,8 +30,7 @@ impl Storage {
     {
         let places = vec![in alloc; 0; many]?;
         Ok(Storage {
-            numbers: Pairs::new(alloc),
-            seen: HashSet::new(alloc),
+            variables: Variables::new(alloc),
             places,
         })
     }
@@ -46,36 +42,30 @@ impl Storage {
         passed(&self.places, procedures)
     }
 
-    /// A variable of a procedure is met, of which so many places count, by the number of the place of its block.
+    /// A variable of a procedure is met, of which so many places count, by the number of the place of its block, with its type where it is a
+    /// scalar.
     pub fn meet_named(
         &mut self,
+        alloc: Global,
         unit: usize,
         home: usize,
         name: &[u8],
+        kind: Option<Kind>,
         many: u64,
     ) -> Result<(), AllocError>
-        ensures { OnOk result (MeetsNamed self.old unit home name.now many self.new) }
+        ensures { OnOk result (MeetsNamed self.old unit home name.now kind many self.new) }
     {
-        let key = key(unit, home, name, &mut self.numbers)?;
-        self.meet(key, unit, many)
+        if self.variables.meet(alloc, unit, home, name, kind)? {
+            add_places(&mut self.places, unit, many);
+        }
+        Ok(())
     }
 
     /// The number of the place with this number in its list within another place, of which the outermost has 0.
     pub fn place_within(&mut self, step: usize, outside: usize) -> Result<usize, AllocError>
         ensures { IfOk result (λ n. IsWithin self.old step outside self.new n) }
     {
-        self.numbers.number(step, outside)
-    }
-
-    /// The variable with this number is met.
-    fn meet(&mut self, key: usize, unit: usize, many: u64) -> Result<(), AllocError>
-        ensures { OnOk result (Meets self.old key unit many self.new) }
-    {
-        if !self.seen.insert(key)? {
-            return Ok(());
-        }
-        add_places(&mut self.places, unit, many);
-        Ok(())
+        self.variables.place_within(step, outside)
     }
 }
 

@@ -17,8 +17,8 @@ use efl_whole::whole;
 use ground::{Fault, FaultKind, List, Place, Refusal, Token};
 use std::alloc::Global;
 
-/// What a text with these tokens is refused for: the first fault of its grammar, of its scopes, of its types or of the whole program;
-/// what all accept is not built yet (Feldman, The Programming Language EFL, 1979).
+/// What a text with these tokens is refused for: the first fault of its grammar, of its scopes, of its types, of the limit on all
+/// variables (limit 8), or of the whole program; what all accept is not built yet (Feldman, The Programming Language EFL, 1979).
 pub fn refusal_of(alloc: Global, tokens: List<Token>) -> Refusal
     requires { EndsText tokens.items }
     ensures { Refused (IsEfl tokens.items) result }
@@ -46,7 +46,7 @@ fn refusal_of_scoped(alloc: Global, program: &EflProgram) -> Refusal
     ensures { Refused (IsTyped (program_of program.now) (typed_fault (program_of program.now))) result }
 {
     match check(alloc, program) {
-        Ok(()) => refusal_of_typed(alloc, program),
+        Ok(_) => refusal_of_typed(alloc, program),
         Err(refusal) => refusal,
     }
 }

@@ -15,6 +15,6 @@ returns c =
     let new : Walk = record { progress = c.note.new.self; storage = c.count_header.new.storage; firsts = old.firsts } in
     on_ok_weaker c.count_header.result
     (λ counts.
-    header_added n u c.args.letters.now old new c.in_ok-rule.rule c.in_ok-rule.ensures (c.note.ensures)
-    (subst (λ xs. CountsHeader n xs old.storage new.storage) c.deref.ensures.value counts) refl)
+    header_added n u c.args.letters.now c.args.block.now old new c.in_ok-rule.rule c.in_ok-rule.ensures (c.note.ensures)
+    (subst (λ xs. CountsHeader n xs c.args.block.now old.storage new.storage) c.deref.ensures.value counts) refl)
     c.count_header.ensures

@@ -8,5 +8,5 @@ use Rattle.efl_reading.proofs.counting.count_header.Goals as goal
 pub returns : goal.returns
 returns c =
     on_ok_weaker c.meet_formals.result
-    (header_counted c.args.unit c.args.formals.now (texts_of c.deref.result.now) c.args.storage.now c.meet_formals.new.storage (ap texts_of c.deref.ensures.value ∙ c.in_ok-names.ensures))
+    (header_counted c.args.unit c.args.formals.now c.args.block.now (texts_of c.deref.result.now) c.args.storage.now c.meet_formals.new.storage (ap texts_of c.deref.ensures.value ∙ c.in_ok-names.ensures))
     c.meet_formals.ensures

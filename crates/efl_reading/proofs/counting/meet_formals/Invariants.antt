@@ -5,4 +5,4 @@ use Rattle.efl_reading.specs.Counting.{TakesFormals}
 use Rattle.efl_reading.proofs.counting.meet_formals.Given as goal
 
 abbrev pub invariant-loop-name : goal.invariant-loop-name
-invariant-loop-name l = TakesFormals l.unit (texts_of l.names) (texts_of (take l.name-index l.names)) l.initial.storage l.storage
+invariant-loop-name l = TakesFormals l.unit (texts_of l.names) l.blocks (texts_of (take l.name-index l.names)) l.initial.storage l.storage

@@ -15,6 +15,6 @@ pub returns-in-None : goal.returns-in-None
 returns-in-None c =
     let x = c.args.name.now in
     on_ok_weaker c.meet_named.result
-    (name_met c.args.sight.now x c.places.result c.args.storage.now c.meet_named.new.self c.look_up.result c.in-None.is
-    (λ f ss us u bs sees. subst (IsMeaningIfAny f ss (meaning bs x)) (sym c.look_up.ensures) (sees.blocks_known x)) c.places.ensures)
+    (name_met c.args.sight.now x c.implicit_kind-kind.result c.places-places.result c.args.storage.now c.meet_named.new.self c.look_up.result c.in-None.is
+    (λ f ss us u bs sees. subst (IsMeaningIfAny f ss (meaning bs x)) (sym c.look_up.ensures) (sees.blocks_known x)) c.implicit_kind-kind.ensures c.places-places.ensures)
     c.meet_named.ensures

@@ -1,21 +1,21 @@
--- The variable has its number, and is met by it.
-use Rattle.std.proofs.Common.{nat_eq, ap, ◌∙◌}
-use Rattle.std.proofs.lemmas.Result.{on_ok_weaker}
-use Rattle.std.specs.HashSet.{contains}
-use Rattle.efl_scoped.specs.Seen.{table_of}
-use Rattle.efl_storage.specs.Keys.{key_of}
-use Rattle.efl_storage.proofs.CountLemmas.{counts_grow}
+-- The variable was met before, or is a new one.
+use Rattle.std.proofs.Common.{[], sym, subst, ◌∙◌}
+use Rattle.std.specs.List.{list_any}
+use Rattle.efl_scope.specs.Marks.{same_located, distinct}
+use Rattle.efl_storage.specs.Counted.{AddsPlaces}
+use Rattle.efl_storage.proofs.CountLemmas.{counts_again, counts_more, known_before, met_first}
 use Rattle.efl_storage.proofs.storage.Storage.meet_named.Goals as goal
 
-pub returns : goal.returns
-returns c =
+pub returns-then-branch : goal.returns-then-branch
+returns-then-branch c = λ us xs x unit home name kind its known.
     let old = c.args.self.now in
-    let f = table_of old.numbers in
-    let g = table_of c.key.new.numbers in
-    on_ok_weaker c.meet.result
-    (λ meets us xs x unit home name its known.
-    meets us xs x
-    (ap (λ u. key_of g u x.variable.home x.variable.name) unit ∙ ap (λ n. key_of g c.args.unit x.variable.home n) name ∙ c.in_ok-key.ensures.numbered x.variable.home home)
-    unit its
-    (counts_grow us xs f g (λ n. contains nat_eq old.seen n) old.places.items c.in_ok-key.ensures.grows known))
-    c.meet.ensures
+    let met = c.in_ok-meet.ensures (distinct [] xs) x unit home name kind known.variables in
+    counts_more us xs old.variables c.meet.new.self old.places.items x met.0 known c.args.many c.add_places.new.places.items
+    (met_first (list_any (same_located x) (distinct [] xs)) (sym c.if-branch.true ∙ met.1)) its
+    (subst (λ u. AddsPlaces old.places.items u c.args.many c.add_places.new.places.items) (sym unit) c.add_places.ensures)
+
+pub returns-else-branch : goal.returns-else-branch
+returns-else-branch c = λ us xs x unit home name kind its known.
+    let old = c.args.self.now in
+    let met = c.in_ok-meet.ensures (distinct [] xs) x unit home name kind known.variables in
+    counts_again us xs old.variables c.meet.new.self old.places.items x met.0 known (known_before (list_any (same_located x) (distinct [] xs)) (sym c.if-branch.false ∙ met.1))

@@ -1,9 +1,6 @@
--- The place has the number of a pair.
-use Rattle.std.proofs.Common.{refl}
+-- The place has its number among the variables.
 use Rattle.efl_storage.proofs.PlaceLemmas.{place_made}
 use Rattle.efl_storage.proofs.storage.Storage.place_within.Goals as goal
 
 pub returns : goal.returns
-returns c =
-    let old = c.args.self.now in
-    place_made old (record old { numbers = c.number.new.self }) c.args.step c.args.outside refl refl c.number.result c.number.ensures.numbered c.number.ensures.kept
+returns c = place_made c.args.self.now c.place_within.new.self c.args.step c.args.outside c.place_within.result c.place_within.ensures.known c.place_within.ensures.numbered c.place_within.ensures.kept

@@ -21,7 +21,7 @@ abbrev pub key : Table → Located → Option ℕ
 key f x = key_of f x.unit x.variable.home x.variable.name
 
 -- a list gets a number
-pub record IsListed (f : Table) (ws : List ℕ) (g : Table) (n : ℕ) : Type 0 where
+pub record IsTextNumber (f : Table) (ws : List ℕ) (g : Table) (n : ℕ) : Type 0 where
   pub grows : Grows f g
   pub numbered : list_number g ws ≡ Some n
 

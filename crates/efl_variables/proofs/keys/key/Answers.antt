@@ -1,7 +1,7 @@
 -- The variable has the number of the last pair.
 use Rattle.efl_scoped.specs.Seen.{table_of}
-use Rattle.efl_storage.proofs.KeyLemmas.{key_made}
-use Rattle.efl_storage.proofs.keys.key.Goals as goal
+use Rattle.efl_variables.proofs.KeyLemmas.{key_made}
+use Rattle.efl_variables.proofs.keys.key.Goals as goal
 
 pub returns : goal.returns
 returns c =

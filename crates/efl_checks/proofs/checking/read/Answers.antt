@@ -1,11 +1,11 @@
 -- What is known behind all parts.
-use Rattle.std.proofs.Common.{[], map, sym, ap, subst}
-use Rattle.efl_tree.specs.Views.{procedure_of, program_of}
+use Rattle.std.proofs.Common.{[], map, subst}
+use Rattle.efl_tree.specs.Views.{procedure_of}
 use Rattle.efl_types.specs.Signatures.{signatures}
 use Rattle.efl_blocks.specs.ProcedureViews.{AreAllUnits, AreOuters}
 use Rattle.efl_reading.specs.Walked.{Read}
 use Rattle.efl_checks.specs.Walks.{ReadsAll}
-use Rattle.efl_checks.proofs.checking.program_fault.Goals as goal
+use Rattle.efl_checks.proofs.checking.read.Goals as goal
 
 pub returns : goal.returns
 returns c = λ fit.
@@ -18,6 +18,5 @@ returns c = λ fit.
     let begun : Read us [] w = subst (λ xs. Read (map procedure_of xs) [] w) c.deref-2.ensures.value c.in_ok-walk.ensures in
     let reads : ReadsAll y us opened.outers.items opened.units w c.check_procedures.new.types q =
     subst (λ xs. ReadsAll y (map procedure_of xs) opened.outers.items opened.units w c.check_procedures.new.types q) c.deref-3.ensures.value c.in_ok-check_procedures.ensures in
-    c.walked_fault.ensures (program_of c.args.program.now) (ap (map procedure_of) (sym c.deref-4.ensures.value))
-    (reads.adds fit (subst (λ xs. AreOuters y (map procedure_of xs) opened.outers.items) c.deref.ensures.value c.in_ok-opened.ensures.outers)
-    (subst (λ xs. AreAllUnits y (signatures (map procedure_of xs)) opened.units) c.deref.ensures.value c.in_ok-opened.ensures.units) begun)
+    reads.adds fit (subst (λ xs. AreOuters y (map procedure_of xs) opened.outers.items) c.deref.ensures.value c.in_ok-opened.ensures.outers)
+    (subst (λ xs. AreAllUnits y (signatures (map procedure_of xs)) opened.units) c.deref.ensures.value c.in_ok-opened.ensures.units) begun

@@ -10,7 +10,7 @@ use Rattle.efl_scope.specs.Marks.{Located, same_located}
 use Rattle.efl_scoped.specs.Numbers.{Table, Grows, AreDistinct, AreAbove}
 use Rattle.efl_scoped.proofs.DecodeLemmas.{some_of}
 use Rattle.efl_scoped.proofs.MemberLemmas.{both_left, both_right}
-use Rattle.efl_storage.specs.Keys.{pair, list_number, key_of, key, IsListed, IsKey}
+use Rattle.efl_variables.specs.Keys.{pair, list_number, key_of, key, IsTextNumber, IsKey}
 
 -- the two numbers of a pair that has one
 paired : (f : Table) (o p : Option ℕ) (n : ℕ) → pair f o p ≡ Some n → (a : ℕ) × ((b : ℕ) × (o ≡ Some a) × (p ≡ Some b) × (f a b ≡ Some n))
@@ -112,10 +112,14 @@ module _ (f : Table) (distinct : AreDistinct f) (above : AreAbove f) where
       (both (bytes_eq x.variable.home y.variable.home) (bytes_eq x.variable.name y.variable.name) ((bytes_eq-Decides x.variable.home y.variable.home).1 home)
       ((bytes_eq-Decides x.variable.name y.variable.name).1 name))
 
+-- by the procedure and the name that a variable has
+pub key_named : (f : Table) (x : Located) (u : ℕ) (name : Text) → x.unit ≡ u → x.variable.name ≡ name → key f x ≡ key_of f u x.variable.home name
+key_named f x u name unit is = ap (λ n. key_of f n x.variable.home x.variable.name) unit ∙ ap (key_of f u x.variable.home) is
+
 -- ---- numbers that are given ----
 
-pub listed_more : (f g h : Table) (ws : List ℕ) (w k n : ℕ) → IsListed f ws g k → Grows g h → h w k ≡ Some n → IsListed f (w ∷ ws) h n
-listed_more f g h ws w k n before grows made = record {
+pub text_more : (f g h : Table) (ws : List ℕ) (w k n : ℕ) → IsTextNumber f ws g k → Grows g h → h w k ≡ Some n → IsTextNumber f (w ∷ ws) h n
+text_more f g h ws w k n before grows made = record {
   grows = λ a b m is. grows a b m (before.grows a b m is);
   numbered = ap (pair h (Some w)) (list_grows g h grows ws k before.numbered) ∙ made;
 }
@@ -123,7 +127,7 @@ listed_more f g h ws w k n before grows made = record {
 pub turned_more : (xs : List ℕ) (i d : ℕ) → i < length xs → reverse (take (i + 1) xs) ≡ get_or xs i d ∷ reverse (take i xs)
 turned_more xs i d lt = ap reverse (take_more xs i d lt) ∙ reverse-append (take i xs) (get_or xs i d ∷ [])
 
-pub key_made : {E : Type 0} (f g1 g2 g3 : Table) (u home : ℕ) (x : Text) (b m : ℕ) → Grows f g1 → g1 u home ≡ Some b → IsListed g1 (reverse x) g2 m → (r : Result ℕ E) →
+pub key_made : {E : Type 0} (f g1 g2 g3 : Table) (u home : ℕ) (x : Text) (b m : ℕ) → Grows f g1 → g1 u home ≡ Some b → IsTextNumber g1 (reverse x) g2 m → (r : Result ℕ E) →
     IfOk r (λ n. g3 b m ≡ Some n) → OnOk r (Grows g2 g3) → IfOk r (λ n. IsKey f u home x g3 n)
 key_made f g1 g2 g3 u home x b m grows first word (Err e) numbered kept = tt
 key_made f g1 g2 g3 u home x b m grows first word (Ok n) numbered kept = record {
@@ -132,3 +136,6 @@ key_made f g1 g2 g3 u home x b m grows first word (Ok n) numbered kept = record 
       ap (λ o. pair g3 (pair g3 (Some u) o) (list_number g3 (reverse x))) (list_grows f g3 (λ p q k e. kept p q k (word.grows p q k (grows p q k e))) h home is)
       ∙ ap (λ o. pair g3 o (list_number g3 (reverse x))) (kept u home b (word.grows u home b first)) ∙ ap (pair g3 (Some b)) (list_grows g2 g3 kept (reverse x) m word.numbered) ∙ numbered;
 }
+
+pub key_is : (f g : Table) (x : Located) (u home k : ℕ) (name : Text) → x.unit ≡ u → list_number f x.variable.home ≡ Some home → x.variable.name ≡ name → IsKey f u home name g k → key g x ≡ Some k
+key_is f g x u home k name unit at is given = key_named g x u name unit is ∙ given.numbered x.variable.home at
