@@ -1,9 +1,9 @@
 -- The names of a unit are apart, and those in its type statements have the types that these say.
 use Rattle.std.proofs.Common.{◌≡◌, ℕ, ◌+◌, Bool, true, false, true≢false, ◌++◌, map, Option, None, Some, refl, sym, ap, ◌∙◌, arith, if◌then◌else◌, ◌||◌, ◌&&◌}
-use Rattle.std.specs.Prelude.{nat_eq, nat_lt, is_some}
+use Rattle.std.specs.Prelude.{nat_eq, nat_le, is_some}
 use Rattle.std.specs.List.{list_any, slice_get}
 use Rattle.std.specs.Str.{bytes_eq}
-use Rattle.std.proofs.lemmas.Bool.{and_parts, and_from, ltb-true, lt-ltb, le-leb}
+use Rattle.std.proofs.lemmas.Bool.{and_parts, and_from, leb-true, le-leb}
 use Rattle.std.proofs.lemmas.List.Folds.{list_any-append}
 use Rattle.rule_table.specs.Words.{is_some_and}
 use Rattle.ground.specs.declared.value.Kind.{Kind}
@@ -101,7 +101,7 @@ module _ (p : EflProgram) (names : Naming) where
   -- a name is in the type statements of this type
   abbrev pub is_typed : ℕ → Kind → Name → Bool
   is_typed n k (OfVariable v) = has_scalar p n v k
-  is_typed n k (OfTemporary j i) = is_kind j k && nat_lt i (names.room n)
+  is_typed n k (OfTemporary j i) = is_kind j k && nat_le i (names.room n)
   is_typed n k (OfProcedure m) = gives_kind p m k && calls p n m
   is_typed n k (OfIntrinsic g) = false
 
@@ -128,7 +128,7 @@ module _ (p : EflProgram) (names : Naming) where
       in_parts n k (names.home v) ∙ or_left _ _ (or_left _ _ (ap (λ m. list_any (bytes_eq (names.home m)) (map names.home (variables_in (program_variables p) n k))) (sym e) ∙ is))
   typed_in n k (OfTemporary j i) h =
       let g = and_parts _ _ h in
-      in_parts n k (names.temp j i) ∙ or_left _ _ (or_right _ _ (ap (λ d. list_any (bytes_eq (names.temp d i)) (temps_of names n k)) (kinds j k g.0) ∙ among_range (names.temp k) 0 (names.room n) i (omega arith) (let lt = ltb-true i (names.room n) g.1 in omega (lt, arith))))
+      in_parts n k (names.temp j i) ∙ or_left _ _ (or_right _ _ (ap (λ d. list_any (bytes_eq (names.temp d i)) (temps_of names n k)) (kinds j k g.0) ∙ among_range (names.temp k) 0 (names.room n + 1) i (omega arith) (let le = leb-true i (names.room n) g.1 in omega (le, arith))))
     where
       kinds : (d f : Kind) → is_kind d f ≡ true → d ≡ f
       kinds Integer Integer e = refl
@@ -157,7 +157,7 @@ module _ (p : EflProgram) (names : Naming) where
         in_parts n k q
         ∙ neither _ _
         (neither _ _ (not_among names.home (λ x. stands_in n k x.1) q 0 (program_variables p) (λ i x e t. not_it (OfVariable (0 + i)) (variable_named n (0 + i) k (scalar i x e t)) (scalar i x e t)))
-        (not_among_range (names.temp k) q 0 (names.room n) (λ i lt. not_it (OfTemporary k i) (le-leb i (names.room n) (omega (lt, arith))) (and_from _ _ (same_kind k) (lt-ltb i (names.room n) (omega (lt, arith)))))))
+        (not_among_range (names.temp k) q 0 (names.room n + 1) (λ i lt. let le = le-leb i (names.room n) (omega (lt, arith)) in not_it (OfTemporary k i) le (and_from _ _ (same_kind k) le))))
         (not_among names.callee (λ x. gives k x.1 && calls p n x.0) q 0 p.procedures (λ i u e t. let g = and_parts (gives k u) (calls p n (0 + i)) t in not_it (OfProcedure (0 + i)) (or_right (is_named p n && nat_eq (0 + i) n) (calls p n (0 + i)) g.1) (and_from (gives_kind p (0 + i) k) (calls p n (0 + i)) (value i u e g.0) g.1)))
       where
         q : Text

@@ -1,5 +1,5 @@
 -- A small program for which all that is asked can be had: the main writes what a function makes of a number.
-use Rattle.std.proofs.Common.{◌≡◌, ℕ, zero, suc, Bool, true, false, true≢false, List, [], ◌∷◌, None, Some, refl, sym, ap, ◌∙◌, subst, arith, if◌then◌else◌, ◌||◌}
+use Rattle.std.proofs.Common.{◌≡◌, ℕ, zero, suc, Bool, true, false, true≢false, List, [], ◌∷◌, None, Some, refl, sym, ap, ◌∙◌, arith, if◌then◌else◌, ◌||◌}
 use Rattle.std.specs.Prelude.{pos, codes, nat_eq}
 use Rattle.std.specs.List.{list_all, slice_get}
 use Rattle.std.proofs.lemmas.Bool.{and_parts}
@@ -22,6 +22,8 @@ use Rattle.efl_tree.specs.Syntax as efl
 use Rattle.efl_tree.specs.Syntax.{Text, EflPreset, EflProcedure, EflProgram}
 use Rattle.call_cycles.specs.Cycles.{Fall}
 use Rattle.efl_scope.specs.Parts.{Part, program_parts}
+use Rattle.efl_scope.specs.ScopeRules.{area_declared}
+use Rattle.efl_scope.specs.Uses.{Use, Laid, uses_in}
 use Rattle.efl_scope.specs.Marks.{program_variables}
 use Rattle.efl_scope.proofs.ExampleTexts.{num, exprs, at, declare, stmt, set, procedure, main, program}
 use Rattle.efl_types.specs.TypeRules.{presets_of}
@@ -37,6 +39,7 @@ use Rattle.efl_lowered.specs.Lowering.{is_scalar, routes_of, units_of}
 use Rattle.efl_lowered.specs.Facts.{is_unit, is_function, formals, uses_function, uses_procedure, has_scalar, has_variable, IsOverScalars, AreReady}
 use Rattle.efl_lowered.specs.Names.{Name, OfVariable, OfTemporary, OfProcedure, OfIntrinsic, text_of, AreNames}
 use Rattle.efl_lowered.specs.Laws.{AreCodes}
+use Rattle.efl_lowered.proofs.TypedChecks.{at_each}
 use Rattle.efl_lowered.proofs.Labels.{scalar_units_agree}
 
 -- integer k / k = f(2) / write( , k:i(3)), where f has an integer n and gives n + 1
@@ -90,11 +93,6 @@ second_of x = 0
 
 -- ---- lists ----
 
-each_at : {X : Type 0} (P : X → Type 0) (xs : List X) → Each P xs → (i : ℕ) (x : X) → slice_get xs i ≡ Some x → P x
-each_at P [] h i x e = absurd (none-some x e)
-each_at P (y ∷ xs) h zero x e = subst P (same_Some y x e) h.0
-each_at P (y ∷ xs) h (suc i) x e = each_at P xs h.1 i x e
-
 abbrev is_empty : List EflPreset → Bool
 is_empty [] = true
 is_empty (x ∷ xs) = false
@@ -107,6 +105,14 @@ no_presets : (vs : List Part) → list_all (λ v. is_empty (presets_of v.form)) 
 no_presets [] h = tt
 no_presets (v ∷ vs) h = let g = and_parts (is_empty (presets_of v.form)) (list_all (λ w. is_empty (presets_of w.form)) vs) h in (empty_is (presets_of v.form) g.0, no_presets vs g.1)
 
+abbrev is_bare : Use → Bool
+is_bare (Laid x) = false
+is_bare _ = true
+
+bare : (ws : List Use) → list_all is_bare ws ≡ true → Each (λ w. (x : Text) → w ≡ Laid x → ⊥) ws
+bare [] h = tt
+bare (w ∷ ws) h = let g = and_parts (is_bare w) (list_all is_bare ws) h in ((λ x e. true≢false (sym g.0 ∙ ap is_bare e)), bare ws g.1)
+
 -- ---- what is asked ----
 
 accepted : IsAccepted text (1 ∷ 0 ∷ [])
@@ -118,9 +124,11 @@ accepted = record { scopes = refl; falls = falling; low = omega arith }
 
 over : IsOverScalars text
 over = record {
-  scalar = each_at (λ x. (is_scalar Integer x.variable.kind || is_scalar Logical x.variable.kind) ≡ true) (program_variables text) (refl, (refl, tt));
-  no_area = each_at (λ x. x.variable.area ≡ None) (program_variables text) (refl, (refl, tt));
-  no_initial = each_at (λ v. presets_of v.form ≡ []) (program_parts text) (no_presets (program_parts text) refl);
+  scalar = at_each (λ x. (is_scalar Integer x.variable.kind || is_scalar Logical x.variable.kind) ≡ true) (program_variables text) (refl, (refl, tt));
+  no_area = at_each (λ x. x.variable.area ≡ None) (program_variables text) (refl, (refl, tt));
+  no_initial = at_each (λ v. presets_of v.form ≡ []) (program_parts text) (no_presets (program_parts text) refl);
+  no_common = at_each (λ v. area_declared v.form ≡ None) (program_parts text) (refl, (refl, (refl, (refl, (refl, (refl, (refl, tt)))))));
+  no_overlay = λ i j v x e g. at_each (λ w. (x : Text) → w ≡ Laid x → ⊥) (uses_in v.form) (bare (uses_in v.form) (at_each (λ v. list_all is_bare (uses_in v.form) ≡ true) (program_parts text) (refl, (refl, (refl, (refl, (refl, (refl, (refl, tt))))))) i v e)) j (Laid x) g x refl;
 }
 
 numbered : (m : ℕ) → is_unit text m ≡ true → IsNumbered (names.made m) (routes_of names text m)
@@ -143,7 +151,7 @@ one_main (suc (suc m)) u e none = absurd (none-some u e)
 
 formal : (m i v : ℕ) → slice_get (formals text m) i ≡ Some v → has_variable text m v ≡ true
 formal zero i v e = absurd (none-some v e)
-formal (suc zero) i v e = each_at (λ w. has_variable text 1 w ≡ true) (formals text 1) (refl, tt) i v e
+formal (suc zero) i v e = at_each (λ w. has_variable text 1 w ≡ true) (formals text 1) (refl, tt) i v e
 formal (suc (suc m)) i v e = absurd (none-some v e)
 
 ready : AreReady text names

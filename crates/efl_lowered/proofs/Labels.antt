@@ -38,7 +38,7 @@ use Rattle.efl_lowered.proofs.Agrees.{units_agree}
 
 module _ (home : ℕ → Text) (temp : Kind → ℕ → Text) (callee : ℕ → Text) (own : Text) (f g : Text → ℕ) where
   -- both have the same numbers for these labels
-  abbrev Alike : List Text → Type 0
+  abbrev pub Alike : List Text → Type 0
   Alike ls = Each (λ l. f l ≡ g l) ls
 
   abbrev one : Stmt → List Around → ℕ → Route
@@ -89,7 +89,7 @@ module _ (home : ℕ → Text) (temp : Kind → ℕ → Text) (callee : ℕ → 
     same_route (Read p u items) rs n h = refl
     same_route (efl.Labelled l p s) rs n h = ap (λ m. Labelled m p (one s rs n)) h.0 ∙ ap (λ r. Labelled (g l) p r) (same_route s rs n h.1)
 
-    same_all : (ss : Stmts) (rs : List Around) (n : ℕ) → Alike (all_labels ss) → all_route home temp callee f own ss rs n ≡ all_route home temp callee g own ss rs n
+    pub same_all : (ss : Stmts) (rs : List Around) (n : ℕ) → Alike (all_labels ss) → all_route home temp callee f own ss rs n ≡ all_route home temp callee g own ss rs n
     same_all NoStmt rs n h = refl
     same_all (AndStmt s ss) rs n h =
         ap (λ r. AndRoute r (all_route home temp callee f own ss rs n)) (same_route s rs n (each_left (λ l. f l ≡ g l) (labels_of s) (all_labels ss) h))
@@ -129,7 +129,7 @@ is_below f q (l ∷ ls) h = by_first (bytes_eq q l) refl (is_below f q ls)
 abbrev extended : (Text → ℕ) → List Text → Text → ℕ
 extended f ls q = if (list_any (bytes_eq q) ls) then (f q) else (above f ls + list_number q)
 
-each_in : (P : Text → Type 0) (ls : List Text) → ((q : Text) → list_any (bytes_eq q) ls ≡ true → P q) → Each P ls
+pub each_in : (P : Text → Type 0) (ls : List Text) → ((q : Text) → list_any (bytes_eq q) ls ≡ true → P q) → Each P ls
 each_in P [] h = tt
 each_in P (l ∷ ls) h = (h l (or_left (bytes_eq l l) (list_any (bytes_eq l) ls) (same_text l)), each_in P ls (λ q e. h q (or_right (bytes_eq q l) (list_any (bytes_eq q) ls) e)))
 

@@ -1,10 +1,10 @@
 -- A program over scalars with its units is a lowered one.
 use Rattle.std.proofs.Common.{◌≡◌, ℕ, ◌<◌, Bool, true, false, true≢false, List, [], ◌∷◌, length, Option, None, Some, refl, sym, ap, ◌∙◌, subst, arith, if◌then◌else◌, ◌&&◌, not}
-use Rattle.std.specs.Prelude.{nat_eq, nat_lt, is_none, is_some}
+use Rattle.std.specs.Prelude.{nat_eq, nat_le, is_none, is_some}
 use Rattle.std.specs.List.{slice_get}
 use Rattle.std.specs.Str.{bytes_eq}
 use Rattle.std.specs.Bool.{Decides}
-use Rattle.std.proofs.lemmas.Bool.{and_parts, and_from, eqb-true, eq-eqb}
+use Rattle.std.proofs.lemmas.Bool.{and_parts, and_from, eqb-true, eq-eqb, le-leb}
 use Rattle.std.proofs.lemmas.Bool.Decides.{same_from_decides, Decides-eqb, Decides-like}
 use Rattle.std.proofs.lemmas.Slice.Eq.{bytes_eq-Decides}
 use Rattle.std.proofs.lemmas.Option.{same_Some}
@@ -228,7 +228,7 @@ module _ (p : EflProgram) (ranks : List ℕ) (accepted : IsAccepted p ranks) (ov
       same_from_decides (nat_eq (names.label n m) (names.label n q)) (bytes_eq m q) units (bytes_eq-Decides m q)
 
   temporary_typed : (n : ℕ) (k : Kind) (i : ℕ) → i < names.room n → is_typed p names n k (OfTemporary k i) ≡ true
-  temporary_typed n k i lt = and_from (is_kind k k) (nat_lt i (names.room n)) (same_kind k) (seated_temporary p names n k i lt)
+  temporary_typed n k i lt = and_from (is_kind k k) (nat_le i (names.room n)) (same_kind k) (le-leb i (names.room n) (omega (lt, arith)))
 
   variable_has : (n v : ℕ) (k : Kind) → has_scalar p n v k ≡ true → has_variable p n v ≡ true
   variable_has n v Integer h = or_left (has_scalar p n v Integer) (has_scalar p n v Logical) h

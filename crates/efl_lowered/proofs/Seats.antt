@@ -1,7 +1,7 @@
 -- The names that have a place of a unit's own: its variables that are no formals, its temporaries, and a function's own name. Each has a
 -- storage unit that no other has.
 use Rattle.std.proofs.Common.{◌≡◌, ℕ, zero, suc, ◌≤◌, ℤ, pos, ◌-ℤ◌, Bool, true, false, true≢false, List, [], ◌∷◌, map, Option, None, Some, refl, sym, ap, ◌∙◌, subst, arith, if◌then◌else◌, ◌||◌, ◌&&◌, not}
-use Rattle.std.specs.Prelude.{nat_eq, nat_lt, is_none, is_some, unwrap_or}
+use Rattle.std.specs.Prelude.{nat_eq, nat_le, nat_lt, is_none, is_some, unwrap_or}
 use Rattle.std.specs.List.{list_any, slice_get}
 use Rattle.std.specs.Option.{option_map}
 use Rattle.std.specs.Str.{bytes_eq}
@@ -150,7 +150,7 @@ module _ (p : EflProgram) (names : Naming) where
 
     seated_places : (n : ℕ) (u : EflProcedure) → slice_get p.procedures n ≡ Some u → (a : Name) → is_seated n a ≡ true → has_places (unit_of names p n u) (text_of names a) ≡ true
     seated_places n u e (OfVariable v) h = let w = either_kind n v (seated_variable n v h).0 in declared_places n u e (OfVariable v) h w.0 w.1 (variable_no_procedure v) (variable_no_intrinsic v)
-    seated_places n u e (OfTemporary k i) h = declared_places n u e (OfTemporary k i) h k (and_from (is_kind k k) (nat_lt i (names.room n)) (same_kind k) h) (temporary_no_procedure k i) (temporary_no_intrinsic k i)
+    seated_places n u e (OfTemporary k i) h = declared_places n u e (OfTemporary k i) h k (and_from (is_kind k k) (nat_le i (names.room n)) (same_kind k) (seated_named n (OfTemporary k i) h)) (temporary_no_procedure k i) (temporary_no_intrinsic k i)
     seated_places n u e (OfProcedure m) h =
         let g = seated_procedure n m h in
         let named : is_some u.name ≡ true = sym (ap (λ o. is_some_and (λ w. is_some w.name) o) e) ∙ g.1 in

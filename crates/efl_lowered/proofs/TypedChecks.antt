@@ -1,11 +1,9 @@
 -- What a program without a fault of its scopes and types gives of each part.
-use Rattle.std.proofs.Common.{◌≡◌, ℕ, zero, suc, Bool, true, false, true≢false, List, [], ◌∷◌, ◌++◌, cond, Option, None, Some, refl, sym, ap, ◌∙◌, subst}
+use Rattle.std.proofs.Common.{◌≡◌, ℕ, zero, suc, Bool, true, false, true≢false, List, [], ◌∷◌, ◌++◌, None, Some, refl, sym, ap, ◌∙◌, subst}
 use Rattle.std.specs.Prelude.{◌||◌, nat_eq, find, flat_map, option_map}
-use Rattle.std.specs.Option.{option_or}
 use Rattle.std.specs.List.{list_any, slice_get}
 use Rattle.std.proofs.lemmas.Bool.{eq-eqb}
 use Rattle.std.proofs.lemmas.Option.{none-some, same_Some}
-use Rattle.rule_table.specs.Words.{find_map}
 use Rattle.rule_table.specs.First.{first_part}
 use Rattle.efl_tree.specs.Syntax.{EflProgram}
 use Rattle.efl_scope.specs.Parts.{Part, program_parts}
@@ -20,6 +18,7 @@ use Rattle.efl_types.specs.TypeRules as type_faults
 use Rattle.efl_types.specs.TypeRules.{rule_number, type_rules, part_faults, part_fills, passes_limit, tells, broken_rules}
 use Rattle.efl_types.specs.Presets.{meets_earlier}
 use Rattle.efl_typed.proofs.Each.{Each}
+use Rattle.efl_typed.proofs.Accepted.{none_mapped, none_found, none_chosen}
 use Rattle.efl_typed.proofs.FoundLemmas.{neither}
 use Rattle.efl_lowered.proofs.TypedRules.{none_left}
 
@@ -47,22 +46,6 @@ each_on P (x ∷ xs) ys h k = (h.0, each_on P xs ys h.1 k)
 
 -- ---- rules that no part breaks ----
 
-none_of_two : {V : Type 0} (a b : Option V) → option_or a b ≡ None → (a ≡ None) × (b ≡ None)
-none_of_two None b h = (refl, h)
-none_of_two (Some v) b h = absurd (none-some v (sym h))
-
-none_mapped : {X V : Type 0} (f : X → V) (o : Option X) → option_map f o ≡ None → o ≡ None
-none_mapped f None h = refl
-none_mapped f (Some x) h = absurd (none-some (f x) (sym h))
-
-none_found : {X V : Type 0} (f : X → Option V) (xs : List X) → find_map f xs ≡ None → Each (λ x. f x ≡ None) xs
-none_found f [] h = tt
-none_found f (x ∷ xs) h = let s = none_of_two (f x) (find_map f xs) h in (s.0, none_found f xs s.1)
-
-none_chosen : {X : Type 0} (b : Bool) (x : X) (o : Option X) → cond b (Some x) o ≡ None → (b ≡ false) × (o ≡ None)
-none_chosen false x o h = (refl, h)
-none_chosen true x o h = absurd (none-some x (sym h))
-
 each_fails : {X : Type 0} (test : X → Bool) (xs : List X) → find test xs ≡ None → Each (λ x. test x ≡ false) xs
 each_fails test [] h = tt
 each_fails test (x ∷ xs) h = let s = none_chosen (test x) x (find test xs) h in (s.0, each_fails test xs s.1)
@@ -74,7 +57,7 @@ module _ {K : Type 0} (breaks : List Part × Part → K → Bool) (rules : List 
   abbrev telling : List Part × Part → K → (List Part × Part) × K
   telling t k = (t, k)
 
-  clean : (ts : List (List Part × Part)) → first_part breaks rules ts ≡ None → Each Breaks ts
+  pub clean : (ts : List (List Part × Part)) → first_part breaks rules ts ≡ None → Each Breaks ts
   clean ts h =
       each_fact (λ t. option_map (telling t) (find (breaks t) rules) ≡ None) Breaks ts (λ t e. each_fails (breaks t) rules (none_mapped (telling t) (find (breaks t) rules) e))
       (none_found (λ t. option_map (telling t) (find (breaks t) rules)) ts h)

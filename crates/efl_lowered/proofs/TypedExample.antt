@@ -1,8 +1,8 @@
--- The example is of the shape that the grammar gives and has room, and what is not of that shape is accepted by the checks but not ready.
-use Rattle.std.proofs.Common.{◌≡◌, ℕ, zero, suc, Bool, true, false, true≢false, List, [], ◌∷◌, None, Some, refl, sym, ap, ◌∙◌, arith, ◌||◌}
+-- The example is of the shape that the grammar gives and has room. What the checks accept of another shape, or with a structure laid over a
+-- place or an area, is not ready.
+use Rattle.std.proofs.Common.{◌≡◌, ℕ, zero, suc, true, true≢false, [], ◌∷◌, None, Some, refl, sym, ap, ◌∙◌, arith, ◌||◌}
 use Rattle.std.specs.Prelude.{pos, codes}
-use Rattle.std.specs.List.{list_all, slice_get}
-use Rattle.std.proofs.lemmas.Bool.{and_parts}
+use Rattle.std.specs.List.{slice_get}
 use Rattle.std.proofs.lemmas.Option.{none-some, same_Some}
 use Rattle.ground.specs.declared.value.Kind.TheVariants.{Integer, Logical}
 use Rattle.efl_tree.specs.declared.expression.EflOperator.TheVariants.{Le}
@@ -12,8 +12,6 @@ use Rattle.efl_tree.specs.Syntax.{Text, EflProcedure, EflProgram}
 use Rattle.efl_scope.specs.DataTypes as types
 use Rattle.efl_scope.specs.FirstFault as scope_faults
 use Rattle.efl_scope.specs.Parts.{program_parts}
-use Rattle.efl_scope.specs.ScopeRules.{area_declared}
-use Rattle.efl_scope.specs.Uses.{Use, Laid, uses_in}
 use Rattle.efl_scope.specs.Marks.{program_variables}
 use Rattle.efl_scope.proofs.ExampleTexts.{num, at, from, member, declare, decl, one_member, stmt, set, block, main, procedure, program}
 use Rattle.efl_types.specs.TypeRules as type_faults
@@ -22,7 +20,7 @@ use Rattle.efl_typed.proofs.Each.{Each}
 use Rattle.efl_lowered.specs.Naming.{Naming}
 use Rattle.efl_lowered.specs.Lowering.{is_scalar}
 use Rattle.efl_lowered.specs.Facts.{AreReady}
-use Rattle.efl_lowered.specs.Grammatical.{IsGrammatical, operators_in}
+use Rattle.efl_lowered.specs.Grammatical.{IsGrammatical, operators_in, default_constants}
 use Rattle.efl_lowered.specs.Needs.{HasRoom}
 use Rattle.efl_lowered.proofs.Example.{text, names, f}
 use Rattle.efl_lowered.proofs.TypedExpressions.{Keeps}
@@ -31,20 +29,11 @@ use Rattle.efl_lowered.proofs.TypedChecks.{at_each}
 
 -- ---- what is of the shape ----
 
-abbrev is_bare : Use → Bool
-is_bare (Laid x) = false
-is_bare _ = true
-
-bare : (ws : List Use) → list_all is_bare ws ≡ true → Each (λ w. (x : Text) → w ≡ Laid x → ⊥) ws
-bare [] h = tt
-bare (w ∷ ws) h = let g = and_parts (is_bare w) (list_all is_bare ws) h in ((λ x e. true≢false (sym g.0 ∙ ap is_bare e)), bare ws g.1)
-
 shaped : IsGrammatical text
 shaped = record {
   main = bare_main;
   operators = λ i j v o e. at_each Keeps (operators_in v.form) (at_each (λ v. Each Keeps (operators_in v.form)) (program_parts text) (tt, (tt, (tt, (tt, (tt, (tt, (tt, tt))))))) i v e) j o;
-  no_area = at_each (λ v. area_declared v.form ≡ None) (program_parts text) (refl, (refl, (refl, (refl, (refl, (refl, (refl, tt)))))));
-  no_overlay = λ i j v x e g. at_each (λ w. (x : Text) → w ≡ Laid x → ⊥) (uses_in v.form) (bare (uses_in v.form) (at_each (λ v. list_all is_bare (uses_in v.form) ≡ true) (program_parts text) (refl, (refl, (refl, (refl, (refl, (refl, (refl, tt))))))) i v e)) j (Laid x) g x refl;
+  defaults = at_each (λ v. default_constants v.form ≡ []) (program_parts text) (refl, (refl, (refl, (refl, (refl, (refl, (refl, tt)))))));
 }
   where
     bare_main : (m : ℕ) (u : EflProcedure) → slice_get text.procedures m ≡ Some u → u.name ≡ None → (u.formals ≡ []) × (u.result ≡ None)

@@ -51,7 +51,7 @@ module _ (p : EflProgram) (over : IsOverScalars p) (shaped : IsGrammatical p) wh
   us = p.procedures
 
   abbrev P : Located → Type 0
-  P = IsNumberedScalar p over shaped
+  P = IsNumberedScalar p over
 
   abbrev pub M : ℕ → ℕ → Kind → Type 0
   M n v k = has_scalar p n v k ≡ true
@@ -157,14 +157,14 @@ module _ (p : EflProgram) (over : IsOverScalars p) (shaped : IsGrammatical p) wh
     shapes : Each Shape (program_parts p)
     shapes =
         each_at Shape (program_parts p)
-        (λ i v e. ((each_at (λ w. (x : Text) → w ≡ Laid x → ⊥) (uses_in v.form) (λ j w f x g. shaped.no_overlay i j v x e (f ∙ ap Some g)), each_at Keeps (operators_in v.form) (λ j o f. shaped.operators i j v o e f)), over.no_initial i v e))
+        (λ i v e. ((each_at (λ w. (x : Text) → w ≡ Laid x → ⊥) (uses_in v.form) (λ j w f x g. over.no_overlay i j v x e (f ∙ ap Some g)), each_at Keeps (operators_in v.form) (λ j o f. shaped.operators i j v o e f)), over.no_initial i v e))
 
     pub supplied : Each IsSupplied (program_parts p)
     supplied =
         each_fact (λ v. (Checked v × (CallsKnown p v × Lists us P v)) × Shape v) IsSupplied (program_parts p)
         (λ v h. record { scoped = h.0.0.0; faults = h.0.0.1; calls_known = h.0.1.0; lists = h.0.1.1; no_overlay = h.1.0.0; keeps = h.1.0.1; no_initial = h.1.1 })
         (each_both (λ v. Checked v × (CallsKnown p v × Lists us P v)) Shape (program_parts p)
-        (each_both Checked (λ v. CallsKnown p v × Lists us P v) (program_parts p) checked (each_both (CallsKnown p) (Lists us P) (program_parts p) (calls_known p) (parts_numbered p over shaped))) shapes)
+        (each_both Checked (λ v. CallsKnown p v × Lists us P v) (program_parts p) checked (each_both (CallsKnown p) (Lists us P) (program_parts p) (calls_known p) (parts_numbered p over))) shapes)
 
     module _ (n : ℕ) (u : EflProcedure) (here : slice_get us n ≡ Some u) where
       abbrev FineIn : ℕ → Around → List Use → Type 0
@@ -201,4 +201,4 @@ module _ (p : EflProgram) (over : IsOverScalars p) (shaped : IsGrammatical p) wh
         parts_typed =
             each_fact (λ v. Facts us n u P v × IsSupplied v) (IsTypedPart us (program_variables p) n u here (M n) (F n) (C n) room gives giving) (parts_by n u)
             (λ v h. let s = h.1 in record { faults = s.faults; fine = part_fine v.around v.place v.form h.0.0 h.0.1 s; keeps = s.keeps })
-            (each_both (Facts us n u P) IsSupplied (parts_by n u) (numbered_facts p over shaped n u here) (own_parts IsSupplied us n u here supplied))
+            (each_both (Facts us n u P) IsSupplied (parts_by n u) (numbered_facts p over n u here) (own_parts IsSupplied us n u here supplied))

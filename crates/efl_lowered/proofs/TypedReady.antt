@@ -82,7 +82,7 @@ one_main end (u ∷ []) h = (u, refl)
 one_main end (u ∷ v ∷ us) h = absurd (none-some _ (sym h))
 
 -- a fault of the counts is told
-no_count_fault : (p : EflProgram) → TellsWhole p None → count_fault p ≡ None
+pub no_count_fault : (p : EflProgram) → TellsWhole p None → count_fault p ≡ None
 no_count_fault p whole = by_fault (count_fault p) refl
   where
     told : (f : Fault) → count_fault p ≡ Some f → TellsWhole p None → None ≡ Some f
@@ -193,9 +193,9 @@ module _ (p : EflProgram) (scopes : scope_faults.first_fault p ≡ None) (types_
 
   formal_variable : (n : ℕ) (u : EflProcedure) → slice_get us n ≡ Some u → (x : Text) → holds u.formals x ≡ true → has_variable p n (number_of xs n (meant_by [] x (meaning (outer u) x))) ≡ true
   formal_variable n u e x h =
-      let P = IsNumberedScalar p over shaped in
+      let P = IsNumberedScalar p over in
       let w = formal_means u x h in
-      let head = (own_parts (Lists us P) us n u e (parts_numbered p over shaped)).0 in
+      let head = (own_parts (Lists us P) us n u e (parts_numbered p over)).0 in
       let known = formal_listed us P n (around_unit n u) u.place u.result u.formals head x w.0 w.1 h in
       ap (λ o. has_variable p n (number_of xs n (meant_by [] x o))) w.1 ∙ has_either n (number_of xs n w.0) known.0 known.2
 

@@ -20,7 +20,6 @@ use Rattle.efl_typed.proofs.Each.{Each, each_left, each_right, each_flat}
 use Rattle.efl_typed.proofs.FoundLemmas.{both}
 use Rattle.efl_lowered.specs.Lowering.{is_scalar, stands_in}
 use Rattle.efl_lowered.specs.Facts.{has_scalar, IsOverScalars}
-use Rattle.efl_lowered.specs.Grammatical.{IsGrammatical}
 use Rattle.efl_lowered.proofs.Lists.{or_left, or_right, text_is, same_text, and_some}
 use Rattle.efl_lowered.proofs.TypedChecks.{each_at, at_each, each_fact, each_both, each_on}
 use Rattle.efl_lowered.proofs.TypedCalls.{and_true}
@@ -29,11 +28,11 @@ use Rattle.efl_lowered.proofs.TypedWalk.{root, up, IsCanonical, CanonicalBy, Are
 
 -- ---- lists ----
 
-each_joined : {X Y : Type 0} (P : Y → Type 0) (f : X → List Y) (xs : List X) → Each (λ x. Each P (f x)) xs → Each P (flat_map f xs)
+pub each_joined : {X Y : Type 0} (P : Y → Type 0) (f : X → List Y) (xs : List X) → Each (λ x. Each P (f x)) xs → Each P (flat_map f xs)
 each_joined P f [] h = tt
 each_joined P f (x ∷ xs) h = each_on P (f x) (flat_map f xs) h.0 (each_joined P f xs h.1)
 
-each_mapped : {X Y : Type 0} (P : Y → Type 0) (f : X → Y) (xs : List X) → Each (λ x. P (f x)) xs → Each P (map f xs)
+pub each_mapped : {X Y : Type 0} (P : Y → Type 0) (f : X → Y) (xs : List X) → Each (λ x. P (f x)) xs → Each P (map f xs)
 each_mapped P f [] h = tt
 each_mapped P f (x ∷ xs) h = (h.0, each_mapped P f xs h.1)
 
@@ -182,7 +181,7 @@ same_variable us l x own its h =
     means : ℕ → EflProcedure → List ℕ → Text → Variable
     means m w q y = meant_by (implied_of w) y (find_map (variable_of y) (root us m w Anything (up q [])))
 
-module _ (p : EflProgram) (over : IsOverScalars p) (shaped : IsGrammatical p) where
+module _ (p : EflProgram) (over : IsOverScalars p) where
   abbrev us : List EflProcedure
   us = p.procedures
 
@@ -191,7 +190,7 @@ module _ (p : EflProgram) (over : IsOverScalars p) (shaped : IsGrammatical p) wh
 
   -- no part declares an area
   no_areas : Each NoArea (program_parts p)
-  no_areas = each_at NoArea (program_parts p) shaped.no_area
+  no_areas = each_at NoArea (program_parts p) over.no_common
 
   unit_facts : (P : Located → Type 0) → Each (Lists us P) (program_parts p) → (n : ℕ) (u : EflProcedure) → slice_get us n ≡ Some u → Each (Facts us n u P) (parts_by n u)
   unit_facts P h n u e =

@@ -4,8 +4,10 @@ use Rattle.std.specs.Prelude.{◌≡◌, ℕ, Bool, true, not, nat_eq, ◌&&◌,
 use Rattle.ground.specs.declared.value.Kind.{Kind}
 use Rattle.ground.specs.declared.value.Kind.TheVariants.{Integer, Logical}
 use Rattle.rule_table.specs.Words.{is_some_and}
-use Rattle.efl_tree.specs.Syntax.{EflProcedure, EflProgram}
+use Rattle.efl_tree.specs.Syntax.{Text, EflProcedure, EflProgram}
 use Rattle.efl_scope.specs.Parts.{Part, program_parts}
+use Rattle.efl_scope.specs.ScopeRules.{area_declared}
+use Rattle.efl_scope.specs.Uses.{Laid, uses_in}
 use Rattle.efl_scope.specs.Marks.{Located, program_variables}
 use Rattle.efl_types.specs.TypeRules.{presets_of}
 use Rattle.efl_typed.specs.Typing.{bodies_of}
@@ -54,11 +56,13 @@ has_variable p n v = has_scalar p n v Integer || has_scalar p n v Logical
 
 -- ---- programs ----
 
--- each variable is a scalar, in no area and without a value at first
+-- Each variable is a scalar, in no area and without a value at first; and no part declares an area or lays a structure over a place.
 pub record IsOverScalars (p : EflProgram) : Type 0 where
   pub scalar : (v : ℕ) (x : Located) → slice_get (program_variables p) v ≡ Some x → (is_scalar Integer x.variable.kind || is_scalar Logical x.variable.kind) ≡ true
   pub no_area : (v : ℕ) (x : Located) → slice_get (program_variables p) v ≡ Some x → x.variable.area ≡ None
   pub no_initial : (i : ℕ) (v : Part) → slice_get (program_parts p) i ≡ Some v → presets_of v.form ≡ []
+  pub no_common : (i : ℕ) (v : Part) → slice_get (program_parts p) i ≡ Some v → area_declared v.form ≡ None
+  pub no_overlay : (i j : ℕ) (v : Part) (x : Text) → slice_get (program_parts p) i ≡ Some v → slice_get (uses_in v.form) j ≡ Some (Laid x) → ⊥
 
 -- What the checks of whole programs and of types give, and that the units have room for the temporaries: there is one main, which has no
 -- formals; each formal is a variable of its procedure; and each body can be lowered.

@@ -1,11 +1,9 @@
--- What the grammar of EFL gives of a program beyond its tree, as far as its lowering rests on it, and that nothing is laid over a place.
-use Rattle.std.specs.Prelude.{◌≡◌, ℕ, List, [], ◌∷◌, ◌++◌, flat_map, slice_get, Option, Some, None}
+-- What the grammar of EFL gives of a program beyond its tree, as far as its lowering rests on it.
+use Rattle.std.specs.Prelude.{◌≡◌, ℕ, ℤ, true, List, [], ◌∷◌, ◌++◌, flat_map, slice_get, Option, Some, None}
 use Rattle.efl_tree.specs.declared.expression.EflOperator.{EflOperator}
 use Rattle.efl_tree.specs.Syntax.{Text, EflExpr, Int, Truth, At, Call, Group, Plus, Minus, Not, Up, Down, Pair, Assign, EflExprs, NoExpr, AndExpr, EflPlace, Path, EflSteps, NoStep, Member, Overlay, WriteItem, Value, Chars, ReadItem, Take, EflKind, Act, If, IfElse, While, For, Do, Switch, Return, Write, Read, EflProcedure, EflProgram}
 use Rattle.efl_tree.specs.Syntax as efl
-use Rattle.efl_scope.specs.Parts.{Form, States, Until, Part, program_parts}
-use Rattle.efl_scope.specs.ScopeRules.{area_declared}
-use Rattle.efl_scope.specs.Uses.{Laid, uses_in}
+use Rattle.efl_scope.specs.Parts.{Form, States, Until, Chooses, Part, program_parts}
 use Rattle.efl_types.specs.Types.{operand, outcome}
 
 -- ---- assignments with an operator ----
@@ -67,12 +65,15 @@ operators_in (States ls k) = operators_by k
 operators_in (Until e) = operators_of e
 operators_in _ = []
 
+-- the constants of a default, which has none in the source
+abbrev pub default_constants : Form → List ℤ
+default_constants (Chooses zs true before seen) = zs
+default_constants _ = []
+
 -- ---- programs ----
 
--- A main has neither formals nor a type, no assignment has a relation's operator, and no part declares an area or lays a structure over
--- a place.
+-- a main has neither formals nor a type, no assignment has a relation's operator, and a default has no constants
 pub record IsGrammatical (p : EflProgram) : Type 0 where
   pub main : (n : ℕ) (u : EflProcedure) → slice_get p.procedures n ≡ Some u → u.name ≡ None → (u.formals ≡ []) × (u.result ≡ None)
   pub operators : (i j : ℕ) (v : Part) (o : EflOperator) → slice_get (program_parts p) i ≡ Some v → slice_get (operators_in v.form) j ≡ Some o → operand o ≡ outcome o
-  pub no_area : (i : ℕ) (v : Part) → slice_get (program_parts p) i ≡ Some v → area_declared v.form ≡ None
-  pub no_overlay : (i j : ℕ) (v : Part) (x : Text) → slice_get (program_parts p) i ≡ Some v → slice_get (uses_in v.form) j ≡ Some (Laid x) → ⊥
+  pub defaults : (i : ℕ) (v : Part) → slice_get (program_parts p) i ≡ Some v → default_constants v.form ≡ []

@@ -1,6 +1,6 @@
 -- The units of FORTRAN that a program of EFL over scalar variables becomes, by some names: each has its variables, its temporaries and
 -- the functions that it calls in type statements, then the lines of its routes, and then what ends it.
-use Rattle.std.specs.Prelude.{ℕ, zero, suc, nat_eq, Bool, true, false, ◌&&◌, List, [], ◌∷◌, ◌++◌, map, filter, length, take, drop, Some, is_none, if◌then◌else◌}
+use Rattle.std.specs.Prelude.{ℕ, zero, suc, ◌+◌, nat_eq, Bool, true, false, ◌&&◌, List, [], ◌∷◌, ◌++◌, map, filter, length, take, drop, Some, is_none, if◌then◌else◌}
 use Rattle.std.specs.List.{list_any, enumerate_from, range_with_len}
 use Rattle.ground.specs.declared.place.Place.{Place}
 use Rattle.ground.specs.declared.value.Kind.{Kind}
@@ -74,8 +74,9 @@ calls p n m = list_any (λ e. nat_eq e.from n && nat_eq e.to m) (edges_of p)
 abbrev pub functions_in : EflProgram → ℕ → Kind → List ℕ
 functions_in p n k = map (λ x. x.0) (filter (λ x. gives k x.1 && calls p n x.0) (enumerate_from 0 p.procedures))
 
+-- the temporaries, and one more for a spare dummy
 abbrev pub temps_of : Naming → ℕ → Kind → List Text
-temps_of names n k = map (names.temp k) (range_with_len 0 (names.room n))
+temps_of names n k = map (names.temp k) (range_with_len 0 (names.room n + 1))
 
 abbrev pub typed_names : Naming → EflProgram → ℕ → Kind → List Text
 typed_names names p n k = map names.home (variables_in (program_variables p) n k) ++ temps_of names n k ++ map names.callee (functions_in p n k)

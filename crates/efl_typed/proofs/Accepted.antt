@@ -30,19 +30,19 @@ use Rattle.efl_typed.proofs.Found.{Finds, stmts_scoped}
 
 -- ---- rules that no part breaks ----
 
-none_of_two : {V : Type 0} (a b : Option V) → option_or a b ≡ None → (a ≡ None) × (b ≡ None)
+pub none_of_two : {V : Type 0} (a b : Option V) → option_or a b ≡ None → (a ≡ None) × (b ≡ None)
 none_of_two None b h = (refl, h)
 none_of_two (Some v) b h = absurd (none-some v (sym h))
 
-none_found : {X V : Type 0} (f : X → Option V) (xs : List X) → find_map f xs ≡ None → Each (λ x. f x ≡ None) xs
+pub none_found : {X V : Type 0} (f : X → Option V) (xs : List X) → find_map f xs ≡ None → Each (λ x. f x ≡ None) xs
 none_found f [] h = tt
 none_found f (x ∷ xs) h = let s = none_of_two (f x) (find_map f xs) h in (s.0, none_found f xs s.1)
 
-none_mapped : {X V : Type 0} (f : X → V) (o : Option X) → option_map f o ≡ None → o ≡ None
+pub none_mapped : {X V : Type 0} (f : X → V) (o : Option X) → option_map f o ≡ None → o ≡ None
 none_mapped f None h = refl
 none_mapped f (Some x) h = absurd (none-some (f x) (sym h))
 
-none_chosen : {X : Type 0} (b : Bool) (x : X) (o : Option X) → cond b (Some x) o ≡ None → (b ≡ false) × (o ≡ None)
+pub none_chosen : {X : Type 0} (b : Bool) (x : X) (o : Option X) → cond b (Some x) o ≡ None → (b ≡ false) × (o ≡ None)
 none_chosen false x o h = (refl, h)
 none_chosen true x o h = absurd (none-some x (sym h))
 
