@@ -1,0 +1,2 @@
+-- The lemmas of efl_built.
+pub mod BuiltLemmas

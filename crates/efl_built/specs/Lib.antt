@@ -1,0 +1,3 @@
+-- The definitions that the contracts of efl_built cite.
+pub mod Unbuilt
+pub mod Walks

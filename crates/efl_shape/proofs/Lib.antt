@@ -1,0 +1,6 @@
+-- The lemmas of efl_shape.
+pub mod Groups
+pub mod Uses
+pub mod Variables
+pub mod Over
+pub mod Derived
