@@ -4,5 +4,3 @@ pub mod Forms
 pub mod Items
 pub mod Lists
 pub mod Operands
-pub mod Rows
-pub mod Sizes

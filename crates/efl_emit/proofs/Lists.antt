@@ -18,7 +18,8 @@ use Rattle.efl_emit.specs.declared.operand.Evaluated.{Evaluated}
 use Rattle.efl_emit.specs.declared.arguments.Arguments.{Arguments}
 use Rattle.efl_emit.specs.Emitted.{Emission, Emitted}
 use Rattle.efl_emit.specs.Names.{home_of, temp_of, callee_of, made_of, operand_of}
-use Rattle.efl_emit.specs.Parts.{routes_of, value_of, place_formula, place_in, actual_route, actual_formula, made_as_actual, IsEvaluated, AreEvaluated, IsActual, AreActuals}
+use Rattle.efl_room.specs.Actuals.{place_in}
+use Rattle.efl_emit.specs.Parts.{routes_of, value_of, place_formula, actual_route, actual_formula, made_as_actual, IsEvaluated, AreEvaluated, IsActual, AreActuals}
 use Rattle.efl_emit.proofs.Emitting.{SoFar, one_more, all_done, split_first}
 
 -- formulas before others

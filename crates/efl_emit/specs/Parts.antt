@@ -7,8 +7,9 @@ use Rattle.f66_tree.specs.declared.expression.Expr.{Expr as AnExpr}
 use Rattle.f66_tree.specs.declared.expression.Operator.{Operator}
 use Rattle.f66_tree.specs.Syntax.{Formula, Ref, Int, Group, Assign, unlabelled_line}
 use Rattle.f66_tree.specs.Views.{formula_of, formulas_of}
-use Rattle.efl_program.specs.Typed.{Expr, Exprs, At, Site, Op, Plain}
+use Rattle.efl_program.specs.Typed.{Expr, Exprs, Site, Op, Plain}
 use Rattle.routes.specs.Routes.{Routes, AndRoute}
+use Rattle.efl_room.specs.Actuals.{place_in}
 use Rattle.efl_routes.specs.Expressions.{made, made_in, made_for, formula, formulas, actuals, routes, all_routes, actual_routes, site_formula, combined, kind_by, sets}
 use Rattle.efl_emit.specs.declared.naming.Naming.{Naming}
 use Rattle.efl_emit.specs.declared.operand.Evaluated.{Evaluated}
@@ -48,11 +49,6 @@ pub record AreEvaluated (s : Naming) (p : Place) (es : Exprs) (n : ℕ) (r : Arg
   pub emitted : Emitted (made_of s) (λ rest. all_routes (home_of s) temp_of (callee_of s) p es n rest) before after
   pub formulas : formulas_of r.list.items ≡ formulas (home_of s) temp_of (callee_of s) es n
   pub next : r.next ≡ n + made_in es
-
--- the place that an actual is
-abbrev pub place_in : Expr → Option Site
-place_in (At x) = Some x
-place_in _ = None
 
 -- an integer variable with one by an operator
 abbrev pub step_routes : Naming → Place → Operator → Site → ℕ → Routes → Routes

@@ -92,8 +92,8 @@ fn last_digits(kind: Kind, number: usize) -> usize
     }
 }
 
-// The digit of a number at a unit, by its code.
-fn digit(number: usize, unit: usize) -> u8
+/// The digit of a number at a unit, by its code.
+pub fn digit(number: usize, unit: usize) -> u8
     requires { 0 < unit }
     ensures { result ≡ digit_at number unit }
 {

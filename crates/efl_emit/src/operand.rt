@@ -1,5 +1,5 @@
 // What has the value of an expression that was emitted.
-ghost use Rattle.std.specs.Prelude.{◌≡◌, ◌+◌, IfOk};
+ghost use Rattle.std.specs.Prelude.{◌≡◌, IfOk};
 ghost use Rattle.f66_tree.specs.Syntax.{Not as NotOf, Pair as PairOf};
 ghost use Rattle.f66_tree.specs.Views.{formula_of};
 ghost use Rattle.efl_emit.specs.Names.{operand_of};
@@ -22,16 +22,6 @@ pub enum Operand {
 pub struct Evaluated {
     pub operand: Operand,
     pub next: usize,
-}
-
-/// A sum; more than any memory has use for is refused.
-pub fn plus(a: usize, b: usize) -> Result<usize, AllocError>
-    ensures { IfOk result (λ n. n ≡ a + b) }
-{
-    match a.checked_add(b) {
-        Some(sum) => Ok(sum),
-        None => Err(AllocError),
-    }
 }
 
 /// An operand as an expression of FORTRAN.

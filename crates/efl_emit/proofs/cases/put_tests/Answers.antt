@@ -5,7 +5,7 @@ use Rattle.f66_tree.specs.declared.expression.Operator.TheVariants.{Eq}
 use Rattle.f66_tree.specs.Syntax.{Int, Pair}
 use Rattle.efl_emit.specs.Names.{operand_of}
 use Rattle.std.proofs.Math.ListN.{drop_of_length-le}
-use Rattle.efl_emit.proofs.Rows.{next_copied}
+use Rattle.efl_room.proofs.Rows.{next_copied}
 use Rattle.efl_emit.proofs.Forms.{tests_more, tests_over}
 use Rattle.efl_emit.proofs.cases.put_tests.Goals as goal
 

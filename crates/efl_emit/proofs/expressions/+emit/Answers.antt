@@ -5,8 +5,8 @@ use Rattle.f66_tree.specs.Syntax as f66
 use Rattle.efl_typed_tree.specs.Views.{op_of}
 use Rattle.efl_emit.specs.Names.{emission_of}
 use Rattle.efl_emit.specs.Parts.{IsEvaluated}
-use Rattle.efl_emit.proofs.Rows.{from_call, from_known, next_expr, last_expr, expr_size}
-use Rattle.efl_emit.proofs.Sizes.{size_of}
+use Rattle.efl_room.proofs.Rows.{from_call, from_known, next_expr, last_expr, expr_size}
+use Rattle.efl_room.proofs.Sizes.{size_of}
 use Rattle.efl_emit.proofs.Operands.{group_done, plus_done, minus_done, not_done, pair_done, store_done, change_done, plain_done, last_done, sequential_done, call_done, known_done, item_is}
 use Rattle.efl_emit.proofs.Lists.{all_more, all_over, actuals_more, actuals_over, actual_value}
 use Rattle.efl_emit.proofs.expressions.+emit.Goals as goal

@@ -3,7 +3,7 @@ use Rattle.std.proofs.Common.{drop, ◌+◌, ◌*◌}
 use Rattle.efl_typed_tree.specs.Views.{expr_of, exprs_of}
 use Rattle.efl_emit.specs.Names.{emission_of}
 use Rattle.efl_emit.proofs.Lists.{AllSoFar, ActualsSoFar}
-use Rattle.efl_emit.proofs.Sizes.{size_of, size_of_all}
+use Rattle.efl_room.proofs.Sizes.{size_of, size_of_all}
 use Rattle.efl_emit.proofs.expressions.+emit.Given as goal
 
 abbrev pub decreases-emit_expression : goal.decreases-emit_expression

@@ -4,7 +4,7 @@ use Rattle.std.proofs.Math.ListN.{drop_of_length-le}
 use Rattle.routes.specs.Code.{here}
 use Rattle.efl_emit.specs.Emitted.{Puts}
 use Rattle.efl_emit.specs.Names.{emission_of}
-use Rattle.efl_emit.proofs.Rows.{next_member}
+use Rattle.efl_room.proofs.Rows.{next_member}
 use Rattle.efl_emit.proofs.Forms.{marks_more, marks_over}
 use Rattle.efl_emit.proofs.labels.put_marks.Goals as goal
 

@@ -14,8 +14,8 @@ use Rattle.efl_emit.specs.Marks.{Marks}
 use Rattle.efl_emit.specs.Words.{LeavesOne, act_of}
 use Rattle.efl_routes.specs.Statements.{Other}
 use Rattle.efl_emit.specs.Turns.{top_of, bottom_of}
-use Rattle.efl_emit.proofs.Rows.{next_stmt, last_stmt, stmt_size, from_block, from_switch, from_do, from_write, from_read, clauses_first}
-use Rattle.efl_emit.proofs.Sizes.{size_of_stmt, size_of_stmts, size_of_clauses, labelled_size}
+use Rattle.efl_room.proofs.Rows.{next_stmt, last_stmt, stmt_size, from_block, from_switch, from_do, from_write, from_read, clauses_first}
+use Rattle.efl_room.proofs.Sizes.{size_of_stmt, size_of_stmts, size_of_clauses, labelled_size}
 use Rattle.efl_emit.proofs.Emitting.{in_turn}
 use Rattle.efl_emit.proofs.Forms.{marks_done, if_done, first_done, either_done, turn_done, loop_done, for_done, do_done, switch_done, clause_done, tested_done, block_done, list_more, list_over, return_within, write_within, read_within, with_constants, without_constants, default_here, default_behind}
 use Rattle.efl_emit.proofs.statements.+emit.Goals as goal

@@ -6,7 +6,7 @@ use Rattle.efl_emit.specs.Names.{emission_of, made_of}
 use Rattle.efl_emit.specs.Rings.{around_of, behind_of}
 use Rattle.efl_emit.specs.Statements.{all_before}
 use Rattle.efl_emit.proofs.Emitting.{SoFar}
-use Rattle.efl_emit.proofs.Sizes.{size_of_stmt, size_of_stmts, size_of_clauses}
+use Rattle.efl_room.proofs.Sizes.{size_of_stmt, size_of_stmts, size_of_clauses}
 use Rattle.efl_emit.proofs.statements.+emit.Given as goal
 
 abbrev pub decreases-emit_statement : goal.decreases-emit_statement

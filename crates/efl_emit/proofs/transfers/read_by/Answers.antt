@@ -1,6 +1,6 @@
 -- One field more is listed.
 use Rattle.std.proofs.Common.{ap, ◌∙◌}
-use Rattle.efl_emit.proofs.Rows.{next_copied}
+use Rattle.efl_room.proofs.Rows.{next_copied}
 use Rattle.efl_emit.proofs.Items.{read_fields, fields_more, read_over}
 use Rattle.efl_emit.proofs.transfers.read_by.Goals as goal
 

@@ -1,6 +1,6 @@
 -- One field more is listed.
 use Rattle.std.proofs.Common.{ap, ◌∙◌}
-use Rattle.efl_emit.proofs.Rows.{next_member}
+use Rattle.efl_room.proofs.Rows.{next_member}
 use Rattle.efl_emit.proofs.Items.{written_fields, fields_more, written_over}
 use Rattle.efl_emit.proofs.transfers.written_by.Goals as goal
 

@@ -2,8 +2,8 @@
 use Rattle.std.proofs.Common.{◌≡◌, drop, ◌+◌, ◌*◌}
 use Rattle.efl_routes.specs.Expressions.{made_in, made_for}
 use Rattle.efl_typed_tree.specs.Views.{expr_of, exprs_of}
-use Rattle.efl_emit.proofs.Sizes.{size_of, size_of_all}
-use Rattle.efl_emit.proofs.counts.+count.Given as goal
+use Rattle.efl_room.proofs.Sizes.{size_of, size_of_all}
+use Rattle.efl_room.proofs.counts.+count.Given as goal
 
 abbrev pub decreases-made : goal.decreases-made
 decreases-made l = 2 * size_of (expr_of l.e.now)

@@ -1,5 +1,5 @@
 -- The lists in a tree, one member after another.
-use Rattle.std.proofs.Common.{◌≡◌, ℕ, zero, suc, ◌+◌, ◌<◌, ◌≤◌, List, [], ◌∷◌, length, drop, get_or, sym, ap, ◌∙◌, arith, Option, option_map, Vec, Global}
+use Rattle.std.proofs.Common.{◌≡◌, ℕ, zero, suc, ◌+◌, ◌<◌, ◌≤◌, List, [], ◌∷◌, length, drop, get_or, refl, sym, ap, ◌∙◌, arith, Option, option_map, Vec, Global}
 use Rattle.std.proofs.Math.Seq.{drop-cons}
 use Rattle.std.proofs.Math.ListN.{drop_of_length-le}
 use Rattle.ground.specs.declared.value.Kind.{Kind}
@@ -14,10 +14,10 @@ use Rattle.std.specs.declared.boxed.Box.{Box}
 use Rattle.efl_typed_tree.specs.declared.statement.TypedKind.{TypedKind}
 use Rattle.efl_typed_tree.specs.declared.statement.TypedKind.TheVariants as kinds
 use Rattle.ground.specs.declared.place.Place.{Place}
-use Rattle.efl_program.specs.Typed.{NoExpr, AndExpr, Call, Known, Block, Do, Switch, Write, Read, NoStmt, AndStmt, Clauses, AndClause}
+use Rattle.efl_program.specs.Typed.{NoExpr, AndExpr, Call, Known, Block, Do, Switch, Write, Read, NoStmt, AndStmt, Clauses, NoClause, AndClause}
 use Rattle.efl_typed_tree.specs.Views.{intrinsic_of, expr_of, exprs_of, kind_of, stmt_of, stmts_of, clauses_of, clause_then, write_items_of, read_items_of}
 use Rattle.efl_typed_tree.proofs.Rows.{call_expr, known_expr, block_kind, switch_kind, clause_is}
-use Rattle.efl_emit.proofs.Sizes.{size_of, size_of_all, size_of_stmt, size_of_stmts}
+use Rattle.efl_room.proofs.Sizes.{size_of, size_of_all, size_of_stmt, size_of_stmts, size_of_clauses}
 
 -- the next member of a list
 pub next_member : {A : Type 0} (list : List A) (i : ℕ) (x : A) → i < length list → x ≡ get_or list i x → drop i list ≡ x ∷ drop (i + 1) list
@@ -98,3 +98,19 @@ clause_at x rest =
 pub clauses_first : (list : List TypedClause) (x : TypedClause) (others : List TypedClause) → list ≡ x ∷ others →
     clauses_of list ≡ AndClause (out-TypedClause x).tests.items (out-TypedClause x).fallback (stmts_of (out-TypedClause x).body.items) (out-TypedClause x).place (clauses_of others)
 clauses_first list x others is = ap clauses_of is ∙ clause_at x (clauses_of others)
+
+-- the next clause of a list
+pub next_clause : (list : List TypedClause) (i : ℕ) (x : TypedClause) → i < length list → x ≡ get_or list i x →
+    clauses_of (drop i list) ≡ AndClause (out-TypedClause x).tests.items (out-TypedClause x).fallback (stmts_of (out-TypedClause x).body.items) (out-TypedClause x).place (clauses_of (drop (i + 1) list))
+next_clause list i x lt is = clauses_first (drop i list) x (drop (i + 1) list) (next_member list i x lt is)
+
+pub last_clause : (list : List TypedClause) (i : ℕ) → length list ≤ i → clauses_of (drop i list) ≡ NoClause
+last_clause list i le = ap clauses_of (drop_of_length-le list le)
+
+pub clause_size : (list : List TypedClause) (i : ℕ) (x : TypedClause) → i < length list → x ≡ get_or list i x → size_of_stmts (stmts_of (out-TypedClause x).body.items) + 1 ≤ size_of_clauses (clauses_of list)
+clause_size list i x lt is = let h = ap (λ y. size_of_stmts (stmts_of (out-TypedClause y).body.items)) is in omega (arith, h, inner list i x lt)
+  where
+    inner : (xs : List TypedClause) (j : ℕ) (d : TypedClause) → j < length xs → size_of_stmts (stmts_of (out-TypedClause (get_or xs j d)).body.items) + 1 ≤ size_of_clauses (clauses_of xs)
+    inner [] j d p = absurd (omega arith)
+    inner (x ∷ xs) zero d p = let e = ap size_of_clauses (clauses_first (x ∷ xs) x xs refl) in omega (arith, e)
+    inner (x ∷ xs) (suc j) d p = let e = ap size_of_clauses (clauses_first (x ∷ xs) x xs refl) in omega (arith, e, inner xs j d (omega arith))

@@ -1,0 +1,4 @@
+-- The lemmas of efl_room.
+pub mod Rooms
+pub mod Rows
+pub mod Sizes
