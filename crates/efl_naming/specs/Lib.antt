@@ -1,0 +1,3 @@
+-- The definitions that the contracts of efl_naming cite.
+pub mod Choice
+pub mod Laws
