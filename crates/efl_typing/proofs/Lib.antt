@@ -1,0 +1,6 @@
+-- The lemmas of efl_typing.
+mod BuiltLemmas
+mod ListLemmas
+mod StatementLemmas
+mod KindLemmas
+mod BodyLemmas

@@ -1,0 +1,3 @@
+-- The definitions that the contracts of efl_typing cite.
+pub mod Statements
+pub mod Bodies
