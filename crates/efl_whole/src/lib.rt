@@ -8,7 +8,10 @@ mod listing;
 mod names;
 mod numbers;
 mod procedures;
+mod program_calls;
 mod roles;
 mod statements;
 
 pub use checking::whole;
+pub use numbers::{Numbers, numbers_of};
+pub use program_calls::edges;
