@@ -3,7 +3,7 @@ pub mod FirstFaults
 mod ScopeFaults
 mod WholeFaults
 mod FitPrograms
-mod EflPrograms
+mod EflRefusals
 mod SaidPlaces
 mod SaidNames
 mod OneMeaning

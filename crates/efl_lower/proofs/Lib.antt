@@ -1,4 +1,0 @@
--- The lemmas of efl_lower.
-pub mod Ranks
-pub mod Serving
-pub mod Refusing
