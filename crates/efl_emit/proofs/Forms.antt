@@ -14,7 +14,7 @@ use Rattle.efl_typed_tree.specs.Views.{labelled}
 use Rattle.routes.specs.Routes.{Plain, BreakIf, Break, Ring, Cycle, Block, InTurn, Routes, NoRoute, AndRoute, joined, only}
 use Rattle.routes.specs.Code.{Behind, label_behind, jump, here, labels, all_labels, code_of, all_code}
 use Rattle.efl_routes.specs.Expressions.{made, sets, actuals, actual_routes}
-use Rattle.efl_routes.specs.Statements.{Around, Other, Behind as BehindRing, Next, made_if_any, value_or_one}
+use Rattle.efl_routes.specs.Statements.{Around, Other, Behind as BehindRing, Next, made_if_any, value_or_one, signed}
 use Rattle.efl_emit.specs.declared.naming.Naming.{Naming}
 use Rattle.efl_emit.specs.declared.arguments.Arguments.{Arguments}
 use Rattle.efl_emit.specs.declared.operand.Evaluated.{Evaluated}
@@ -152,11 +152,11 @@ cases_done s {p} {v} {cs} {l} {k} {a} {b} {c} {d} {e} m tests go end = record {
     -- the same before other routes
     before : List ℤ → Routes → Routes
     before [] rest = AndRoute (Break p 1) rest
-    before (z ∷ zs) rest = AndRoute (BreakIf p (f66.Pair Eq v (f66.Int z)) 0) (before zs rest)
+    before (z ∷ zs) rest = AndRoute (BreakIf p (f66.Pair Eq v (signed z)) 0) (before zs rest)
 
     with_rest : (zs : List ℤ) → tests_of s p v zs ≡ before zs NoRoute
     with_rest [] = refl
-    with_rest (z ∷ zs) = ap (AndRoute (BreakIf p (f66.Pair Eq v (f66.Int z)) 0)) (with_rest zs)
+    with_rest (z ∷ zs) = ap (AndRoute (BreakIf p (f66.Pair Eq v (signed z)) 0)) (with_rest zs)
 
     count : (zs : List ℤ) (rest : Routes) → all_labels (before zs rest) ≡ all_labels rest
     count [] rest = omega arith
@@ -167,7 +167,7 @@ cases_done s {p} {v} {cs} {l} {k} {a} {b} {c} {d} {e} m tests go end = record {
 
     code : (ls : Behind) (zs : List ℤ) (n : ℕ) (rest : Routes) (next : List Line) → all_code (made_of s) (before zs rest) n (l ∷ k ∷ ls) next ≡ tests_before p v zs l (jump p k ∷ all_code (made_of s) rest n (l ∷ k ∷ ls) next)
     code ls [] n rest next = ap (λ m. jump p k ∷ all_code (made_of s) rest m (l ∷ k ∷ ls) next) (none_more n)
-    code ls (z ∷ zs) n rest next = ap (λ t. unlabelled_line p (When (f66.Pair Eq v (f66.Int z)) (Goto l)) ∷ t) (ap (λ m. all_code (made_of s) (before zs rest) m (l ∷ k ∷ ls) next) (none_more n) ∙ code ls zs n rest next)
+    code ls (z ∷ zs) n rest next = ap (λ t. unlabelled_line p (When (f66.Pair Eq v (signed z)) (Goto l)) ∷ t) (ap (λ m. all_code (made_of s) (before zs rest) m (l ∷ k ∷ ls) next) (none_more n) ∙ code ls zs n rest next)
 
     tested : (ls : Behind) → EmittedIn (made_of s) (before cs) (l ∷ k ∷ ls) b d
     tested ls = record {
@@ -322,7 +322,7 @@ pub record TestsSoFar (p : Place) (v : Formula) (all left : List ℤ) (l : ℕ) 
   pub made : now.made ≡ before.made
   pub lines : (next : List Line) → before.lines ++ tests_before p v all l next ≡ now.lines ++ tests_before p v left l next
 
-pub tests_more : {p : Place} {v : Formula} {l : ℕ} (all from left : List ℤ) (z : ℤ) {y : Formula} {a b c : Emission} → from ≡ z ∷ left → TestsSoFar p v all from l a b → Puts (unlabelled_line p (When y (Goto l))) b c → y ≡ f66.Pair Eq v (f66.Int z) →
+pub tests_more : {p : Place} {v : Formula} {l : ℕ} (all from left : List ℤ) (z : ℤ) {y : Formula} {a b c : Emission} → from ≡ z ∷ left → TestsSoFar p v all from l a b → Puts (unlabelled_line p (When y (Goto l))) b c → y ≡ f66.Pair Eq v (signed z) →
     TestsSoFar p v all left l a c
 tests_more {p} {v} {l} all from left z {y} {a} {b} {c} is h g same = record {
   made = g.made ∙ h.made;

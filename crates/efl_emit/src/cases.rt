@@ -1,13 +1,20 @@
 // The constants of a clause.
-ghost use Rattle.std.specs.Prelude.{OnOk};
+ghost use Rattle.std.specs.Prelude.{◌≡◌, IfOk, OnOk};
+ghost use Rattle.f66_tree.specs.declared.expression.Operator.TheVariants.{Eq};
+ghost use Rattle.f66_tree.specs.Syntax.{Pair as PairOf};
+ghost use Rattle.f66_tree.specs.Views.{formula_of};
+ghost use Rattle.efl_routes.specs.Statements.{signed};
 ghost use Rattle.efl_emit.specs.Names.{emission_of, made_of, operand_of};
 ghost use Rattle.efl_emit.specs.Cases.{Tests, ring_of_cases};
 ghost use Rattle.efl_emit.specs.Words.{LeavesOne};
 
-use crate::{Emitter, Naming, Operand, operand_pair, put_choice};
-use f66_tree::Operator;
+use crate::{Emitter, Naming, Operand, boxed_operand, put_choice};
+use f66_tree::{Expr, Operator};
 use ground::Place;
-use std::alloc::AllocError;
+use std::alloc::{AllocError, Global};
+
+/// The least constant of a clause.
+const LEAST: i64 = -2_147_483_647;
 
 /// Jumps to a label where none of a clause's constants is the value.
 pub fn emit_cases(
@@ -37,8 +44,28 @@ fn put_tests(
     ensures { OnOk result (Tests place (operand_of value) tests.now found (emission_of out.old) (emission_of out.new)) }
 {
     for test in tests {
-        let equal = operand_pair(out.alloc(), Operator::Eq, value, Operand::Int(*test))?;
+        let equal = equal_to(out.alloc(), value, *test)?;
         put_choice(out, place, equal, found)?;
     }
     Ok(())
+}
+
+// That a value is this constant.
+fn equal_to(alloc: Global, value: Operand, test: i64) -> Result<Expr, AllocError>
+    ensures { IfOk result (λ e. formula_of e ≡ PairOf Eq (operand_of value) (signed test)) }
+{
+    let value = boxed_operand(alloc, value)?;
+    let test = Box::new(alloc, signed(alloc, test)?)?;
+    Ok(Expr::Pair(Operator::Eq, value, test))
+}
+
+// A constant, below zero with a sign of its own.
+fn signed(alloc: Global, constant: i64) -> Result<Expr, AllocError>
+    ensures { IfOk result (λ e. formula_of e ≡ signed constant) }
+{
+    if LEAST <= constant && constant < 0 {
+        Ok(Expr::Minus(Box::new(alloc, Expr::Int(-constant))?))
+    } else {
+        Ok(Expr::Int(constant))
+    }
 }

@@ -1,6 +1,6 @@
 -- The statements of a lowered procedure: each is a plain one, and they name no function but those that the procedure calls.
 use Rattle.std.proofs.Common.{◌≡◌, ℕ, ◌+◌, Bool, true, false, List, [], ◌∷◌, ◌++◌, Option, None, Some, refl, ap, ◌∙◌, if◌then◌else◌, ◌||◌}
-use Rattle.std.specs.Prelude.{⊤, ℤ, pos}
+use Rattle.std.specs.Prelude.{⊤, ℤ, pos, negsuc, neg_ℤ, int_le, int_lt, ◌&&◌}
 use Rattle.std.specs.List.{list_any}
 use Rattle.std.specs.Str.{bytes_eq}
 use Rattle.std.proofs.lemmas.List.Folds.{list_any-append}
@@ -19,7 +19,7 @@ use Rattle.routes.specs.Code.{Behind, jump, here, labels, all_labels, code_of, a
 use Rattle.routes.specs.Placed.{IsPlain}
 use Rattle.routes.specs.Numbered.{OnlyPlain, AllPlain}
 use Rattle.efl_routes.specs.Expressions.{intrinsic_name, made, or_one, formula, formulas, actuals, routes, all_routes, actual_routes, combined, Scalars, AllScalars}
-use Rattle.efl_routes.specs.Statements.{Around, Other, route, all_route, clause_route, default_route, case_routes, item_routes, entries, read_entries, store_routes, unit_par, first_if_any, unless_any, if_any, act_routes, made_if_any, Ready, AllReady, ClausesReady, FitAct, ActIfAny, ConditionIfAny, FitIfAny, ItemsFit, TakenFit}
+use Rattle.efl_routes.specs.Statements.{Around, Other, route, all_route, clause_route, default_route, signed, case_routes, item_routes, entries, read_entries, store_routes, unit_par, first_if_any, unless_any, if_any, act_routes, made_if_any, Ready, AllReady, ClausesReady, FitAct, ActIfAny, ConditionIfAny, FitIfAny, ItemsFit, TakenFit}
 use Rattle.efl_routes.specs.Statements as statements
 
 module _ (T : Type 0) (q : Text) (c : Context) where
@@ -219,9 +219,16 @@ module _ (T : Type 0) (q : Text) (c : Context) where
       unless_quiet p None n rest h ok = ok
       unless_quiet p (Some e) n rest h ok = expr_quiet e h.1.0 p n _ (λ t. leaf_quiet e n, ok)
 
+      signed_quiet : (z : ℤ) → list_any (is_function q) (mentions_of c (signed z)) ≡ false
+      signed_quiet z = either (int_le (negsuc 2147483646) z && int_lt z (pos 0))
+        where
+          either : (b : Bool) → list_any (is_function q) (mentions_of c (if b then (f66.Minus (f66.Int (neg_ℤ z))) else (f66.Int z))) ≡ false
+          either true = refl
+          either false = refl
+
       cases_quiet : (p : Place) (v : Formula) (zs : List ℤ) → list_any (is_function q) (mentions_of c v) ≡ false → AllQuiet (case_routes home temp callee label own p v zs)
       cases_quiet p v [] h = (tt, tt)
-      cases_quiet p v (z ∷ zs) h = (λ t. quiet_on (mentions_of c v) [] h refl, cases_quiet p v zs h)
+      cases_quiet p v (z ∷ zs) h = (λ t. quiet_on (mentions_of c v) (mentions_of c (signed z)) h (signed_quiet z), cases_quiet p v zs h)
 
       items_quiet : (p : Place) (xs : List WriteItem) (n : ℕ) (rest : Routes) → ItemsFit M F C room gives xs n → AllQuiet rest → AllQuiet (item_routes home temp callee label own p xs n rest)
       items_quiet p [] n rest h ok = ok

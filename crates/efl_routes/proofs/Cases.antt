@@ -1,6 +1,7 @@
 -- A switch follows.
-use Rattle.std.proofs.Common.{◌≡◌, ℕ, ◌+◌, ◌≤◌, Bool, true, false, List, [], ◌∷◌, refl, sym, ap, subst, arith, ◌&&◌, if◌then◌else◌}
-use Rattle.std.specs.Prelude.{⊤, ℤ, nat_eq, int_le}
+use Rattle.std.proofs.Common.{◌≡◌, ℕ, ◌+◌, ◌≤◌, Bool, true, false, List, [], ◌∷◌, refl, sym, ap, ◌∙◌, subst, arith, ◌&&◌, if◌then◌else◌}
+use Rattle.std.specs.Prelude.{⊤, ℤ, negsuc, pos, neg_ℤ, nat_eq, int_le, int_lt}
+use Rattle.std.proofs.Math.IntN.{neg_ℤ-neg_ℤ}
 use Rattle.std.specs.Str.{bytes_eq}
 use Rattle.ground.specs.declared.place.Place.{Place}
 use Rattle.ground.specs.declared.value.Kind.TheVariants.{Integer}
@@ -10,7 +11,7 @@ use Rattle.f66_tree.specs.Syntax as f66
 use Rattle.f66_tree.specs.Syntax.{Text, Formula}
 use Rattle.f66_tree.specs.World.{Store, World, counted, Gives, Halts, bind, choose, settle}
 use Rattle.f66_tree.specs.Units.{Setting}
-use Rattle.f66_tree.specs.Evaluation.{operate, truth_in}
+use Rattle.f66_tree.specs.Evaluation.{value_of, operate, truth_in}
 use Rattle.efl_tree.specs.declared.statement.LoopKind.TheVariants as loop_kinds
 use Rattle.efl_program.specs.Typed.{Expr, Switch, Stmts, Clauses, NoClause, AndClause}
 use Rattle.efl_program.specs.Setting as world
@@ -21,9 +22,9 @@ use Rattle.routes.specs.Routes.{Route, Ring, BreakIf, Routes, NoRoute, AndRoute,
 use Rattle.routes.specs.Running as running
 use Rattle.routes.specs.Running.{Course, Went, Jumps, Backs, Leave, Flow, then_do, after_ring, ringed}
 use Rattle.efl_routes.specs.Expressions.{made, type_of, formula}
-use Rattle.efl_routes.specs.Statements.{Around, Other, Behind, leave_depth, again_depth, case_routes, clause_route, default_route, ClausesReady}
+use Rattle.efl_routes.specs.Statements.{Around, Other, Behind, leave_depth, again_depth, signed, case_routes, clause_route, default_route, ClausesReady}
 use Rattle.efl_routes.proofs.Like.{Post, Like}
-use Rattle.efl_routes.proofs.Near.{Sides, Target, run, Near, Same, Says, same_self, same_on, same_less, near_less, near_counted, near_begun}
+use Rattle.efl_routes.proofs.Near.{Sides, Target, there, run, Near, Same, Says, same_self, same_on, same_less, near_less, near_counted, near_begun}
 use Rattle.efl_routes.proofs.Steps.{Of}
 use Rattle.efl_routes.proofs.Lowers.{After}
 use Rattle.efl_routes.proofs.Combined.{near_spent, no_trap}
@@ -57,10 +58,19 @@ module _ (g : Sides) (c : Agreed g) (label : Text → ℕ) (own : Text) (gives :
   abbrev equal : ℤ → ℤ → Bool
   equal x k = int_le x k && int_le k x
 
+  -- a constant is its value, with a sign or without
+  signed_gives : (q : Place) (k : ℤ) (w : World) → value_of T (there g q) (signed k) w ≡ Gives (Whole k) w
+  signed_gives q k w = either (int_le (negsuc 2147483646) k && int_lt k (pos 0))
+    where
+      either : (b : Bool) → value_of T (there g q) (if b then (f66.Minus (f66.Int (neg_ℤ k))) else (f66.Int k)) w ≡ Gives (Whole k) w
+      either true = ap (λ z. Gives (Whole z) w) (neg_ℤ-neg_ℤ k)
+      either false = refl
+
   case_step : (q : Place) (x k : ℤ) (e : Formula) (m : ℕ) (es : List ℤ) (w1 : World) → Says g m e (Whole x) w1.state.store → run g (Cases q e (k ∷ es)) w1 ≡ choose (equal x k) (Gives (Leave 0) (counted (counted w1))) (run g (Cases q e es) (counted w1))
   case_step q x k e m es w1 says =
-      quits_step g c label own gives q (f66.Pair Eq e (f66.Int k)) 0 (Cases q e es) w1 (equal x k)
-      (ap (λ o. bind (bind o (λ y u. bind (Gives (Whole k) u) (λ i u1. settle q (operate Eq y i) u1))) (λ y u. settle q (truth_in y) u)) (says.by q (counted w1) (same_self g m w1.state.store)))
+      quits_step g c label own gives q (f66.Pair Eq e (signed k)) 0 (Cases q e es) w1 (equal x k)
+      (ap (λ o. bind (bind o (λ y u. bind (value_of T (there g q) (signed k) u) (λ i u1. settle q (operate Eq y i) u1))) (λ y u. settle q (truth_in y) u)) (says.by q (counted w1) (same_self g m w1.state.store))
+      ∙ ap (λ o. bind (bind o (λ i u. settle q (operate Eq (Whole x) i) u)) (λ y u. settle q (truth_in y) u)) (signed_gives q k (counted w1)))
 
   -- a constant of a clause, and the ones behind it
   case_like : (P : Post meaning.Course Course) (q : Place) (x : ℤ) (e : Formula) (m z : ℕ) (J : Course → World → Flow) (yea nay : meaning.Continuation) (k : ℤ) (es : List ℤ) (w w1 : World) (st : Store) → w1.state.store ≡ st → Near g (3 + z) (counted w) w1 → Says g m e (Whole x) st →

@@ -1,5 +1,5 @@
 -- The routes that a statement of EFL becomes.
-use Rattle.std.specs.Prelude.{◌≡◌, ◌≤◌, ℕ, zero, suc, ◌+◌, ℤ, pos, Bool, true, false, if◌then◌else◌, List, [], ◌∷◌, Option, Some, None, ⊤}
+use Rattle.std.specs.Prelude.{◌≡◌, ◌≤◌, ℕ, zero, suc, ◌+◌, ℤ, pos, negsuc, neg_ℤ, int_le, int_lt, Bool, true, false, ◌&&◌, if◌then◌else◌, List, [], ◌∷◌, Option, Some, None, ⊤}
 use Rattle.ground.specs.declared.place.Place.{Place}
 use Rattle.ground.specs.declared.value.Kind.{Kind}
 use Rattle.ground.specs.declared.value.Kind.TheVariants.{Integer, Logical}
@@ -51,6 +51,10 @@ made_items (Value e d ∷ items) = made e + 1 + made_items items
 made_items (Skip i ∷ items) = made_items items
 made_items (Chars t ∷ items) = made_items items
 
+-- a constant of a clause, below zero with a sign of its own
+abbrev pub signed : ℤ → Formula
+signed z = if int_le (negsuc 2147483646) z && int_lt z (pos 0) then f66.Minus (f66.Int (neg_ℤ z)) else f66.Int z
+
 module _ (home : ℕ → Text) (temp : Kind → ℕ → Text) (callee : ℕ → Text) (label : Text → ℕ) (own : Text) where
   abbrev value : Expr → ℕ → Formula
   value e n = formula home temp callee e n
@@ -80,7 +84,7 @@ module _ (home : ℕ → Text) (temp : Kind → ℕ → Text) (callee : ℕ → 
   -- the constants of a clause: where none of them is the value, one ring more is left
   abbrev pub case_routes : Place → Formula → List ℤ → Routes
   case_routes p v [] = only (Break p 1)
-  case_routes p v (c ∷ cs) = AndRoute (BreakIf p (f66.Pair Eq v (f66.Int c)) 0) (case_routes p v cs)
+  case_routes p v (c ∷ cs) = AndRoute (BreakIf p (f66.Pair Eq v (signed c)) 0) (case_routes p v cs)
 
   -- an integer variable with another value, by an operator
   abbrev variable : ℕ → Formula
