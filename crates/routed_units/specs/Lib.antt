@@ -1,0 +1,2 @@
+-- The definitions of routed_units.
+pub mod Routed
