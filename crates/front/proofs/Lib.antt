@@ -3,7 +3,7 @@ pub mod FirstFaults
 mod ScopeFaults
 mod WholeFaults
 mod FitPrograms
-mod EflRefusals
+mod EflPrograms
 mod SaidPlaces
 mod SaidNames
 mod OneMeaning

@@ -1,5 +1,6 @@
 -- What becomes of the tokens of an EFL text: its first fault, of the grammar, then of scopes, then of types, then of the whole
--- program. What all of them accept is not built yet.
+-- program; or what it means. A text that all of them accept is not built yet where it has a form that is not, and where its units are no
+-- legal deck.
 use Rattle.std.specs.Prelude.{◌≡◌, ◌⊎◌, List, [], ◌∷◌, Option, Some, None}
 use Rattle.ground.specs.declared.fault.Fault.{Fault}
 use Rattle.ground.specs.declared.fault.FaultKind.TheVariants.{Unbuilt}
@@ -11,9 +12,12 @@ use Rattle.efl_tree.specs.Syntax.{EflDecl, Statement, EflStmts, NoStmt, AndStmt,
 use Rattle.efl_scoped.specs.Answers.{IsScoped, IsFirst}
 use Rattle.efl_types.specs.Whole.{TellsWhole}
 use Rattle.efl_checks.specs.Answers.{typed_fault}
-use Rattle.front.specs.Checked.{Checked, Faulty}
+use Rattle.efl_typed.specs.Linking.{efl_meaning}
+use Rattle.efl_built.specs.Unbuilt.{first_unbuilt}
+use Rattle.efl_lower.specs.Lowered.{IsServed}
+use Rattle.front.specs.Checked.{Meaning, Checked, Faulty, Means}
 
--- ---- what is not built ----
+-- ---- what is built ----
 
 -- the first declaration of a procedure, or its first statement, or its end
 abbrev pub first_part : List EflDecl → EflStmts → Place → Place
@@ -26,20 +30,32 @@ abbrev pub unbuilt_place : List EflProcedure → Place → Place
 unbuilt_place [] finish = finish
 unbuilt_place (p ∷ ps) finish = first_part p.declarations p.body p.finish
 
--- what is accepted is not built
-abbrev pub unbuilt_of : EflProgram → Checked
-unbuilt_of tree = Faulty (fault_at (unbuilt_place tree.procedures tree.finish) Unbuilt)
+abbrev pub unbuilt_at : Place → Checked
+unbuilt_at place = Faulty (fault_at place Unbuilt)
+
+abbrev pub meaning_of : EflProgram → Meaning
+meaning_of tree input b = efl_meaning tree b input
+
+-- a tree all of whose forms are built means something where its units are a legal deck
+abbrev pub IsServing : EflProgram → Checked → Type 0
+IsServing tree c = (IsServed tree × (c ≡ Means (meaning_of tree))) ⊎ ((¬ IsServed tree) × (c ≡ unbuilt_at (unbuilt_place tree.procedures tree.finish)))
+
+-- a form that is not built is told where it stands
+abbrev pub IsBuilt : EflProgram → Option Place → Checked → Type 0
+IsBuilt tree (Some place) c = c ≡ unbuilt_at place
+IsBuilt tree None c = IsServing tree c
 
 -- ---- checks ----
 
-abbrev pub whole_of : EflProgram → Option Fault → Checked
-whole_of tree (Some fault) = Faulty fault
-whole_of tree None = unbuilt_of tree
+-- the first fault of the whole program, or what is said of a tree without one
+abbrev pub IsWhole : EflProgram → Option Fault → Checked → Type 0
+IsWhole tree (Some fault) c = c ≡ Faulty fault
+IsWhole tree None c = IsBuilt tree (first_unbuilt tree) c
 
--- the first fault of types and of the limit on all variables, or where there is none the first one of the whole program, or the first part of a tree without one
+-- the first fault of types and of the limit on all variables, or what is said behind them
 abbrev pub IsTyped : EflProgram → Option Fault → Checked → Type 0
 IsTyped tree (Some fault) c = c ≡ Faulty fault
-IsTyped tree None c = (o : Option Fault) × TellsWhole tree o × (c ≡ whole_of tree o)
+IsTyped tree None c = (o : Option Fault) × TellsWhole tree o × IsWhole tree o c
 
 -- the first fault of scopes, or what is said behind them
 abbrev pub IsJudged : EflProgram → Checked → Type 0

@@ -5,9 +5,7 @@ ghost use Rattle.macro_define.specs.GatherAnswers.{EndsText};
 ghost use Rattle.front.specs.Verdict.{IsChecked, file_name as name_of_file};
 ghost use Rattle.front.specs.Translated.{Finds, IsNamed, IsTranslated};
 
-use crate::Made;
-use crate::efl::refusal_of;
-use crate::ratfor::program_of;
+use crate::{Made, efl, ratfor};
 use gathered_tokens::gathered_are_few;
 use ground::{Dialect, List, Refusal, Text, Token};
 use macro_define::{Gathered, TextRefusal, gather};
@@ -50,8 +48,8 @@ fn made_of(alloc: Global, dialect: Dialect, tokens: List<Token>) -> Result<Made,
     ensures { Finds (IsChecked dialect tokens.items) result }
 {
     match dialect {
-        Dialect::Ratfor => program_of(alloc, tokens),
-        Dialect::Efl => Err(refusal_of(alloc, tokens)),
+        Dialect::Ratfor => ratfor::program_of(alloc, tokens),
+        Dialect::Efl => efl::program_of(alloc, tokens),
     }
 }
 
