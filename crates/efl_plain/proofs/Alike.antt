@@ -48,7 +48,7 @@ same_kinds i j k h g = ap (λ x. f66_calls.same_kind x j) h ∙ ap (f66_calls.sa
     itself Integer = refl
     itself Logical = refl
 
-no_array : (es : List (Text × Intrinsic)) (x : Text) → is_array (known es x) ≡ false
+pub no_array : (es : List (Text × Intrinsic)) (x : Text) → is_array (known es x) ≡ false
 no_array [] x = refl
 no_array (e ∷ es) x = either (bytes_eq e.0 x) (no_array es x)
   where

@@ -26,5 +26,12 @@ pub mod Said
 pub mod Alike
 pub mod Leads
 pub mod Linked
+pub mod Associated
+pub mod OneUnit
+pub mod Counted
+pub mod Mentioned
+pub mod PlainActs
+pub mod Rows
+pub mod Storage
 pub mod Short
 pub mod Sound

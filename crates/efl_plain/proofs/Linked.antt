@@ -40,7 +40,7 @@ use Rattle.efl_plain.specs.Matched.{AreMatched}
 use Rattle.efl_plain.proofs.Said.{NamesNone, no_blocks}
 use Rattle.efl_plain.proofs.Leads.{IsLed, unit_led}
 
-got_there : {X : Type 0} (xs : List X) (i : ℕ) (x : X) → slice_get xs i ≡ Some x → Contains xs x
+pub got_there : {X : Type 0} (xs : List X) (i : ℕ) (x : X) → slice_get xs i ≡ Some x → Contains xs x
 got_there xs i x e = (i, slice_get_within xs i x e, get_or_from_slice_get xs i x x e)
 
 none_named : {X : Type 0} (o : Option X) → is_none o ≡ true → o ≡ None
@@ -97,6 +97,10 @@ some_main end (u ∷ us) h = by_first (is_none u.name) refl (some_main end us)
     by_first false e later =
         let w = later (sym (ap (λ b. option_map (λ q. fault_at q MainCount) (main_fault end (cond b (u ∷ mains us) (mains us)))) e) ∙ h) in
         (suc w.0, w.1, w.2, w.3)
+
+-- so an accepted program has one
+pub main_there : (p : EflProgram) → TellsWhole p None → (i : ℕ) × (u : EflProcedure) × (slice_get p.procedures i ≡ Some u) × (is_none u.name ≡ true)
+main_there p whole = some_main p.finish p.procedures (first_none (option_map (λ x. fault_at x DuplicateUnit) (first_taken [] p.procedures)) _ (counts_told p whole).0)
 
 module _ (p : EflProgram) (none_on : HasNoCycle (edges_of p)) where
   -- a call of a procedure is an edge
@@ -194,7 +198,7 @@ module _ (p : EflProgram) (names : Naming) (apart : AreNames p names) (ready : A
   pub one_main : (q : Part) → ¬ MiscountsMain made q
   one_main q (second u v r s e f lt h k at) = let a = main_is u r e h in let b = main_is v s f k in omega (a, b, lt, arith)
   one_main q (none h at) =
-      let m = some_main p.finish p.procedures (first_none (option_map (λ x. fault_at x DuplicateUnit) (first_taken [] p.procedures)) _ (counts_told p whole).0) in
+      let m = main_there p whole in
       let r : Routine = unit_of names p m.0 m.1 in
       true≢false (sym (main_header p names m.0 m.1 ∙ m.3) ∙ h r (got_there Rs m.0 r (unit_at p names m.0 m.1 m.2)))
 

@@ -3,4 +3,5 @@ pub mod Written
 pub mod Names
 pub mod Tree
 pub mod Matched
+pub mod Small
 pub mod Few

@@ -1,0 +1,3 @@
+-- The lemmas of efl_served.
+pub mod Ranked
+pub mod Served

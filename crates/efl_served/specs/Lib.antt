@@ -1,0 +1,3 @@
+-- The definitions that the contract of efl_served cites.
+pub mod Limits
+pub mod Laws

@@ -1,0 +1,2 @@
+-- The definitions that the contracts of efl_written cite.
+pub mod Laws

@@ -1,0 +1,2 @@
+-- The definitions of plain_decks.
+pub mod Few

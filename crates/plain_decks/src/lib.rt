@@ -1,0 +1,2 @@
+//! Plain units of FORTRAN with few operands, and the lemma that they fit their cards.
+#![tactic(auto)]
