@@ -108,7 +108,7 @@ module _ (home : ℕ → Text) (temp : Kind → ℕ → Text) (callee : ℕ → 
   by_actual P f g (Pair op a b) = g (Pair op a b) (record { makes = λ es. refl; passes = λ es n. refl; goes = λ p es n rest. refl })
   by_actual P f g (Assign op x a) = g (Assign op x a) (record { makes = λ es. refl; passes = λ es n. refl; goes = λ p es n rest. refl })
 
-  many_formulas : (es : Exprs) (n : ℕ) → many (formulas home temp callee es n) ≡ count es
+  pub many_formulas : (es : Exprs) (n : ℕ) → many (formulas home temp callee es n) ≡ count es
   many_formulas NoExpr n = refl
   many_formulas (AndExpr e es) n = omega (arith, many_formulas es (n + made e))
 

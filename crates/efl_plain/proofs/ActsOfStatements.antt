@@ -46,7 +46,7 @@ wider n h =
     and_from (nat_le 1 n) (nat_le n 255) parts.0 (le-leb n 255 (omega (low, arith)))
 
 -- what is asked of a format
-abbrev AreSound : Fields → Type 0
+abbrev pub AreSound : Fields → Type 0
 AreSound fs = (are_printed fs ≡ true) × (is_sound_format fs ≡ true)
 
 one_more : (s : Step) (fs : Fields) → is_printed_step s ≡ true → is_fit_edit 1 s ≡ true → AreSound fs → AreSound (Single 1 s fs)
@@ -62,13 +62,13 @@ edit_fits (AsInteger w) h = h
 edit_fits (AsLogical w) h = h
 edit_fits AsCharacter h = refl
 
-written_sound : (xs : List WriteItem) → ItemsAreWritten xs → AreSound (written_by xs)
+pub written_sound : (xs : List WriteItem) → ItemsAreWritten xs → AreSound (written_by xs)
 written_sound [] h = (refl, refl)
 written_sound (Value e d ∷ xs) h = one_more (step_by d) (written_by xs) (edit_printed d) (edit_fits d h.0.1) (written_sound xs h.1)
 written_sound (Skip i ∷ xs) h = one_more (fields.Blanks i) (written_by xs) refl (wider i h.0) (written_sound xs h.1)
 written_sound (Chars t ∷ xs) h = one_more (fields.Chars t) (written_by xs) h.0.1 (wider (length t) h.0.0) (written_sound xs h.1)
 
-read_sound : (xs : List ReadItem) → TakenAreWritten xs → AreSound (read_by xs)
+pub read_sound : (xs : List ReadItem) → TakenAreWritten xs → AreSound (read_by xs)
 read_sound [] h = (refl, refl)
 read_sound (Take x d ∷ xs) h = one_more (step_by d) (read_by xs) (edit_printed d) (edit_fits d h.0) (read_sound xs h.1)
 read_sound (Pass i ∷ xs) h = one_more (fields.Blanks i) (read_by xs) refl (wider i h.0) (read_sound xs h.1)

@@ -106,7 +106,7 @@ module _ (p : EflProgram) (names : Naming) where
           (matched n (ap is_some here))
 
       lines_led : Say (ActCalls Led c) (lines_of names p n u)
-      lines_led = lines_say (ActCalls Led c) (λ t xs. sizes_fine Led c xs) (λ l. tt) tt tt tt p names n u routes_led
+      lines_led = lines_say (ActCalls Led c) (λ t xs le. sizes_fine Led c xs) (λ l. tt) tt tt tt p names n u routes_led
 
       call_led : (line : Line) → Contains (lines_of names p n u) line → (k : Call) → Contains (calls_in c line.act) k → IsLed n c k
       call_led line at k has =

@@ -33,5 +33,6 @@ pub mod Mentioned
 pub mod PlainActs
 pub mod Rows
 pub mod Storage
+pub mod FewFormals
 pub mod Short
 pub mod Sound

@@ -24,16 +24,16 @@ abbrev pub ArePlainActs : EflProgram → Naming → ℕ → Type 0
 ArePlainActs p names n = AllActs (IsPlain (IsVariableName p names n) (IsFunctionName p names n) (IsProcedureName p names n)) (routes_of names p n)
 
 -- the type of a value, where there is one
-abbrev type_given : Result → Kind
+abbrev pub type_given : Result → Kind
 type_given (Gives k) = k
 type_given r = Integer
 
 module _ (p : EflProgram) (names : Naming) (ready : AreReady p names) (n : ℕ) where
   module _ (u : EflProcedure) (here : slice_get p.procedures n ≡ Some u) where
-    abbrev K : Kind
+    abbrev pub K : Kind
     K = type_given (result_of u.result)
 
-    given_alone : (k : Kind) → gives_kind p n k ≡ true → k ≡ K
+    pub given_alone : (k : Kind) → gives_kind p n k ≡ true → k ≡ K
     given_alone k h = sym (ap type_given (result_is k (result_of u.result) (sym (ap (is_some_and (gives k)) here) ∙ h)))
 
     gives_it : (k : Kind) → gives_kind p n k ≡ true → gives_kind p n K ≡ true

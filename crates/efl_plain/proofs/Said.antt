@@ -1,9 +1,10 @@
 -- What the lines of a unit say: a fact of what its routes say, of types of names and of what ends a unit holds of each line, and no line
 -- names a common block.
-use Rattle.std.proofs.Common.{◌≡◌, ℕ, zero, suc, Bool, true, false, List, [], ◌∷◌, ◌++◌, map, take, drop, length, Option, None, refl}
+use Rattle.std.proofs.Common.{◌≡◌, ◌≤◌, ℕ, zero, suc, Bool, true, false, List, [], ◌∷◌, ◌++◌, map, take, drop, length, Option, None, refl, arith}
 use Rattle.std.specs.Prelude.{is_none}
 use Rattle.std.specs.List.{All}
 use Rattle.std.proofs.lemmas.List.Elements.{All-nil, All-cons, All-append}
+use Rattle.std.proofs.lemmas.List.{length-take}
 use Rattle.ground.specs.declared.place.Place.{Place}
 use Rattle.ground.specs.declared.value.Kind.TheVariants.{Integer, Logical}
 use Rattle.f66_tree.specs.declared.declaration.TypeWord.{TypeWord}
@@ -25,11 +26,12 @@ module _ (P : Act → Type 0) where
   abbrev pub Say : List Line → Type 0
   Say lines = All (λ s. P s.act) lines
 
-  module _ (typed : (t : TypeWord) (xs : List Text) → P (Typed t (map declared_scalar xs))) where
+  -- of at most eight names
+  module _ (typed : (t : TypeWord) (xs : List Text) → length xs ≤ 8 → P (Typed t (map declared_scalar xs))) where
     types_say : (place : Place) (t : TypeWord) (most : ℕ) (xs : List Text) → Say (typed_lines most place t xs)
     types_say place t zero xs = All-nil (λ s. P s.act)
     types_say place t (suc most) [] = All-nil (λ s. P s.act)
-    types_say place t (suc most) (x ∷ xs) = All-cons (λ s. P s.act) _ (typed_lines most place t (drop on_a_card (x ∷ xs))) (typed t (take on_a_card (x ∷ xs))) (types_say place t most (drop on_a_card (x ∷ xs)))
+    types_say place t (suc most) (x ∷ xs) = All-cons (λ s. P s.act) _ (typed_lines most place t (drop on_a_card (x ∷ xs))) (typed t (take on_a_card (x ∷ xs)) (let m = length-take 8 (x ∷ xs) in omega (m, arith))) (types_say place t most (drop on_a_card (x ∷ xs)))
 
     pub lines_say : (goes : (l : ℕ) → P (Goto l)) → P Continue → P (Stop None) → P Return → (p : EflProgram) (names : Naming) (n : ℕ) (u : EflProcedure) → AllActs P (routes_of names p n) → Say (lines_of names p n u)
     lines_say goes goes_on stops returns p names n u ok =
@@ -86,4 +88,4 @@ mutual
   routes_name (AndRoute r rs) h = (route_names r h.0, routes_name rs h.1)
 
 pub no_blocks : (p : EflProgram) (names : Naming) (n : ℕ) (u : EflProcedure) → AllPlain (routes_of names p n) → Say NamesNone (lines_of names p n u)
-no_blocks p names n u plain = lines_say NamesNone (λ t xs b. refl) (λ l b. refl) (λ b. refl) (λ b. refl) (λ b. refl) p names n u (routes_name (routes_of names p n) plain)
+no_blocks p names n u plain = lines_say NamesNone (λ t xs le b. refl) (λ l b. refl) (λ b. refl) (λ b. refl) (λ b. refl) p names n u (routes_name (routes_of names p n) plain)

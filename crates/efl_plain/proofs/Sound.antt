@@ -59,13 +59,13 @@ module _ (ready : AcceptedIsReady) (scoped : AcceptedIsScoped) (room : NamingHas
   all_short = short p accepted.scopes whole tree
 
   module _ (n : ℕ) (u : EflProcedure) (here : slice_get p.procedures n ≡ Some u) where
-    abbrev V : Text → Kind → Type 0
+    abbrev pub V : Text → Kind → Type 0
     V = IsVariableName p N n
 
-    abbrev F : Text → Kind → Type 0
+    abbrev pub F : Text → Kind → Type 0
     F = IsFunctionName p N n
 
-    abbrev S : Text → Type 0
+    abbrev pub S : Text → Type 0
     S = IsProcedureName p N n
 
     abbrev rs : Routes
@@ -85,7 +85,7 @@ module _ (ready : AcceptedIsReady) (scoped : AcceptedIsScoped) (room : NamingHas
     new_label : (i : ℕ) → i < code.all_labels rs → IsLabel (N.made n i)
     new_label i lt = let most = few n is in (omega arith, omega (lt, most, arith))
 
-    unit_plain : IsPlainUnit V F S (unit_of N p n u)
+    pub unit_plain : IsPlainUnit V F S (unit_of N p n u)
     unit_plain =
         plain_unit V F S (N.made n) rs (header_of N (program_variables p) n u) (typed_of N p n Integer u.place ++ typed_of N p n Logical u.place) (is_none u.name) u.finish u.place
         (heads.header p N all_apart all_ready all_short n u here) (heads.typing p N all_apart all_ready all_short n u here u.place) (heads.once p N all_apart all_ready all_short n u here u.place)

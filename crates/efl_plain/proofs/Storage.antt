@@ -189,7 +189,7 @@ module _ (p : EflProgram) (names : Naming) (ready : AreReady p names) (acts : (n
     Ones a = AreOnes V F S (mentions_in c a)
 
     lines_ones : Say Ones lines
-    lines_ones = lines_say Ones (λ t xs. no_mentions xs) (λ l. tt) tt tt tt p names n u (all_fact (SaysOnes V F S c) Ones (λ a s. s.ones) (routes_of names p n) says)
+    lines_ones = lines_say Ones (λ t xs le. no_mentions xs) (λ l. tt) tt tt tt p names n u (all_fact (SaysOnes V F S c) Ones (λ a s. s.ones) (routes_of names p n) says)
 
     one_here : (q : Text) (m : Mention) → IsOne V F S m → is_variable q m ≡ true → IsHere q
     one_here q (AVariable x) h t = subst IsHere (sym (text_is q x t)) (variable_here x h.0 h.1)

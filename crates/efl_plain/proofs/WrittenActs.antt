@@ -1,7 +1,8 @@
 -- Conditions, acts and items of records that break no rule of types, and whose numbers are in their range, are written.
-use Rattle.std.proofs.Common.{◌≡◌, ℕ, true, List, [], ◌∷◌, ◌++◌, map, Option, None, Some, refl}
+use Rattle.std.proofs.Common.{◌≡◌, ◌+◌, ℕ, true, List, [], ◌∷◌, ◌++◌, map, Option, None, Some, refl, sym, ◌∙◌, arith}
 use Rattle.std.specs.Prelude.{ℤ, not, ◌||◌, flat_map, option_map}
-use Rattle.std.specs.List.{list_all}
+use Rattle.std.specs.List.{list_all, sum_by}
+use Rattle.std.proofs.lemmas.List.Sums.{sum_by-cons}
 use Rattle.ground.specs.declared.value.Kind.{Kind}
 use Rattle.f66_names.specs.Shapes.{is_printed}
 use Rattle.efl_tree.specs.declared.expression.EflOperator.{EflOperator}
@@ -21,7 +22,7 @@ use Rattle.efl_routes.specs.Expressions.{type_of}
 use Rattle.efl_lowered.specs.Grammatical.{operators_of, operators_if, operators_written}
 use Rattle.efl_lowered.proofs.TypedRules.{none_left, none_right, none_of_three}
 use Rattle.efl_lowered.proofs.TypedExpressions.{Keeps, Fine}
-use Rattle.efl_plain.specs.Written.{IsWritten, AreWritten, WrittenIfAny, EditIsWritten, ItemsAreWritten, TakenAreWritten, ActionIsWritten, ActionIfAny}
+use Rattle.efl_plain.specs.Written.{IsWritten, AreWritten, WrittenIfAny, EditIsWritten, edit_width, item_width, taken_width, ItemsAreWritten, TakenAreWritten, ActionIsWritten, ActionIfAny}
 use Rattle.efl_plain.specs.Tree.{numbers_of, numbers_if, numbers_written, text_written}
 use Rattle.efl_plain.proofs.WrittenExpressions.{Constant, operand_fits, expr_written, exprs_written}
 
@@ -33,6 +34,36 @@ edit_written : (f : EflEdit) → is_width (width f) ≡ true → EditIsWritten (
 edit_written (edits.Whole w) h = h
 edit_written (edits.Truth w) h = h
 edit_written edits.Letter h = tt
+
+same_width : (f : EflEdit) → edit_width (edit_of f) ≡ width f
+same_width (edits.Whole w) = refl
+same_width (edits.Truth w) = refl
+same_width edits.Letter = refl
+
+-- equal widths have equal sums
+sums_same : {X Y : Type 0} (f : Y → ℕ) (g : X → ℕ) (h : X → Y) → ((x : X) → f (h x) ≡ g x) → (xs : List X) → sum_by f (map h xs) ≡ sum_by g xs
+sums_same f g h e [] = refl
+sums_same f g h e (x ∷ xs) =
+    let own = e x in
+    let rest = sums_same f g h e xs in
+    let sum : f (h x) + sum_by f (map h xs) ≡ g x + sum_by g xs = omega (own, rest, arith) in
+    sum_by-cons f (h x) (map h xs) ∙ sum ∙ sym (sum_by-cons g x xs)
+
+-- an item has as many columns as the source gives it
+item_same : (c : Context) (x : efl.WriteItem) → item_width (written c x) ≡ written_width x
+item_same c (efl.Value e f) = same_width f
+item_same c (efl.WriteItem.Skip n) = refl
+item_same c (efl.Chars t) = refl
+
+taken_same : (c : Context) (x : efl.ReadItem) → taken_width (taken c x) ≡ read_width x
+taken_same c (efl.Take p f) = same_width f
+taken_same c (efl.ReadItem.Skip n) = refl
+
+pub written_widths : (c : Context) (xs : List efl.WriteItem) → sum_by item_width (map (written c) xs) ≡ sum_by written_width xs
+written_widths c xs = sums_same item_width written_width (written c) (item_same c) xs
+
+pub taken_widths : (c : Context) (xs : List efl.ReadItem) → sum_by taken_width (map (taken c) xs) ≡ sum_by read_width xs
+taken_widths c xs = sums_same taken_width read_width (taken c) (taken_same c) xs
 
 module _ (M : ℕ → Kind → Type 0) (F : ℕ → Kind → ℕ → Type 0) (C : ℕ → ℕ → Type 0) (c : Context) where
   -- the names that are used are fine, so are the operators of assignments, and numbers are in their range

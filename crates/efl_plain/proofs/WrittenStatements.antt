@@ -1,9 +1,9 @@
 -- Where no part of a statement breaks a rule of types, the names that they use are fine, and numbers and texts are as tokens give them, its
 -- typed statement is written.
-use Rattle.std.proofs.Common.{◌≡◌, ℕ, ◌+◌, Bool, true, false, List, [], ◌∷◌, ◌++◌, Option, None, Some, refl, ap, ◌∙◌, subst}
+use Rattle.std.proofs.Common.{◌≡◌, ◌≤◌, ℕ, ◌+◌, Bool, true, false, List, [], ◌∷◌, ◌++◌, Option, None, Some, refl, sym, ap, ◌∙◌, subst}
 use Rattle.std.specs.Prelude.{⊤, ℤ, not, nat_le, ◌||◌, sum_by, flat_map, option_map}
 use Rattle.std.specs.List.{list_all, slice_get}
-use Rattle.std.proofs.lemmas.Bool.{and_from}
+use Rattle.std.proofs.lemmas.Bool.{and_from, leb-true}
 use Rattle.ground.specs.declared.place.Place.{Place}
 use Rattle.ground.specs.declared.value.Kind.{Kind}
 use Rattle.ground.specs.declared.value.Kind.TheVariants as kinds
@@ -30,7 +30,7 @@ use Rattle.efl_lowered.proofs.TypedStatements.{at, part_typed, IsTypedPart}
 use Rattle.efl_plain.specs.Written.{IsWritten, WrittenIfAny, is_case, ActionIfAny, StmtIsWritten, AllWritten, ClausesAreWritten}
 use Rattle.efl_plain.specs.Tree.{numbers_of, numbers_if, numbers_written, numbers_read, numbers_by, numbers_in, constants_in, text_written, texts_in}
 use Rattle.efl_plain.proofs.WrittenExpressions.{Constant}
-use Rattle.efl_plain.proofs.WrittenActs.{Printed, Good, GoodIn, good_left, good_right, value_written, value_if_any, act_written, act_if_any, items_written, taken_written}
+use Rattle.efl_plain.proofs.WrittenActs.{Printed, Good, GoodIn, good_left, good_right, value_written, value_if_any, act_written, act_if_any, items_written, taken_written, written_widths, taken_widths}
 
 -- a constant of a clause
 abbrev pub Case : ℤ → Type 0
@@ -97,6 +97,9 @@ module _ (us : List EflProcedure) (xs : List Located) (n : ℕ) (u : EflProcedur
       fit_widths : (a b : Bool) → when (not a || not b) BadFormat ≡ [] → a ≡ true
       fit_widths a b h = denied a (neither (not a) (not b) (fails (not a || not b) BadFormat h)).0
 
+      fit_sums : (a : Bool) (m : ℕ) → when (not a || not (nat_le m 132)) BadFormat ≡ [] → m ≤ 132
+      fit_sums a m h = leb-true m 132 (denied (nat_le m 132) (neither (not a) (not (nat_le m 132)) (fails (not a || not (nat_le m 132)) BadFormat h)).1)
+
       write_written : (a : Around) (p : Place) (o : Option EflExpr) (is' : List efl.WriteItem) → KindFaults a (Write o is') → GoodBy a (Write o is') → Each Printed (flat_map text_written is') →
           IsWritten1 (kind_of (at1 a) p (Write o is'))
       write_written a p o is' h g t =
@@ -107,6 +110,7 @@ module _ (us : List EflProcedure) (xs : List Located) (n : ℕ) (u : EflProcedur
           let zs1 = flat_map numbers_written is' in (
             value_if_any M F C c kinds.Integer o hs.0 (good_left M F C c (uses_if o) us1 (operators_if o) os1 (numbers_if o) zs1 g),
             items_written M F C c is' hs.1 (good_right M F C c (uses_if o) us1 (operators_if o) os1 (numbers_if o) zs1 g) t (fit_widths (list_all (λ i. is_width (written_width i)) is') (nat_le (sum_by written_width is') 132) hs.2),
+            subst (λ m. m ≤ 132) (sym (written_widths c is')) (fit_sums (list_all (λ i. is_width (written_width i)) is') (sum_by written_width is') hs.2),
           )
 
       read_written : (a : Around) (p : Place) (o : Option EflExpr) (is' : List efl.ReadItem) → KindFaults a (Read o is') → GoodBy a (Read o is') → IsWritten1 (kind_of (at1 a) p (Read o is'))
@@ -115,6 +119,7 @@ module _ (us : List EflProcedure) (xs : List Located) (n : ℕ) (u : EflProcedur
           let hs = none_of_three (value_if c.names kinds.Integer o) (flat_map (read_faults c.names) is') (when (not (list_all (λ i. is_width (read_width i)) is') || not (nat_le (sum_by read_width is') 132)) BadFormat) h in (
             value_if_any M F C c kinds.Integer o hs.0 (each_left (Fine M F C c) (uses_if o) (flat_map uses_read is') g.0, g.1, each_left Constant (numbers_if o) (flat_map numbers_read is') g.2),
             taken_written M F C c is' (fit_widths (list_all (λ i. is_width (read_width i)) is') (nat_le (sum_by read_width is') 132) hs.2),
+            subst (λ m. m ≤ 132) (sym (taken_widths c is')) (fit_sums (list_all (λ i. is_width (read_width i)) is') (sum_by read_width is') hs.2),
           )
 
       labelled_written : (ls : List Text) (p : Place) (s : Stmt) → IsWritten1 s → IsWritten1 (labelled ls p s)

@@ -1,7 +1,7 @@
 -- What the source and its types give of typed trees, beyond what their lowering asks for: numbers and widths are in their ranges, texts
 -- have characters of cards, and each operand has the type that is asked for.
-use Rattle.std.specs.Prelude.{◌≡◌, ℤ, pos, negsuc, int_le, Bool, true, ◌&&◌, List, [], ◌∷◌, length, Option, Some, None, ⊤}
-use Rattle.std.specs.List.{list_all}
+use Rattle.std.specs.Prelude.{◌≡◌, ◌≤◌, ℕ, ℤ, pos, negsuc, int_le, Bool, true, ◌&&◌, List, [], ◌∷◌, length, Option, Some, None, ⊤}
+use Rattle.std.specs.List.{list_all, sum_by}
 use Rattle.ground.specs.declared.value.Kind.{Kind}
 use Rattle.ground.specs.declared.value.Kind.TheVariants.{Integer, Logical}
 use Rattle.f66_tree.specs.Built.{is_constant}
@@ -73,6 +73,21 @@ abbrev pub TakenAreWritten : List ReadItem → Type 0
 TakenAreWritten [] = ⊤
 TakenAreWritten (x ∷ xs) = TakenIsWritten x × TakenAreWritten xs
 
+-- the columns of an item
+abbrev pub edit_width : Edit → ℕ
+edit_width (AsInteger w) = w
+edit_width (AsLogical w) = w
+edit_width AsCharacter = 1
+
+abbrev pub item_width : WriteItem → ℕ
+item_width (Value e d) = edit_width d
+item_width (Skip n) = n
+item_width (Chars t) = length t
+
+abbrev pub taken_width : ReadItem → ℕ
+taken_width (Take x d) = edit_width d
+taken_width (Pass n) = n
+
 -- ---- statements ----
 
 -- a constant of a clause, which may have a sign
@@ -107,8 +122,8 @@ module _ (K : Kind) where
     StmtIsWritten (Return p None) = ⊤
     StmtIsWritten (Return p (Some e)) = (type_of e ≡ K) × IsWritten e
     StmtIsWritten (Goto p l) = ⊤
-    StmtIsWritten (Write p u items) = WrittenIfAny u × ItemsAreWritten items
-    StmtIsWritten (Read p u items) = WrittenIfAny u × TakenAreWritten items
+    StmtIsWritten (Write p u items) = WrittenIfAny u × ItemsAreWritten items × (sum_by item_width items ≤ 132)
+    StmtIsWritten (Read p u items) = WrittenIfAny u × TakenAreWritten items × (sum_by taken_width items ≤ 132)
     StmtIsWritten (Labelled l p s) = StmtIsWritten s
 
     pub AllWritten : Stmts → Type 0

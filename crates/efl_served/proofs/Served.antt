@@ -1,37 +1,49 @@
 -- An accepted program of EFL that keeps the limits of decks has units that are a legal deck.
-use Rattle.std.proofs.Common.{◌≡◌, ◌<◌, ◌≤◌, ℕ, true, List, [], ◌∷◌, length, arith}
-use Rattle.std.specs.List.{All, AllByRecursion}
+use Rattle.std.proofs.Common.{◌≡◌, ◌<◌, ◌≤◌, ℕ, suc, true, List, [], ◌∷◌, length, Some, refl, ap, subst, arith}
+use Rattle.std.specs.Prelude.{is_some}
+use Rattle.std.specs.List.{All, AllByRecursion, slice_get}
 use Rattle.std.proofs.lemmas.List.Elements.{All-tail}
 use Rattle.std.proofs.lemmas.Option.{slice_get_within}
+use Rattle.ground.specs.declared.value.Kind.{Kind}
 use Rattle.f66_tree.specs.Syntax.{Routine}
 use Rattle.f66_check.specs.Answers.{IsSoundUnit}
 use Rattle.f66_program.specs.Association.{IsBadUnit}
 use Rattle.f66_program.specs.Linking.{IsWhole}
 use Rattle.deck_link.specs.Linking.{AreClean}
 use Rattle.deck_laws.specs.Whole.{IsShallowUnit, IsSoundDeck}
+use Rattle.deck_laws.proofs.FittingTexts.{units_pass}
 use Rattle.deck_check.proofs.Decisions.{legal}
-use Rattle.efl_tree.specs.Syntax.{EflProgram}
+use Rattle.stmt_text.specs.Fitting.{IsPrintable}
+use Rattle.plain_units.specs.Units.{IsPlainUnit}
+use Rattle.plain_decks.specs.Few.{HasFewDummies}
+use Rattle.efl_tree.specs.Syntax.{EflProcedure, EflProgram}
+use Rattle.efl_scope.specs.Marks.{program_variables}
 use Rattle.efl_typed.specs.Typing.{bodies_of}
 use Rattle.efl_typed.specs.Laws.{AcceptedIsScoped}
-use Rattle.efl_lowered.specs.Lowering.{units_of}
-use Rattle.efl_lowered.specs.Facts.{is_unit, IsOverScalars, AreReady}
+use Rattle.efl_lowered.specs.Lowering.{header_of, lines_of, unit_of, units_of}
+use Rattle.efl_lowered.specs.Facts.{is_unit, gives_kind, IsOverScalars, AreReady}
 use Rattle.efl_lowered.specs.Needs.{all_need}
 use Rattle.efl_lowered.specs.Laws.{AcceptedIsReady}
-use Rattle.efl_lowered.proofs.UnitLemmas.{many_units}
+use Rattle.efl_lowered.proofs.UnitLemmas.{at_unit, many_units}
 use Rattle.efl_naming.specs.Choice.{naming_of}
 use Rattle.efl_naming.specs.Laws.{NamesAreApart, NamingHasRoom}
 use Rattle.efl_shape.specs.Laws.{BuiltIsOverScalars}
+use Rattle.efl_plain.specs.Names.{IsVariableName, IsFunctionName, IsProcedureName}
 use Rattle.efl_plain.specs.Tree.{IsWrittenTree}
+use Rattle.efl_plain.specs.Written.{AllWritten}
 use Rattle.efl_plain.proofs.Associated.{well}
 use Rattle.efl_plain.proofs.Linked.{main_there}
 use Rattle.efl_plain.proofs.MatchedBodies.{bodies_matched}
 use Rattle.efl_plain.proofs.PlainActs.{ArePlainActs, plain_acts}
-use Rattle.efl_plain.proofs.Sound.{units_are_sound}
+use Rattle.efl_plain.proofs.Said.{Say}
+use Rattle.efl_plain.proofs.Sound.{unit_plain, units_are_sound}
 use Rattle.efl_plain.proofs.Storage.{HasFewUnits, each_few, program_whole}
 use Rattle.efl_plain.proofs.WrittenBodies.{bodies_written}
 use Rattle.efl_lower.specs.Laws.{IsAccepted}
 use Rattle.efl_lower.specs.Lowered.{made_of, IsServed}
-use Rattle.efl_served.specs.Limits.{KeepsNesting, KeepsLimits}
+use Rattle.efl_served.specs.Limits.{KeepsLimits}
+use Rattle.efl_served.proofs.FewExpressions.{Short}
+use Rattle.efl_served.proofs.FewUnits.{header_short, lines_short, short_printable, short_shallow}
 use Rattle.efl_served.proofs.Ranked.{ranked}
 
 -- ---- units ----
@@ -46,10 +58,10 @@ all_clean (r ∷ rs) sound good few = (
   all_clean rs (All-tail IsSoundUnit r rs sound) (All-tail (λ r. ¬ IsBadUnit r) r rs good) (All-tail HasFewUnits r rs few),
 )
 
-all_shallow : (rs : List Routine) → All IsSoundUnit rs → AllByRecursion KeepsNesting rs → AllByRecursion IsShallowUnit rs
-all_shallow [] sound nesting = tt
-all_shallow (r ∷ rs) sound nesting =
-    (record { sound = sound 0 r (omega arith); whole = nesting.0.whole; shallow = nesting.0.shallow }, all_shallow rs (All-tail IsSoundUnit r rs sound) nesting.1)
+-- what holds of each place holds of each element
+everywhere : {X : Type 0} (P : X → Type 0) (xs : List X) → ((i : ℕ) (x : X) → slice_get xs i ≡ Some x → P x) → AllByRecursion P xs
+everywhere P [] f = tt
+everywhere P (x ∷ xs) f = (f 0 x refl, everywhere P xs (λ i y e. f (suc i) y e))
 
 -- ---- programs ----
 
@@ -63,8 +75,11 @@ module _ (scalars : BuiltIsOverScalars) (ready : AcceptedIsReady) (room : Naming
   able : AreReady p (naming_of p)
   able = ready p accepted.scopes accepted.types accepted.whole over accepted.shaped (naming_of p) (room p)
 
+  written : (n : ℕ) → is_unit p n ≡ true → (K : Kind) → ((k : Kind) → gives_kind p n k ≡ true → k ≡ K) → AllWritten K (bodies_of p n)
+  written n is = bodies_written p accepted.scopes accepted.types accepted.whole over accepted.shaped tree n is
+
   acts : (n : ℕ) → is_unit p n ≡ true → ArePlainActs p (naming_of p) n
-  acts n is = plain_acts p (naming_of p) able n is (bodies_written p accepted.scopes accepted.types accepted.whole over accepted.shaped tree n is)
+  acts n is = plain_acts p (naming_of p) able n is (written n is)
 
   -- there is as much room as is needed
   rooms : (n : ℕ) → (naming_of p).room n ≤ all_need (bodies_of p n) 0
@@ -83,10 +98,31 @@ module _ (scalars : BuiltIsOverScalars) (ready : AcceptedIsReady) (room : Naming
   some : 0 < length Rs
   some = let m = main_there p accepted.whole in let lt = slice_get_within p.procedures m.0 m.1 m.2 in let many = many_units p (naming_of p) in omega (lt, many, arith)
 
+  -- ---- texts ----
+
+  module _ (n : ℕ) (u : EflProcedure) (here : slice_get p.procedures n ≡ Some u) where
+    plain : IsPlainUnit (IsVariableName p (naming_of p) n) (IsFunctionName p (naming_of p) n) (IsProcedureName p (naming_of p) n) (unit_of (naming_of p) p n u)
+    plain = let r = ranked p accepted.scopes accepted.whole in unit_plain ready scoped room apart p r.0 r.1 accepted.types accepted.whole over accepted.shaped tree keeps.small keeps.labels n u here
+
+    header : HasFewDummies (header_of (naming_of p) (program_variables p) n u)
+    header = header_short p (naming_of p) able accepted.types keeps.arguments written n u here
+
+    lines : Say Short (lines_of (naming_of p) p n u)
+    lines = lines_short p (naming_of p) able accepted.types keeps.arguments written n u (ap is_some here)
+
+    fits_cards : IsPrintable (unit_of (naming_of p) p n u)
+    fits_cards = short_printable (IsVariableName p (naming_of p) n) (IsFunctionName p (naming_of p) n) (IsProcedureName p (naming_of p) n) (unit_of (naming_of p) p n u) plain header lines
+
+    is_shallow : IsShallowUnit (unit_of (naming_of p) p n u)
+    is_shallow = short_shallow (IsVariableName p (naming_of p) n) (IsFunctionName p (naming_of p) n) (IsProcedureName p (naming_of p) n) (unit_of (naming_of p) p n u) plain header lines
+
+  each_unit : (P : Routine → Type 0) → ((n : ℕ) (u : EflProcedure) → slice_get p.procedures n ≡ Some u → P (unit_of (naming_of p) p n u)) → AllByRecursion P Rs
+  each_unit P f = everywhere P Rs (λ n r e. let w = at_unit p (naming_of p) n r e in subst P w.2 (f n w.0 w.1))
+
   deck : IsSoundDeck Rs
   deck = record {
-    each = all_shallow Rs sound keeps.nesting;
-    texts = keeps.texts;
+    each = each_unit IsShallowUnit is_shallow;
+    texts = units_pass Rs (each_unit IsPrintable fits_cards);
     some = some;
     few = keeps.few;
     statements = keeps.statements;

@@ -8,7 +8,7 @@ use efl_typed::accepted_is_scoped;
 use efl_written::grammar_is_written;
 
 /// A program that the published grammar derives from written tokens and the checks accept, and all of whose forms are built, has units that
-/// are a legal deck, where these keep the limits of decks.
+/// are a legal deck, where these and the program keep the limits.
 pub fn accepted_is_served()
     ensures { AcceptedIsServed }
 {
