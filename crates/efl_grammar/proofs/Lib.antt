@@ -8,6 +8,7 @@ mod ExpressionsRead
 mod DeclarationsRead
 mod StatementsRead
 mod AllSteps
+pub mod ProcedureRead
 mod ExpressionsFound
 mod ListsFound
 mod DeclarationsFound

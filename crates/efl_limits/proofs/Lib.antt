@@ -1,0 +1,19 @@
+-- The lemmas of efl_limits.
+pub mod Needs
+pub mod SourceLabels
+pub mod ExpressionLabels
+pub mod StatementLabels
+pub mod Tokens
+pub mod ExpressionTokens
+pub mod DeclarationTokens
+pub mod StatementTokens
+pub mod ProcedureTokens
+pub mod ProcedureTexts
+pub mod ProcedureSizes
+pub mod Bodies
+pub mod UseTokens
+pub mod DeclaredTokens
+pub mod PartTokens
+pub mod Storage
+pub mod Small
+pub mod Stored

@@ -1,0 +1,3 @@
+-- The definitions of efl_limits.
+pub mod Sizes
+pub mod Laws

@@ -1,0 +1,22 @@
+// The laws of the parser's limits. The functions do nothing: their contracts are the laws.
+ghost use Rattle.efl_limits.specs.Laws.{GrammarHasLittleStorage, ParsedHasFewLabels, ParsedIsSmall, ParsedNeedsFew};
+
+/// The labels of each unit of a program that the parser accepts fit five digits.
+pub fn parsed_has_few_labels()
+    ensures { ParsedHasFewLabels }
+{}
+
+/// Each unit of a program that the parser accepts needs 20,000 temporaries at most.
+pub fn parsed_needs_few()
+    ensures { ParsedNeedsFew }
+{}
+
+/// A program that the parser accepts, of no more tokens than a text may have, has names enough for its parts.
+pub fn parsed_is_small()
+    ensures { ParsedIsSmall }
+{}
+
+/// A program that the published grammar derives from no more tokens than a text may have needs little storage.
+pub fn grammar_has_little_storage()
+    ensures { GrammarHasLittleStorage }
+{}
