@@ -3,4 +3,5 @@ pub mod Emitting
 pub mod Forms
 pub mod Items
 pub mod Lists
+pub mod Grouping
 pub mod Operands

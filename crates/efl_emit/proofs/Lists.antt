@@ -31,12 +31,12 @@ before_one : (xs : List Formula) (x : Formula) (fs : Formulas) → before_formul
 before_one [] x fs = refl
 before_one (y ∷ xs) x fs = ap (AndFormula y) (before_one xs x fs)
 
-before_none : (xs : List Formula) → before_formulas xs NoFormula ≡ chained xs
+pub before_none : (xs : List Formula) → before_formulas xs NoFormula ≡ chained xs
 before_none [] = refl
 before_none (x ∷ xs) = ap (AndFormula x) (before_none xs)
 
 -- one value more in memory
-more_formulas : (list more : List AnExpr) (x : AnExpr) (y : Formula) (fs : Formulas) → more ≡ list ++ x ∷ [] → formula_of x ≡ y → before_formulas (map formula_of more) fs ≡ before_formulas (map formula_of list) (AndFormula y fs)
+pub more_formulas : (list more : List AnExpr) (x : AnExpr) (y : Formula) (fs : Formulas) → more ≡ list ++ x ∷ [] → formula_of x ≡ y → before_formulas (map formula_of more) fs ≡ before_formulas (map formula_of list) (AndFormula y fs)
 more_formulas list more x y fs is e =
     ap (λ all. before_formulas (map formula_of all) fs) is
     ∙ ap (λ all. before_formulas all fs) (map-append formula_of list (x ∷ []))

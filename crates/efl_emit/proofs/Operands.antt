@@ -16,13 +16,13 @@ use Rattle.efl_program.specs.Typed as typed
 use Rattle.efl_program.specs.Typed.{Op, Plain, AndThen, OrElse, Expr, Exprs, NoExpr, Site, Variable, Scalar}
 use Rattle.routes.specs.Routes.{BreakIf, Ring, Routes, NoRoute, AndRoute, only}
 use Rattle.routes.specs.Code.{here}
-use Rattle.efl_routes.specs.Expressions.{made, made_in, made_for, formulas, actuals, all_routes, actual_routes, sets, decided, combined, kind_by, given_by, or_one, intrinsic_name}
+use Rattle.efl_routes.specs.Expressions.{made, made_in, made_for, formulas, actuals, all_routes, actual_routes, sets, decided, combined, gathered, kind_by, given_by, or_one, intrinsic_name}
 use Rattle.efl_emit.specs.declared.naming.Naming.{Naming}
 use Rattle.efl_emit.specs.declared.operand.Evaluated.{Evaluated}
 use Rattle.efl_emit.specs.declared.arguments.Arguments.{Arguments}
 use Rattle.efl_emit.specs.Emitted.{Emission, Puts, Makes, Emitted}
 use Rattle.efl_emit.specs.Names.{home_of, temp_of, callee_of, made_of, operand_of}
-use Rattle.efl_emit.specs.Parts.{routes_of, value_of, place_formula, IsSet, IsEvaluated, IsCombined, IsStepped, IsLast, IsSequential, AreEvaluated, AreActuals}
+use Rattle.efl_emit.specs.Parts.{routes_of, value_of, place_formula, IsSet, IsEvaluated, IsCombined, IsStepped, IsLast, IsSequential, IsGathered, AreEvaluated, AreActuals}
 use Rattle.efl_emit.proofs.Emitting.{both, put_break_if, ringed, both_emitted, put_emitted}
 
 pub set_alone : {made : ℕ → ℕ} {p : Place} {k : Kind} {m : ℕ} {x : Formula} {q : Evaluated} {a b : Emission} (n : ℕ) (y : Formula) → IsSet p k m x q a b → m ≡ n → x ≡ y → Emitted made (AndRoute (sets p (Ref (temp_of k n)) y)) a b
@@ -184,12 +184,15 @@ call_done {s} {p} {v} {n} {k} {es} h g is =
       next = omega (arith, g.next, h.next);
     }
 
-pub known_done : {s : Naming} {p : Place} {f : Intrinsic} {n : ℕ} {es : Exprs} {r : Arguments} {q : Evaluated} {x : Formula} {a b c : Emission} →
-    AreEvaluated s p es n r a b → IsSet p Integer r.next x q b c → x ≡ f66.Item (intrinsic_name f) (formulas_of r.list.items) → IsEvaluated s p (typed.Known f es) n q a c
-known_done {s} {p} {f} {n} {es} h g is =
+pub known_done : {s : Naming} {p : Place} {f : Intrinsic} {n : ℕ} {es : Exprs} {r : Arguments} {q : Evaluated} {a b c : Emission} →
+    AreEvaluated s p es n r a b → IsGathered p (intrinsic_name f) r.next (formulas_of r.list.items) q b c → IsEvaluated s p (typed.Known f es) n q a c
+known_done {s} {p} {f} {n} {es} {r} {q} {a} {b} {c} h g =
     let all = λ (rest : Routes). all_routes (home_of s) temp_of (callee_of s) p es n rest in
+    let t = n + made_in es in
+    let fs = formulas (home_of s) temp_of (callee_of s) es n in
+    let x = subst (λ v. IsGathered p (intrinsic_name f) t v q b c) h.formulas (subst (λ v. IsGathered p (intrinsic_name f) v (formulas_of r.list.items) q b c) h.next g) in
     record {
-      emitted = set_behind all (n + made_in es) (f66.Item (intrinsic_name f) (formulas (home_of s) temp_of (callee_of s) es n)) h.emitted g h.next (is ∙ ap (f66.Item (intrinsic_name f)) h.formulas);
-      operand = g.operand ∙ ap (at_last Integer) h.next;
-      next = omega (arith, g.next, h.next);
+      emitted = both_emitted all (gathered p (intrinsic_name f) (Ref (temp_of Integer t)) fs) h.emitted (x.emitted (made_of s));
+      operand = x.operand;
+      next = omega (arith, x.next);
     }

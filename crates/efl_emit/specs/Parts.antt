@@ -1,16 +1,16 @@
 -- What is emitted for the parts of statements.
-use Rattle.std.specs.Prelude.{◌≡◌, ℕ, ◌+◌, pos, Option, Some, None, ⊤}
+use Rattle.std.specs.Prelude.{◌≡◌, ◌⊎◌, ℕ, ◌+◌, ◌<◌, ◌≤◌, List, [], ◌∷◌, length, pos, Option, Some, None, ⊤}
 use Rattle.ground.specs.declared.place.Place.{Place}
 use Rattle.ground.specs.declared.value.Kind.{Kind}
 use Rattle.ground.specs.declared.value.Kind.TheVariants.{Integer, Logical}
 use Rattle.f66_tree.specs.declared.expression.Expr.{Expr as AnExpr}
 use Rattle.f66_tree.specs.declared.expression.Operator.{Operator}
-use Rattle.f66_tree.specs.Syntax.{Formula, Ref, Int, Group, Assign, unlabelled_line}
+use Rattle.f66_tree.specs.Syntax.{Text, Formula, Formulas, Ref, Int, Item, Group, Assign, unlabelled_line}
 use Rattle.f66_tree.specs.Views.{formula_of, formulas_of}
 use Rattle.efl_program.specs.Typed.{Expr, Exprs, Site, Op, Plain}
 use Rattle.routes.specs.Routes.{Routes, AndRoute}
 use Rattle.efl_room.specs.Actuals.{place_in}
-use Rattle.efl_routes.specs.Expressions.{made, made_in, made_for, formula, formulas, actuals, routes, all_routes, actual_routes, site_formula, combined, kind_by, sets}
+use Rattle.efl_routes.specs.Expressions.{made, made_in, made_for, formula, formulas, actuals, routes, all_routes, actual_routes, site_formula, combined, gathered, kind_by, sets}
 use Rattle.efl_emit.specs.declared.naming.Naming.{Naming}
 use Rattle.efl_emit.specs.declared.operand.Evaluated.{Evaluated}
 use Rattle.efl_emit.specs.declared.arguments.Arguments.{Arguments}
@@ -30,6 +30,28 @@ place_formula s x = site_formula (home_of s) temp_of (callee_of s) x
 pub record IsSet (p : Place) (k : Kind) (n : ℕ) (x : Formula) (r : Evaluated) (before after : Emission) : Type 0 where
   pub put : Puts (unlabelled_line p (Assign (Ref (temp_of k n)) x)) before after
   pub operand : operand_of r.operand ≡ Ref (temp_of k n)
+  pub next : r.next ≡ n + 1
+
+-- a temporary got what an intrinsic function gives of these arguments
+abbrev pub IsOfGroup : Place → Text → ℕ → List AnExpr → Evaluated → Emission → Emission → Type 0
+IsOfGroup p x n group r before after = IsSet p Integer n (Item x (formulas_of group)) r before after
+
+-- the arguments of a full group gave the temporary its value, and it begins the next group
+pub record IsNextGroup (p : Place) (x : Text) (n : ℕ) (group more : List AnExpr) (before after : Emission) : Type 0 where
+  pub full : 60 ≤ length group
+  pub put : Puts (unlabelled_line p (Assign (Ref (temp_of Integer n)) (Item x (formulas_of group)))) before after
+  pub first : AnExpr
+  pub begins : more ≡ first ∷ []
+  pub own : formula_of first ≡ Ref (temp_of Integer n)
+
+-- a group has room for one argument more, or a next one was begun
+abbrev pub HasRoom : Place → Text → ℕ → List AnExpr → List AnExpr → Emission → Emission → Type 0
+HasRoom p x n group more before after = ((length group < 60) × (more ≡ group) × (after ≡ before)) ⊎ IsNextGroup p x n group more before after
+
+-- a temporary got what an intrinsic function gives of these formulas, by groups
+pub record IsGathered (p : Place) (x : Text) (n : ℕ) (es : Formulas) (r : Evaluated) (before after : Emission) : Type 0 where
+  pub emitted : (made : ℕ → ℕ) → Emitted made (gathered p x (Ref (temp_of Integer n)) es) before after
+  pub operand : operand_of r.operand ≡ Ref (temp_of Integer n)
   pub next : r.next ≡ n + 1
 
 -- an expression was emitted where n temporaries are in use: its operand, and the number of the next temporary

@@ -8,8 +8,8 @@ ghost use Rattle.efl_emit.specs.Names.{emission_of, operand_of};
 ghost use Rattle.efl_emit.specs.Parts.{AreActuals, AreEvaluated, IsActual, IsCombined, IsEvaluated, IsLast, IsSequential, IsStepped};
 
 use crate::{
-    Arguments, Emitter, Evaluated, Naming, Operand, boxed_operand, intrinsic_name, load, made,
-    operand_expr, operand_not, operand_pair, or_one, place_in, plus, put_choice, set_temporary,
+    Arguments, Emitter, Evaluated, Naming, Operand, boxed_operand, load, made, operand_expr,
+    operand_not, operand_pair, or_one, place_in, plus, put_choice, set_gathered, set_temporary,
     store,
 };
 use efl_typed_tree::{Intrinsic, Scalar, TypedExpr, TypedOp};
@@ -359,14 +359,7 @@ fn emit_known(
     ensures { IfOk result (λ r. IsEvaluated naming.now place (typed.Known (intrinsic_of intrinsic) (exprs_of list.now)) number r (emission_of out.old) (emission_of out.new)) }
 {
     let all = emit_all(out, naming, place, list, number)?;
-    let name = intrinsic_name(out.alloc(), intrinsic)?;
-    set_temporary(
-        out,
-        place,
-        Kind::Integer,
-        all.next,
-        Expr::Item(name, all.list),
-    )
+    set_gathered(out, place, intrinsic, all.next, all.list)
 }
 
 // Expressions, one after another.

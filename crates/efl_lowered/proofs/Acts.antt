@@ -6,6 +6,7 @@ use Rattle.std.specs.Str.{bytes_eq}
 use Rattle.std.proofs.lemmas.List.Folds.{list_any-append}
 use Rattle.ground.specs.declared.place.Place.{Place}
 use Rattle.ground.specs.declared.value.Kind.{Kind}
+use Rattle.ground.specs.declared.value.Kind.TheVariants.{Integer}
 use Rattle.f66_tree.specs.declared.editing.Way.TheVariants.{Reading, Writing}
 use Rattle.f66_tree.specs.Syntax as f66
 use Rattle.f66_tree.specs.Syntax.{Text, Formula, Formulas, NoFormula, AndFormula, Par, Constant, Named, Entries, Line}
@@ -18,9 +19,10 @@ use Rattle.routes.specs.Routes.{Route, Plain, BreakIf, Break, Ring, Cycle, Block
 use Rattle.routes.specs.Code.{Behind, jump, here, labels, all_labels, code_of, all_code}
 use Rattle.routes.specs.Placed.{IsPlain}
 use Rattle.routes.specs.Numbered.{OnlyPlain, AllPlain}
-use Rattle.efl_routes.specs.Expressions.{intrinsic_name, made, or_one, formula, formulas, actuals, routes, all_routes, actual_routes, combined, Scalars, AllScalars}
+use Rattle.efl_routes.specs.Expressions.{intrinsic_name, made, made_in, or_one, formula, formulas, actuals, routes, all_routes, actual_routes, combined, Scalars, AllScalars}
 use Rattle.efl_routes.specs.Statements.{Around, Other, route, all_route, clause_route, default_route, signed, case_routes, item_routes, entries, read_entries, store_routes, unit_par, first_if_any, unless_any, if_any, act_routes, made_if_any, Ready, AllReady, ClausesReady, FitAct, ActIfAny, ConditionIfAny, FitIfAny, ItemsFit, TakenFit}
 use Rattle.efl_routes.specs.Statements as statements
+use Rattle.efl_routes.proofs.Gathering.{EachFormula, gathered_hold}
 
 module _ (T : Type 0) (q : Text) (c : Context) where
   abbrev names_it : Mention → Bool
@@ -129,9 +131,16 @@ module _ (T : Type 0) (q : Text) (c : Context) where
     leaf_quiet (Assign None x e) n = leaf_quiet e n
     leaf_quiet (Assign (Some op) x e) n = refl
 
-    leaves_quiet : (es : Exprs) (n : ℕ) → list_any (is_function q) (mentions_of_all c (formulas home temp callee es n)) ≡ false
-    leaves_quiet NoExpr n = refl
-    leaves_quiet (AndExpr e es) n = quiet_on (mentions_of c (formula home temp callee e n)) (mentions_of_all c (formulas home temp callee es (n + made e))) (leaf_quiet e n) (leaves_quiet es (n + made e))
+    abbrev QuietFormula : Formula → Type 0
+    QuietFormula e = list_any (is_function q) (mentions_of c e) ≡ false
+
+    leaves_quiet : (es : Exprs) (n : ℕ) → EachFormula QuietFormula (formulas home temp callee es n)
+    leaves_quiet NoExpr n = tt
+    leaves_quiet (AndExpr e es) n = (leaf_quiet e n, leaves_quiet es (n + made e))
+
+    each_quiet : (es : Formulas) → EachFormula QuietFormula es → list_any (is_function q) (mentions_of_all c es) ≡ false
+    each_quiet NoFormula h = refl
+    each_quiet (AndFormula e es) h = quiet_on (mentions_of c e) (mentions_of_all c es) h.0 (each_quiet es h.1)
 
     value_quiet : (e : Expr) (es : Exprs) (n : ℕ) → list_any (is_function q) (mentions_of_all c (actuals home temp callee es (n + made e))) ≡ false → list_any (is_function q) (mentions_of c (formula home temp callee e n) ++ mentions_of_all c (actuals home temp callee es (n + made e))) ≡ false
     value_quiet e es n h = quiet_on (mentions_of c (formula home temp callee e n)) (mentions_of_all c (actuals home temp callee es (n + made e))) (leaf_quiet e n) h
@@ -167,7 +176,9 @@ module _ (T : Type 0) (q : Text) (c : Context) where
         expr_quiet (At x) h p n rest ok = ((tt, λ t. refl), ok)
         expr_quiet (Call v k es) h p n rest ok =
             actual_quiet es h.1 p n _ ((tt, λ t. item_quiet (callee v) (or_one (actuals home temp callee es n)) (free v k _ h.0 t) (or_one_quiet (actuals home temp callee es n) (actuals_quiet es n))), ok)
-        expr_quiet (Known g es) h p n rest ok = exprs_quiet es h p n _ ((tt, λ t. item_quiet (intrinsic_name g) (formulas home temp callee es n) (known g t) (leaves_quiet es n)), ok)
+        expr_quiet (Known g es) h p n rest ok =
+            exprs_quiet es h p n _
+            (gathered_hold AllQuiet QuietFormula p (intrinsic_name g) (f66.Ref (temp Integer (n + made_in es))) (λ fs r k quiet. ((tt, λ t. item_quiet (intrinsic_name g) fs (known g t) (each_quiet fs k)), quiet)) refl (formulas home temp callee es n) rest (leaves_quiet es n) ok)
         expr_quiet (Group a) h p n rest ok = expr_quiet a h p n rest ok
         expr_quiet (efl.Plus a) h p n rest ok = expr_quiet a h p n _ ((tt, λ t. leaf_quiet a n), ok)
         expr_quiet (efl.Minus a) h p n rest ok = expr_quiet a h p n _ ((tt, λ t. leaf_quiet a n), ok)

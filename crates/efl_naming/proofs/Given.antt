@@ -1,9 +1,9 @@
 -- How often labels stand in the routes of a body, at most: as often as in the parts of the text.
-use Rattle.std.proofs.Common.{◌≡◌, ℕ, ◌+◌, ◌≤◌, ℤ, Bool, true, false, List, [], ◌∷◌, ◌++◌, map, Option, Some, None, refl, ◌∙◌, arith, if◌then◌else◌, ◌||◌}
+use Rattle.std.proofs.Common.{◌≡◌, ℕ, suc, zero, ◌+◌, ◌≤◌, ℤ, Bool, true, false, List, [], ◌∷◌, ◌++◌, map, Option, Some, None, refl, ◌∙◌, arith, if◌then◌else◌, ◌||◌}
 use Rattle.std.specs.Prelude.{nat_eq, option_map}
 use Rattle.ground.specs.declared.place.Place.{Place}
 use Rattle.ground.specs.declared.value.Kind.{Kind}
-use Rattle.f66_tree.specs.Syntax.{Text, Formula}
+use Rattle.f66_tree.specs.Syntax.{Text, Formula, Formulas, NoFormula, AndFormula}
 use Rattle.efl_tree.specs.declared.statement.LoopKind.TheVariants as loops
 use Rattle.efl_tree.specs.Syntax as efl
 use Rattle.efl_tree.specs.Syntax.{EflStmt, Statement, EflKind, EflStmts, EflCases, NoCase, AndCase}
@@ -14,7 +14,7 @@ use Rattle.efl_typed.proofs.Each.{Each, each_left, each_right}
 use Rattle.routes.specs.Routes.{Route, Routes}
 use Rattle.routes.specs.Numbered.{bit, given, all_given}
 use Rattle.efl_routes.specs.Expressions as ex
-use Rattle.efl_routes.specs.Expressions.{combined}
+use Rattle.efl_routes.specs.Expressions.{combined, further, gathered}
 use Rattle.efl_routes.specs.Statements as st
 use Rattle.efl_routes.specs.Statements.{route, all_route, clause_route, default_route}
 use Rattle.efl_lowered.specs.Grammatical.{default_constants}
@@ -33,13 +33,22 @@ module _ (home : ℕ → Text) (temp : Kind → ℕ → Text) (callee : ℕ → 
   combined_bare p AndThen left right e t rest h = omega (h, arith)
   combined_bare p OrElse left right e t rest h = omega (h, arith)
 
+  further_bare : (p : Place) (x : Text) (t : Formula) (m : ℕ) (es : Formulas) (rest : Routes) → all_given l (further p x t m es rest) ≡ all_given l rest
+  further_bare p x t zero NoFormula rest = refl
+  further_bare p x t (suc m) NoFormula rest = refl
+  further_bare p x t (suc m) (AndFormula e es) rest = further_bare p x t m es rest
+  further_bare p x t zero (AndFormula e es) rest = behind _ _ (further_bare p x t 58 es rest)
+
+  gathered_bare : (p : Place) (x : Text) (t : Formula) (es : Formulas) (rest : Routes) → all_given l (gathered p x t es rest) ≡ all_given l rest
+  gathered_bare p x t es rest = behind _ _ (further_bare p x t 60 es rest)
+
   mutual
     bare : (p : Place) (e : Expr) (n : ℕ) (rest : Routes) → all_given l (ex.routes home temp callee p e n rest) ≡ all_given l rest
     bare p (Int z) n rest = refl
     bare p (Truth b) n rest = refl
     bare p (At x) n rest = omega arith
     bare p (Call v k es) n rest = omega (actuals_bare p es n, arith)
-    bare p (Known g es) n rest = omega (all_bare p es n, arith)
+    bare p (Known g es) n rest = all_bare p es n _ ∙ gathered_bare p (ex.intrinsic_name g) _ (ex.formulas home temp callee es n) rest
     bare p (Group a) n rest = bare p a n rest
     bare p (Plus a) n rest = omega (bare p a n, arith)
     bare p (Minus a) n rest = omega (bare p a n, arith)

@@ -1,6 +1,7 @@
 -- The routes of a written expression have plain acts alone, and its formula is a constant or a variable of its type.
-use Rattle.std.proofs.Common.{◌≡◌, ℕ, ◌+◌, ◌<◌, ◌≤◌, None, Some, refl, sym, ap, ◌∙◌, subst, inl, inr, arith}
-use Rattle.std.specs.Prelude.{pos}
+use Rattle.std.proofs.Common.{◌≡◌, ℕ, suc, zero, true, ◌==◌, ◌+◌, ◌<◌, ◌≤◌, None, Some, refl, sym, ap, ◌∙◌, subst, inl, inr, arith}
+use Rattle.std.specs.Prelude.{pos, nat_le}
+use Rattle.std.proofs.lemmas.Bool.Decides.{nat_tests}
 use Rattle.ground.specs.declared.place.Place.{Place}
 use Rattle.ground.specs.declared.value.Kind.{Kind}
 use Rattle.ground.specs.declared.value.Kind.TheVariants.{Integer, Logical}
@@ -15,9 +16,9 @@ use Rattle.f66_names.specs.Uses.{many}
 use Rattle.efl_program.specs.Typed.{Op, Plain, AndThen, OrElse, Expr, Int, Truth, At, Call, Known, Group, Plus, Minus, Not, Up, Down, Pair, Assign, Exprs, NoExpr, AndExpr, Site}
 use Rattle.efl_program.specs.Places.{sort_of, kind_of}
 use Rattle.routes.specs.Routes.{Routes}
-use Rattle.plain_units.specs.Plain.{name_of, IsLeaf, AreLeaves, ArePassed, IsIntrinsic, IsFunction, IsValue, IsTest, IsPlain}
+use Rattle.plain_units.specs.Plain.{name_of, IsLeaf, AreLeaves, ArePassed, IsFunction, IsValue, IsTest, IsPlain}
 use Rattle.routed_units.specs.Routed.{AllActs}
-use Rattle.efl_routes.specs.Expressions.{given_by, kind_by, type_of, intrinsic_name, made, made_in, made_for, count, variable_of, or_one, combined, formula, formulas, actuals, routes, all_routes, actual_routes, ScalarSite, Scalars, AllScalars}
+use Rattle.efl_routes.specs.Expressions.{given_by, kind_by, type_of, intrinsic_name, made, made_in, made_for, count, variable_of, or_one, combined, first, further, gathered, formula, formulas, actuals, routes, all_routes, actual_routes, ScalarSite, Scalars, AllScalars}
 use Rattle.efl_routes.proofs.Calls.{scalar_site}
 use Rattle.efl_plain.specs.Written.{side, IsWritten, AreWritten, AreIntegers}
 
@@ -29,6 +30,21 @@ one_name Isign = refl
 one_name Idim = refl
 one_name Max0 = refl
 one_name Min0 = refl
+
+at_least : (k : ℕ) → nat_le 2 (k + 1 + 1) ≡ true
+at_least k = grind (arith, nat_tests)
+
+other_number : (n m : ℕ) → m < n → (n == m) ≡ true → ⊥
+other_number n m lt h = grind (arith, nat_tests)
+
+-- a function of three arguments or more takes two and any number more
+takes_more : (g : Intrinsic) (n : ℕ) → takes_many (arity g) (n + 1 + 1 + 1) ≡ true → (k : ℕ) → takes_many (arity g) (k + 1 + 1) ≡ true
+takes_more Max0 n h k = at_least k
+takes_more Min0 n h k = at_least k
+takes_more Iabs n h k = absurd (other_number (n + 1 + 1 + 1) 1 (omega arith) h)
+takes_more Mod n h k = absurd (other_number (n + 1 + 1 + 1) 2 (omega arith) h)
+takes_more Isign n h k = absurd (other_number (n + 1 + 1 + 1) 2 (omega arith) h)
+takes_more Idim n h k = absurd (other_number (n + 1 + 1 + 1) 2 (omega arith) h)
 
 -- what an operator gives, in EFL and in FORTRAN
 same_outcome : (op : Operator) → given_by op ≡ outcome op
@@ -158,12 +174,38 @@ module _ (home : ℕ → Text) (temp : Kind → ℕ → Text) (callee : ℕ → 
     called_value : (v : ℕ) (k : Kind) (es : Exprs) (n : ℕ) → Scalars M G (Call v k es) → AreWritten es → n + made_for es ≤ room → IsFunction V F S (callee v) (or_one (actuals home temp callee es n)) k
     called_value v k es n s w fit = record { gives = functions v k (count es) s.0; some = some_passed (actuals home temp callee es n); passed = or_one_passed V F S (actuals home temp callee es n) (actuals_passed es n s.1 w fit) }
 
-    known_value : (g : Intrinsic) (es : Exprs) (n : ℕ) → AllScalars M G es → IsWritten (Known g es) → n + made_in es ≤ room → IsIntrinsic V F S (intrinsic_name g) (formulas home temp callee es n) Integer
-    known_value g es n s w fit = record { intrinsic = g; name = one_name g; gives = refl; takes = ap (takes_many (arity g)) (many_formulas es n) ∙ w.0; leaves = leaves es n s w.1 w.2 fit }
-
     -- a temporary gets a value
     spare_plain : (k : Kind) (i : ℕ) (e : Formula) → i < room → IsValue V F S e k → IsPlain V F S (f66.Assign (Ref (temp k i)) e)
     spare_plain k i e h v = (k, temporaries k i h, v)
+
+    -- it gets what an intrinsic function gives of these arguments, or of these and others by groups
+    group_plain : (g : Intrinsic) (fs : Formulas) (i : ℕ) → takes_many (arity g) (many fs) ≡ true → AreLeaves V F S fs Integer → i < room → IsPlain V F S (f66.Assign (Ref (temp Integer i)) (Item (intrinsic_name g) fs))
+    group_plain g fs i takes all h = spare_plain Integer i (Item (intrinsic_name g) fs) h (inl (record { intrinsic = g; name = one_name g; gives = refl; takes = takes; leaves = all }))
+
+    first_leaves : (m : ℕ) (fs : Formulas) → AreLeaves V F S fs Integer → AreLeaves V F S (first m fs) Integer
+    first_leaves zero NoFormula h = tt
+    first_leaves (suc m) NoFormula h = tt
+    first_leaves zero (AndFormula e fs) h = tt
+    first_leaves (suc m) (AndFormula e fs) h = (h.0, first_leaves m fs h.1)
+
+    further_plain : (g : Intrinsic) → ((k : ℕ) → takes_many (arity g) (k + 1 + 1) ≡ true) → (p : Place) (i m : ℕ) (fs : Formulas) (rest : Routes) → AreLeaves V F S fs Integer → i < room → Acts rest → Acts (further p (intrinsic_name g) (Ref (temp Integer i)) m fs rest)
+    further_plain g more p i zero NoFormula rest all h ok = ok
+    further_plain g more p i (suc m) NoFormula rest all h ok = ok
+    further_plain g more p i (suc m) (AndFormula e fs) rest all h ok = further_plain g more p i m fs rest all.1 h ok
+    further_plain g more p i zero (AndFormula e fs) rest all h ok =
+        (group_plain g (AndFormula (Ref (temp Integer i)) (AndFormula e (first 58 fs))) i (more (many (first 58 fs))) (temporaries Integer i h, (all.0, first_leaves 58 fs all.1)) h, further_plain g more p i 58 fs rest all.1 h ok)
+
+    -- two arguments or more
+    more_plain : (g : Intrinsic) → ((k : ℕ) → takes_many (arity g) (k + 1 + 1) ≡ true) → (e d : Formula) (fs : Formulas) (i : ℕ) (rest : Routes) → AreLeaves V F S (AndFormula e (AndFormula d fs)) Integer → (p : Place) → i < room → Acts rest →
+        Acts (gathered p (intrinsic_name g) (Ref (temp Integer i)) (AndFormula e (AndFormula d fs)) rest)
+    more_plain g more e d fs i rest all p h ok =
+        (group_plain g (AndFormula e (AndFormula d (first 58 fs))) i (more (many (first 58 fs))) (all.0, (all.1.0, first_leaves 58 fs all.1.1)) h, further_plain g more p i 58 fs rest all.1.1 h ok)
+
+    known_plain : (g : Intrinsic) (fs : Formulas) (i : ℕ) (rest : Routes) → takes_many (arity g) (many fs) ≡ true → AreLeaves V F S fs Integer → (p : Place) → i < room → Acts rest → Acts (gathered p (intrinsic_name g) (Ref (temp Integer i)) fs rest)
+    known_plain g NoFormula i rest takes all p h ok = (group_plain g NoFormula i takes all h, ok)
+    known_plain g (AndFormula e NoFormula) i rest takes all p h ok = (group_plain g (AndFormula e NoFormula) i takes all h, ok)
+    known_plain g (AndFormula e (AndFormula d NoFormula)) i rest takes all p h ok = (group_plain g (AndFormula e (AndFormula d NoFormula)) i takes all h, ok)
+    known_plain g (AndFormula e (AndFormula d (AndFormula c fs))) i rest takes all p h ok = more_plain g (takes_more g (many fs) takes) e d (AndFormula c fs) i rest all p h ok
 
     -- an integer variable is put into a temporary, and gets what stands in one
     held : (x : Site) (n : ℕ) → ScalarSite M x → kind_of (sort_of x) ≡ Integer → n < room → IsPlain V F S (f66.Assign (Ref (temp Integer n)) (Ref (home (variable_of x))))
@@ -186,7 +228,7 @@ module _ (home : ℕ → Text) (temp : Kind → ℕ → Text) (callee : ℕ → 
           (spare_plain k (n + made_for es) (Item (callee v) (or_one (actuals home temp callee es n))) (omega (fit, arith)) (inr (called_value v k es n s w (omega (fit, arith)))), ok)
       expr_plain (Known g es) s w p n rest fit ok =
           exprs_plain es s w.2 p n _ (omega (fit, arith))
-          (spare_plain Integer (n + made_in es) (Item (intrinsic_name g) (formulas home temp callee es n)) (omega (fit, arith)) (inl (known_value g es n s w (omega (fit, arith)))), ok)
+          (known_plain g (formulas home temp callee es n) (n + made_in es) rest (ap (takes_many (arity g)) (many_formulas es n) ∙ w.0) (leaves es n s w.1 w.2 (omega (fit, arith))) p (omega (fit, arith)) ok)
       expr_plain (Group a) s w p n rest fit ok = expr_plain a s w p n rest fit ok
       expr_plain (Plus a) s w p n rest fit ok =
           let h : n + made a ≤ room = omega (fit, arith) in

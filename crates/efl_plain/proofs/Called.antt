@@ -3,6 +3,7 @@ use Rattle.std.proofs.Common.{ℕ, ◌+◌, ◌≤◌, Bool, true, false, List, 
 use Rattle.std.specs.Prelude.{ℤ, pos, negsuc, neg_ℤ, int_le, int_lt}
 use Rattle.ground.specs.declared.place.Place.{Place}
 use Rattle.ground.specs.declared.value.Kind.{Kind}
+use Rattle.ground.specs.declared.value.Kind.TheVariants.{Integer}
 use Rattle.f66_tree.specs.declared.expression.Operator.TheVariants.{Eq}
 use Rattle.f66_tree.specs.Syntax as f66
 use Rattle.f66_tree.specs.Syntax.{Text, Formula, Formulas, NoFormula, AndFormula, Par, Constant, Named, Entries}
@@ -19,6 +20,7 @@ use Rattle.efl_typed.proofs.Each.{Each}
 use Rattle.efl_routes.specs.Expressions.{intrinsic_name, made, made_in, made_for, count, or_one, formula, formulas, actuals, routes, all_routes, actual_routes, combined, Scalars, AllScalars}
 use Rattle.efl_routes.specs.Statements.{Around, Other, route, all_route, clause_route, default_route, signed, case_routes, item_routes, entries, read_entries, store_routes, unit_par, first_if_any, unless_any, if_any, act_routes, made_if_any, Ready, AllReady, ClausesReady, FitAct, ActIfAny, ConditionIfAny, FitIfAny, ItemsFit}
 use Rattle.efl_routes.specs.Statements as statements
+use Rattle.efl_routes.proofs.Gathering.{EachFormula, gathered_hold}
 use Rattle.efl_lowered.proofs.TypedChecks.{each_on}
 use Rattle.efl_plain.specs.Matched.{ExprCalls, ExprsCall, CallsIfAny, ActionCalls, ActionIfAny, ItemsCall, StmtCalls, StmtsCall, ClausesCall}
 use Rattle.efl_plain.proofs.Actuals.{by_actual}
@@ -92,9 +94,16 @@ module _ (Fine : calls.Call → Type 0) (c : Context) where
     leaf_fine (Assign None x e) n = leaf_fine e n
     leaf_fine (Assign (Some op) x e) n = (tt, tt)
 
-    leaves_fine : (es : Exprs) (n : ℕ) → AreFine (mentions_of_all c (formulas home temp callee es n))
+    abbrev FineFormula : Formula → Type 0
+    FineFormula e = AreFine (mentions_of c e)
+
+    leaves_fine : (es : Exprs) (n : ℕ) → EachFormula FineFormula (formulas home temp callee es n)
     leaves_fine NoExpr n = tt
-    leaves_fine (AndExpr e es) n = fine_on (mentions_of c (formula home temp callee e n)) (mentions_of_all c (formulas home temp callee es (n + made e))) (leaf_fine e n) (leaves_fine es (n + made e))
+    leaves_fine (AndExpr e es) n = (leaf_fine e n, leaves_fine es (n + made e))
+
+    each_fine : (es : Formulas) → EachFormula FineFormula es → AreFine (mentions_of_all c es)
+    each_fine NoFormula h = tt
+    each_fine (AndFormula e es) h = fine_on (mentions_of c e) (mentions_of_all c es) h.0 (each_fine es h.1)
 
     actuals_fine : (es : Exprs) (n : ℕ) → AreFine (mentions_of_all c (actuals home temp callee es n))
     actuals_fine NoExpr n = tt
@@ -120,7 +129,9 @@ module _ (Fine : calls.Call → Type 0) (c : Context) where
             let bound : n + made_for es ≤ room = omega (le, arith) in
             actual_fine es h.1 g.1 p n _ bound
             ((tt, (applied_fine (callee v) (or_one (actuals home temp callee es n)) (sort_of c (callee v)) (function v k es n h.0 h.1 bound g.0), or_one_fine (actuals home temp callee es n) (actuals_fine es n))), ok)
-        expr_fine (Known i es) h g p n rest le ok = exprs_fine es h g p n _ (omega (le, arith)) ((tt, (known i (formulas home temp callee es n), leaves_fine es n)), ok)
+        expr_fine (Known i es) h g p n rest le ok =
+            exprs_fine es h g p n _ (omega (le, arith))
+            (gathered_hold Fit FineFormula p (intrinsic_name i) (f66.Ref (temp Integer (n + made_in es))) (λ fs r k fit. ((tt, (known i fs, each_fine fs k)), fit)) (tt, tt) (formulas home temp callee es n) rest (leaves_fine es n) ok)
         expr_fine (Group a) h g p n rest le ok = expr_fine a h g p n rest le ok
         expr_fine (efl.Plus a) h g p n rest le ok = expr_fine a h g p n _ (omega (le, arith)) ((tt, leaf_fine a n), ok)
         expr_fine (efl.Minus a) h g p n rest le ok = expr_fine a h g p n _ (omega (le, arith)) ((tt, leaf_fine a n), ok)

@@ -1,14 +1,16 @@
 -- What passes through the routes of expressions and acts: where it holds of the routes that come next, it holds with theirs before them.
 use Rattle.std.proofs.Common.{ℕ, suc, ◌+◌, List, [], ◌∷◌, Option, Some, None}
+use Rattle.std.specs.Prelude.{⊤}
 use Rattle.ground.specs.declared.place.Place.{Place}
 use Rattle.ground.specs.declared.value.Kind.{Kind}
 use Rattle.f66_tree.specs.Syntax as f66
-use Rattle.f66_tree.specs.Syntax.{Text, Formula, Formulas}
+use Rattle.f66_tree.specs.Syntax.{Text, Formula, Formulas, NoFormula, AndFormula}
 use Rattle.efl_program.specs.Typed.{Op, Plain, AndThen, OrElse, Expr, Int, Truth, At, Call, Known, Group, Plus, Minus, Not, Up, Down, Pair, Assign, Exprs, NoExpr, AndExpr, WriteItem, Value, Skip, Chars, ReadItem, Take, Pass, Action, Evaluate, Invoke}
 use Rattle.routes.specs.Routes as routes
 use Rattle.routes.specs.Routes.{BreakIf, Ring, Routes, NoRoute, AndRoute}
 use Rattle.efl_routes.specs.Expressions as ex
-use Rattle.efl_routes.specs.Expressions.{combined, sets}
+use Rattle.efl_routes.specs.Expressions.{combined, gathered, sets}
+use Rattle.efl_routes.proofs.Gathering.{EachFormula, gathered_hold}
 use Rattle.efl_routes.specs.Statements as st
 
 -- it passes an assignment, a call, a test in a ring and a ring with a test, in so many rings
@@ -28,6 +30,13 @@ module _ (Q : Routes → ℕ → Type 0) (passes : Passes Q) where
   combined_passes p OrElse left right e t rest d through h =
       passes.set p t left _ d (passes.ring p _ rest d (passes.test p _ _ d (through _ (suc d) (passes.set p t e NoRoute (suc d) (passes.ends (suc d))))) h)
 
+  gathered_passes : (p : Place) (x : Text) (t : Formula) (es : Formulas) (rest : Routes) (d : ℕ) → Q rest d → Q (gathered p x t es rest) d
+  gathered_passes p x t es rest d h = gathered_hold (λ r. Q r d) (λ e. ⊤) p x t (λ fs r k i. passes.set p t (f66.Item x fs) r d i) tt es rest (each es) h
+    where
+      each : (fs : Formulas) → EachFormula (λ e. ⊤) fs
+      each NoFormula = tt
+      each (AndFormula e fs) = (tt, each fs)
+
   module _ (home : ℕ → Text) (temp : Kind → ℕ → Text) (callee : ℕ → Text) where
     mutual
       pub expr_passes : (p : Place) (e : Expr) (n : ℕ) (rest : Routes) (d : ℕ) → Q rest d → Q (ex.routes home temp callee p e n rest) d
@@ -35,7 +44,7 @@ module _ (Q : Routes → ℕ → Type 0) (passes : Passes Q) where
       expr_passes p (Truth b) n rest d h = h
       expr_passes p (At x) n rest d h = passes.set p _ _ rest d h
       expr_passes p (Call v k es) n rest d h = actuals_pass p es n _ d (passes.set p _ _ rest d h)
-      expr_passes p (Known g es) n rest d h = exprs_pass p es n _ d (passes.set p _ _ rest d h)
+      expr_passes p (Known g es) n rest d h = exprs_pass p es n _ d (gathered_passes p _ _ (ex.formulas home temp callee es n) rest d h)
       expr_passes p (Group a) n rest d h = expr_passes p a n rest d h
       expr_passes p (Plus a) n rest d h = expr_passes p a n _ d (passes.set p _ _ rest d h)
       expr_passes p (Minus a) n rest d h = expr_passes p a n _ d (passes.set p _ _ rest d h)

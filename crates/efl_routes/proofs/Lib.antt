@@ -6,6 +6,7 @@ pub mod Lowers
 pub mod Combined
 pub mod Changes
 pub mod Calls
+pub mod Gathering
 pub mod Actuals
 pub mod Procedures
 pub mod Expressions

@@ -1,7 +1,7 @@
 -- The routes that an expression of EFL becomes, before those that come next, and the formula that has its value there: a constant
 -- or a temporary, which nothing that comes later changes. Each operand is put into a temporary where its turn comes, so values,
 -- changes and traps come in the order of the source.
-use Rattle.std.specs.Prelude.{◌≡◌, ℕ, ◌+◌, pos, codes, Some, None, ⊤}
+use Rattle.std.specs.Prelude.{◌≡◌, ℕ, suc, zero, ◌+◌, pos, codes, Some, None, ⊤}
 use Rattle.ground.specs.declared.place.Place.{Place}
 use Rattle.ground.specs.declared.value.Kind.{Kind}
 use Rattle.ground.specs.declared.value.Kind.TheVariants.{Integer, Logical}
@@ -99,6 +99,22 @@ or_one (AndFormula e es) = AndFormula e es
 abbrev pub sets : Place → Formula → Formula → Route
 sets p t e = route_tree.Plain p (f66.Assign t e)
 
+-- the first few of some formulas
+abbrev pub first : ℕ → Formulas → Formulas
+first m NoFormula = NoFormula
+first zero (AndFormula e es) = NoFormula
+first (suc m) (AndFormula e es) = AndFormula e (first m es)
+
+-- the formulas behind the first m: t, which has what x gives of those before, gets what x gives of itself and of 59 more, and so on
+abbrev pub further : Place → Text → Formula → ℕ → Formulas → Routes → Routes
+further p x t m NoFormula rest = rest
+further p x t (suc m) (AndFormula e es) rest = further p x t m es rest
+further p x t zero (AndFormula e es) rest = AndRoute (sets p t (f66.Item x (AndFormula t (AndFormula e (first 58 es))))) (further p x t 58 es rest)
+
+-- t gets what an intrinsic function gives: a statement has 60 arguments at most, so that it is no longer than a statement may be
+abbrev pub gathered : Place → Text → Formula → Formulas → Routes → Routes
+gathered p x t es rest = AndRoute (sets p t (f66.Item x (first 60 es))) (further p x t 60 es rest)
+
 -- where a sequential operator has its value
 abbrev pub decided : Op → Formula → Formula
 decided OrElse t = t
@@ -149,7 +165,7 @@ module _ (home : ℕ → Text) (temp : Kind → ℕ → Text) (callee : ℕ → 
     routes p (Truth b) n rest = rest
     routes p (At x) n rest = AndRoute (sets p (made_up (kind_of (sort_of x)) n) (site_formula x)) rest
     routes p (Call v k es) n rest = actual_routes p es n (AndRoute (sets p (made_up k (n + made_for es)) (f66.Item (callee v) (or_one (actuals es n)))) rest)
-    routes p (Known g es) n rest = all_routes p es n (AndRoute (sets p (made_up Integer (n + made_in es)) (f66.Item (intrinsic_name g) (formulas es n))) rest)
+    routes p (Known g es) n rest = all_routes p es n (gathered p (intrinsic_name g) (made_up Integer (n + made_in es)) (formulas es n) rest)
     routes p (Group a) n rest = routes p a n rest
     routes p (Plus a) n rest = routes p a n (AndRoute (sets p (made_up Integer (n + made a)) (f66.Plus (formula a n))) rest)
     routes p (Minus a) n rest = routes p a n (AndRoute (sets p (made_up Integer (n + made a)) (f66.Minus (formula a n))) rest)

@@ -1,5 +1,5 @@
 -- The statements of an expression are those of its parts, in their order.
-use Rattle.std.proofs.Common.{◌+◌, ◌∙◌, ap, sym, subst, refl, arith}
+use Rattle.std.proofs.Common.{◌+◌, ◌∙◌, ap, sym, subst, arith}
 use Rattle.std.proofs.lemmas.Result.{IfOk-weaker}
 use Rattle.f66_tree.specs.Syntax as f66
 use Rattle.efl_typed_tree.specs.Views.{op_of}
@@ -47,7 +47,7 @@ pub emit_call-returns : goal.emit_call-returns
 emit_call-returns t c = IfOk-weaker c.set_temporary.result _ _ (λ r h. call_done c.in_ok-actuals.ensures h (item_is _ _ _ _ c.in_ok-name.ensures c.in_ok-list.ensures)) c.set_temporary.ensures
 
 pub emit_known-returns : goal.emit_known-returns
-emit_known-returns t c = IfOk-weaker c.set_temporary.result _ _ (λ r h. known_done c.in_ok-all.ensures h (item_is _ _ _ _ c.in_ok-name.ensures refl)) c.set_temporary.ensures
+emit_known-returns t c = IfOk-weaker c.set_gathered.result _ _ (λ r h. known_done c.in_ok-all.ensures h) c.set_gathered.ensures
 
 pub emit_all-loop-e-preserved : goal.emit_all-loop-e-preserved
 emit_all-loop-e-preserved t c =
