@@ -1,5 +1,5 @@
 -- How many bytes the cards of a deck have, where no text passes twenty cards.
-use Rattle.std.proofs.Common.{◌≡◌, ℕ, zero, suc, ◌+◌, ◌*◌, ◌≤◌, List, [], ◌∷◌, ◌++◌, length, length-append, map, None, refl, arith}
+use Rattle.std.proofs.Common.{◌≡◌, ℕ, zero, suc, ◌+◌, ◌*◌, ◌≤◌, ◌⊎◌, inl, inr, List, [], ◌∷◌, ◌++◌, length, length-append, map, None, refl, arith}
 use Rattle.std.specs.Prelude.{nat_lt, unwrap_or}
 use Rattle.std.specs.List.{flat_map}
 use Rattle.std.proofs.lemmas.List.{length-map}
@@ -20,10 +20,20 @@ columns_length [] left next = omega arith
 columns_length (c ∷ text) (suc left) next = omega (arith, columns_length text left next)
 columns_length (c ∷ text) zero next = omega (arith, columns_length text 65 (suc next))
 
-cards_few : (label : ℕ) (text : List ℕ) → length text ≤ 1320 → length (cards label text) ≤ 1460
+breaks_bound : (left : ℕ) (text : List ℕ) → (breaks left text ≡ 0) ⊎ (66 * breaks left text + left ≤ length text + 65)
+breaks_bound left [] = inl refl
+breaks_bound (suc left) (c ∷ text) = elim (breaks_bound left text) [ inl none ↦ inl none | inr few ↦ inr (omega (arith, few)) ]
+breaks_bound zero (c ∷ text) = elim (breaks_bound 65 text) [ inl none ↦ inr (omega (arith, none)) | inr few ↦ inr (omega (arith, few)) ]
+
+-- 73 bytes for each 66 characters, and seven more
+pub cards_low : (label : ℕ) (text : List ℕ) → 66 * length (cards label text) ≤ 73 * length text + 462
+cards_low label text = elim (breaks_bound 66 text) [ inl none ↦ omega (arith, columns_length text 66 1, none) | inr few ↦ omega (arith, columns_length text 66 1, few) ]
+
+-- the bytes of twenty cards
+pub cards_few : (label : ℕ) (text : List ℕ) → length text ≤ 1320 → length (cards label text) ≤ 1460
 cards_few label text short = omega (arith, columns_length text 66 1, breaks_few text short, short)
 
-text_short : (place : Place) (text : List ℕ) → fault_of_text place text ≡ None → length text ≤ 1320
+pub text_short : (place : Place) (text : List ℕ) → fault_of_text place text ≡ None → length text ≤ 1320
 text_short place text none = fits_by place (length text) (nat_lt 1320 (length text)) refl none
 
 lines_bytes : (lines : List Line) → first_fault fault_of_line lines ≡ None → length (flat_map statement_cards lines) ≤ 1460 * length lines

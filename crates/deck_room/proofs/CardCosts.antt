@@ -1,5 +1,5 @@
 -- The cards of a statement that is read back, and whose names have six characters at most, cost no more than what it says.
-use Rattle.std.proofs.Common.{◌≡◌, ℕ, zero, suc, ◌+◌, ◌*◌, ◌/◌, ◌%◌, ◌≤◌, Bool, true, false, ◌⊎◌, inl, inr, List, [], ◌∷◌, ◌++◌, length, length-append, Option, Some, None, refl, arith}
+use Rattle.std.proofs.Common.{◌≡◌, ℕ, zero, suc, ◌+◌, ◌/◌, ◌%◌, ◌≤◌, Bool, true, false, List, [], ◌∷◌, ◌++◌, length, length-append, Option, Some, None, refl, arith}
 use Rattle.std.specs.Prelude.{◌==◌, ◌||◌, nat_lt, codes, decimal, unsigned_abs, unwrap_or, if◌then◌else◌}
 use Rattle.std.specs.Fmt.{digits, digits_onto, digit_glyph}
 use Rattle.std.specs.List.{flat_map, list_any, AllByRecursion}
@@ -12,41 +12,17 @@ use Rattle.f66_tree.specs.declared.expression.Operator.TheVariants.{Add, Sub, Mu
 use Rattle.f66_tree.specs.Syntax.{Text, Formula, Int, Truth, Letter, Ref, Group, Pair, Par, Declared, Header, MainUnit, SubUnit, FuncUnit, DataUnit, Area, Act, Goto, When, Line, Routine}
 use Rattle.stmt_text.specs.Texts.{operator_text, truth_text, formula_text, type_text, commas, declared_text, areas_text, statement_text, header_text}
 use Rattle.stmt_text.proofs.TextLengths.{length-decimal}
-use Rattle.card_writer.specs.Cards.{columns, cards}
+use Rattle.card_writer.specs.Cards.{cards}
 use Rattle.stmt_reader.specs.Faults.{too_long, formula_has, declared_has, area_has, act_has}
 use Rattle.deck.specs.Decks.{statement_cards, header_cards, end_line, unit_cards, deck_of}
-use Rattle.deck.specs.LongTexts.{fault_of_text, fault_of_line, fault_of_header, first_fault, fault_of_unit, fault_of_deck}
+use Rattle.deck.specs.LongTexts.{fault_of_line, fault_of_header, first_fault, fault_of_unit, fault_of_deck}
 use Rattle.deck.specs.ReadableStatements.{IsReadableDeclared, IsReadableArea, AreSome, IsReadableBranch, assignment, jump, computed, sign, bare_call, call, read, write, continuation, stop, stop_number, return, IsReadableAct, branch, conditional, loop, format, typed, dimension, common, equivalence, preset}
-use Rattle.deck.specs.Written.{breaks}
 use Rattle.deck_laws.specs.Fitting.{HasShortNames, IsFittingLine, IsFittingUnit}
 use Rattle.deck_laws.specs.Headers.{IsReadableHeader}
-use Rattle.deck_laws.proofs.WritableLines.{breaks_few, none_both, fits_by}
+use Rattle.deck_laws.proofs.CardBytes.{cards_low, cards_few, text_short}
+use Rattle.deck_laws.proofs.WritableLines.{none_both}
 use Rattle.rat_room.proofs.Weights.{total}
 use Rattle.deck_room.proofs.Costs.{test_cost, when_cost, declared_worth, area_worth, act_cost, line_cost, header_cost, unit_cost}
-
--- ---- texts ----
-
--- each continuation adds the end of a line and six columns
-columns_length : (text : List ℕ) (left next : ℕ) → length (columns left next text) ≡ length text + 7 * breaks left text + 1
-columns_length [] left next = omega arith
-columns_length (c ∷ text) (suc left) next = omega (arith, columns_length text left next)
-columns_length (c ∷ text) zero next = omega (arith, columns_length text 65 (suc next))
-
-breaks_bound : (left : ℕ) (text : List ℕ) → (breaks left text ≡ 0) ⊎ (66 * breaks left text + left ≤ length text + 65)
-breaks_bound left [] = inl refl
-breaks_bound (suc left) (c ∷ text) = elim (breaks_bound left text) [ inl none ↦ inl none | inr few ↦ inr (omega (arith, few)) ]
-breaks_bound zero (c ∷ text) = elim (breaks_bound 65 text) [ inl none ↦ inr (omega (arith, none)) | inr few ↦ inr (omega (arith, few)) ]
-
--- 73 bytes for each 66 characters, and seven more
-cards_low : (label : ℕ) (text : List ℕ) → 66 * length (cards label text) ≤ 73 * length text + 462
-cards_low label text = elim (breaks_bound 66 text) [ inl none ↦ omega (arith, columns_length text 66 1, none) | inr few ↦ omega (arith, columns_length text 66 1, few) ]
-
--- the bytes of twenty cards
-cards_few : (label : ℕ) (text : List ℕ) → length text ≤ 1320 → length (cards label text) ≤ 1460
-cards_few label text short = omega (arith, columns_length text 66 1, breaks_few text short, short)
-
-text_short : (place : Place) (text : List ℕ) → fault_of_text place text ≡ None → length text ≤ 1320
-text_short place text none = fits_by place (length text) (nat_lt 1320 (length text)) refl none
 
 -- ---- names and numbers ----
 

@@ -17,3 +17,10 @@ pub mod PartTokens
 pub mod Storage
 pub mod Small
 pub mod Stored
+pub mod ProcedureCounts
+pub mod RouteBytes
+pub mod ExpressionBytes
+pub mod StatementBytes
+pub mod NameCounts
+pub mod UnitBytes
+pub mod DeckBytes

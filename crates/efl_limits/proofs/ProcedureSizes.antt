@@ -29,7 +29,7 @@ use Rattle.efl_typed.specs.Typing.{Context, context_in, stmts_from}
 use Rattle.efl_types.specs.Signatures.{result_of}
 use Rattle.rat_room.proofs.TreeWeights.{tokens, tokens_all, Each, offered_by}
 use Rattle.efl_limits.specs.Sizes.{stmts_size}
-use Rattle.efl_limits.proofs.Tokens.{Before, one, word, name, lines, stop, listed, perhaps, several}
+use Rattle.efl_limits.proofs.Tokens.{Before, one, word, name, lines, stop, each_listed, perhaps, several}
 use Rattle.efl_limits.proofs.DeclarationTokens.{type_taken, outer}
 use Rattle.efl_limits.proofs.StatementTokens.{statements}
 use Rattle.efl_limits.proofs.ProcedureTokens.{procedure_few}
@@ -37,22 +37,22 @@ use Rattle.efl_limits.proofs.ProcedureTexts.{Past, procedures_good}
 
 -- ---- the tokens of a procedure ----
 
-pub dummy : {a b : Tokens} {x : Text} → Name a b x → Before 0 a b
-dummy q = omega (arith, name q)
+pub dummy : {a b : Tokens} {x : Text} → Name a b x → Before 1 a b
+dummy q = name q
 
-formals : {a b : Tokens} {xs : List Text} → Formals a b xs → Before 0 a b
+formals : {a b : Tokens} {xs : List Text} → Formals a b xs → Before (length xs) a b
 formals Formals.none = omega arith
 formals (Formals.empty o k) = omega (arith, one o, one k)
-formals (Formals.some o xs k) = omega (arith, one o, listed (λ a b x. dummy) xs, one k)
+formals (Formals.some o xs k) = omega (arith, one o, each_listed (λ a b x. dummy) xs, one k)
 
 pub of_type : {a b : Tokens} {t : EflType} → AType a b t → Before 0 a b
 of_type q = omega (arith, type_taken q)
 
-pub header : {a b : Tokens} {t : Option EflType} {x : Option Text} {xs : List Text} → Header a b t x xs → Before 1 a b
+pub header : {a b : Tokens} {t : Option EflType} {x : Option Text} {xs : List Text} → Header a b t x xs → Before (1 + length xs) a b
 header (p.named t w x fs) = omega (arith, perhaps (λ a b x. of_type) t, word w, name x, formals fs)
-header (p.main w) = word w
+header (p.main w) = omega (arith, word w)
 
-pub procedure_size : {a b : Tokens} {u : EflProcedure} → Procedure a b u → (n : ℕ) (c : Context) → Before (2 + stmts_size (stmts_from n c u.body)) a b
+pub procedure_size : {a b : Tokens} {u : EflProcedure} → Procedure a b u → (n : ℕ) (c : Context) → Before (2 + (length u.formals + stmts_size (stmts_from n c u.body))) a b
 procedure_size (p.procedure l h st ds ss m w last) n c =
     omega (arith, lines l, header h, stop st, several (outer c) ds, statements n c ss, lines m, word w, stop last)
 

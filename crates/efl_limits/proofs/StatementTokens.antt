@@ -6,7 +6,7 @@ use Rattle.efl_tree.specs.declared.statement.EflEdit.{EflEdit}
 use Rattle.efl_tree.specs.declared.statement.LoopKind.{LoopKind}
 use Rattle.efl_tree.specs.declared.statement.LoopKind.TheVariants as loops
 use Rattle.efl_tree.specs.Syntax as efl
-use Rattle.efl_tree.specs.Syntax.{Text, EflExpr, EflStmt, EflKind, EflStmts, EflCases, EflProcedure}
+use Rattle.efl_tree.specs.Syntax.{Text, EflExpr, EflStmt, EflKind, EflStmts, EflCases}
 use Rattle.efl_scope.specs.Parts.{into, in_loop, in_list, opened}
 use Rattle.efl_program.specs.Typed.{Stmt, WriteItem, ReadItem}
 use Rattle.efl_typed.specs.Typing.{Context, within, expr_of, labelled, written, taken, stmt_of, kind_of, stmts_from, clauses_from}
@@ -16,7 +16,7 @@ use Rattle.efl_grammar.specs.Expressions.{Expr, Condition}
 use Rattle.efl_grammar.specs.Statements.{Kind, Leaving, Sep, Edit, Skip, Comma, WriteItem as AWriteItem, ReadItem as AReadItem, Labels, Statement, Statements, Body, Clauses}
 use Rattle.efl_grammar.specs.Statements as s
 use Rattle.efl_limits.specs.Sizes.{size_if, items_size, taken_size, clause_size, stmt_size, stmts_size, clauses_size}
-use Rattle.efl_limits.proofs.Tokens.{Before, one, word, name, lines, stop, goto, listed, perhaps, several, natural, whole}
+use Rattle.efl_limits.proofs.Tokens.{Before, one, word, name, lines, stop, goto, each_listed, perhaps, several, natural, whole}
 use Rattle.efl_limits.proofs.ExpressionTokens.{expr, place, condition, act, act_if}
 use Rattle.efl_limits.proofs.DeclarationTokens.{inner}
 
@@ -148,7 +148,7 @@ mutual
         arith,
         lines l,
         word w,
-        listed (λ a b x. integer) ys,
+        each_listed (λ a b x. whole) ys,
         one colon,
         statements 0 (within c (in_list xs (into n c.around))) ss,
         clauses (n + 1) c rest,

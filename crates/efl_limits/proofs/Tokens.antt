@@ -54,6 +54,11 @@ pub listed : {A : Type 0} {Item : Tokens → Tokens → A → Type 0} {a b : Tok
 listed f (Listed.last q) = f _ _ _ q
 listed f (Listed.comma q o rest) = let g = f _ _ _ q in omega (arith, g, one o, listed f rest)
 
+-- each of which takes one off
+pub each_listed : {A : Type 0} {Item : Tokens → Tokens → A → Type 0} {a b : Tokens} {xs : List A} → ((a b : Tokens) (x : A) → Item a b x → Before 1 a b) → Listed Item a b xs → Before (length xs) a b
+each_listed f (Listed.last q) = f _ _ _ q
+each_listed f (Listed.comma q o rest) = let g = f _ _ _ q in omega (arith, g, one o, each_listed f rest)
+
 pub perhaps : {A : Type 0} {Item : Tokens → Tokens → A → Type 0} {a b : Tokens} {o : Option A} → TakesNone Item → Perhaps Item a b o → Before 0 a b
 perhaps f Perhaps.none = omega arith
 perhaps f (Perhaps.some q) = f _ _ _ q

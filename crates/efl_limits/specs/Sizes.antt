@@ -1,5 +1,5 @@
 -- How large typed trees of EFL are, in tokens that they have at least.
-use Rattle.std.specs.Prelude.{ℕ, ◌+◌, ℤ, Bool, true, false, List, [], ◌∷◌, Option, Some, None}
+use Rattle.std.specs.Prelude.{ℕ, ◌+◌, ℤ, Bool, true, false, List, [], ◌∷◌, length, Option, Some, None}
 use Rattle.efl_program.specs.Typed.{Expr, Int, Truth, At, Call, Known, Group, Plus, Minus, Not, Up, Down, Pair, Assign, Exprs, NoExpr, AndExpr, Action, Evaluate, Invoke, WriteItem, Value, Skip, Chars, ReadItem, Take, Pass, Stmt, Empty, Block, Act, If, IfElse, While, For, Repeat, RepeatUntil, Do, Switch, Break, Next, Return, Goto, Write, Read, Labelled, Stmts, NoStmt, AndStmt, Clauses, NoClause, AndClause}
 
 -- a site counts one, whatever its subscripts are
@@ -65,12 +65,12 @@ abbrev mutual
   stmt_size (RepeatUntil p s e q) = 1 + (stmt_size s + size e)
   stmt_size (Do p v a z d s) = 2 + (size a + (size z + (size_if d + stmt_size s)))
   stmt_size (Switch p e cs) = 1 + (size e + clauses_size cs)
-  stmt_size (Break p n o) = 0
-  stmt_size (Next p n o) = 0
-  stmt_size (Return p e) = size_if e
+  stmt_size (Break p n o) = 1
+  stmt_size (Next p n o) = 1
+  stmt_size (Return p e) = 1 + size_if e
   stmt_size (Goto p l) = 1
-  stmt_size (Write p u items) = 1 + (size_if u + items_size items)
-  stmt_size (Read p u items) = 1 + (size_if u + taken_size items)
+  stmt_size (Write p u items) = 3 + (size_if u + items_size items)
+  stmt_size (Read p u items) = 3 + (size_if u + taken_size items)
   stmt_size (Labelled l p s) = 1 + stmt_size s
 
   pub stmts_size : Stmts → ℕ
@@ -79,4 +79,4 @@ abbrev mutual
 
   pub clauses_size : Clauses → ℕ
   clauses_size NoClause = 0
-  clauses_size (AndClause zs fallback ss p cs) = 1 + (clause_size zs fallback (stmts_size ss) + clauses_size cs)
+  clauses_size (AndClause zs fallback ss p cs) = 1 + (length zs + (clause_size zs fallback (stmts_size ss) + clauses_size cs))

@@ -1,8 +1,10 @@
-//! What the limits of EFL's parser and of a text's tokens bound in a program: labels, variables, temporaries and storage.
+//! What the limits of EFL's parser and of a text's tokens bound in a program: labels, variables, procedures,
+//! temporaries, storage and the deck of its units.
 #![tactic(auto)]
 
 mod laws;
 
 pub use laws::{
-    grammar_has_little_storage, parsed_has_few_labels, parsed_is_small, parsed_needs_few,
+    grammar_has_little_storage, grammar_is_short, parsed_has_few_labels, parsed_has_few_procedures,
+    parsed_is_small, parsed_needs_few,
 };

@@ -1,4 +1,9 @@
 -- The lemmas of efl_lower.
 pub mod Ranks
+pub mod Ranked
 pub mod Serving
-pub mod Refusing
+pub mod FewExpressions
+pub mod FewStatements
+pub mod FewUnits
+pub mod Limited
+pub mod Legal

@@ -10,7 +10,6 @@ pub mod LabelLemmas
 pub mod Mapped
 pub mod NumberLemmas
 pub mod Owned
-pub mod Small
 pub mod Tops
 pub mod TypeLines
 pub mod TypedLemmas

@@ -1,6 +1,5 @@
 // The units of a program.
-ghost use Rattle.std.specs.Prelude.{◌≡◌, ◌&&◌, [], ◌∷◌, ◌++◌, map, nat_le, nat_lt, slice_get, IfOk, OnOk, Some};
-ghost use Rattle.std.specs.List.{list_all};
+ghost use Rattle.std.specs.Prelude.{◌≡◌, [], ◌∷◌, ◌++◌, map, slice_get, IfOk, OnOk, Some};
 ghost use Rattle.f66_tree.specs.Views.{routine_of};
 ghost use Rattle.efl_tree.specs.Syntax.{EflProgram as Program};
 ghost use Rattle.efl_tree.specs.Views.{procedure_of, program_of};
@@ -10,14 +9,12 @@ ghost use Rattle.efl_typed_tree.specs.Views.{stmts_of};
 ghost use Rattle.efl_typing.specs.Bodies.{AreBodies};
 ghost use Rattle.efl_variables.specs.Numbered.{AreVariables};
 ghost use Rattle.efl_lowered.specs.Lowering.{unit_of, units_of};
-ghost use Rattle.efl_lowered.specs.Needs.{all_need};
-ghost use Rattle.efl_naming.specs.Choice.{naming_of, is_small};
+ghost use Rattle.efl_naming.specs.Choice.{naming_of};
 ghost use Rattle.efl_units.specs.TypedViews.{AreTyped};
-ghost use Rattle.efl_units.specs.Units.{HasNames, IsUnits};
+ghost use Rattle.efl_units.specs.Units.{HasNames};
 
 use crate::{Typed, name_unit, program_naming, typed_program, unit};
 use efl_emit::Naming;
-use efl_room::needs;
 use efl_tree::{EflProcedure, EflProgram};
 use efl_typed_tree::TypedStmt;
 use efl_variables::Variables;
@@ -25,62 +22,8 @@ use f66_tree::Unit;
 use ground::List;
 use std::alloc::{AllocError, Global};
 
-/// The most variables and the most procedures, whose numbers stand in names.
-const MOST_NUMBERS: usize = 100_000;
-
-/// More temporaries than a unit may have.
-const MANY_TEMPORARIES: usize = 50_000;
-
-/// The units of a program, where its numbers have five digits.
+/// The units of a program, by its bodies.
 pub fn units(
-    alloc: Global,
-    program: &EflProgram,
-    variables: &Variables,
-    bodies: &List<List<TypedStmt>>,
-) -> Result<Option<List<Unit>>, AllocError>
-    ensures { IfOk result (λ units. AreVariables (program_variables (program_of program.now)) variables.now → AreBodies (program_of program.now) bodies.now.items → IsUnits (program_of program.now) units) }
-{
-    if !is_small(program, variables, bodies)? {
-        return Ok(None);
-    }
-    let units = all_units(alloc, program, variables, bodies)?;
-    Ok(Some(units))
-}
-
-// Whether the numbers of variables, of procedures and of the temporaries of each procedure and one more have five digits.
-fn is_small(
-    program: &EflProgram,
-    variables: &Variables,
-    bodies: &[List<TypedStmt>],
-) -> Result<bool, AllocError>
-    ensures { IfOk result (λ small. AreVariables (program_variables (program_of program.now)) variables.now → AreBodies (program_of program.now) bodies.now → small ≡ is_small (program_of program.now)) }
-{
-    let few = are_few(variables.list.len(), program.procedures.len());
-    let small = have_room(bodies)?;
-    Ok(few && small)
-}
-
-// Whether the numbers of so many variables and procedures have five digits.
-fn are_few(variables: usize, procedures: usize) -> bool
-    ensures { result ≡ (nat_le variables 100000 && nat_le procedures 100000) }
-{
-    variables <= MOST_NUMBERS && procedures <= MOST_NUMBERS
-}
-
-// Whether each body needs few temporaries.
-fn have_room(bodies: &[List<TypedStmt>]) -> Result<bool, AllocError>
-    ensures { IfOk result (λ room. room ≡ list_all (λ b. nat_lt (all_need (stmts_of b.items) 0) 50000) bodies.now) }
-{
-    for body in bodies {
-        let room = needs(body)?;
-        if room >= MANY_TEMPORARIES {
-            return Ok(false);
-        }
-    }
-    Ok(true)
-}
-
-fn all_units(
     alloc: Global,
     program: &EflProgram,
     variables: &Variables,

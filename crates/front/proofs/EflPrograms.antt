@@ -5,6 +5,8 @@ use Rattle.std.specs.Prelude.{Result, Ok, Err, option_map}
 use Rattle.std.specs.List.{slice_get}
 use Rattle.std.specs.Option.{option_or}
 use Rattle.rule_table.specs.First.{IsClean, first_part, part_breaks}
+use Rattle.ground.specs.Faults.{fault_at}
+use Rattle.ground.specs.declared.fault.FaultKind.TheVariants.{Unbuilt}
 use Rattle.ground.specs.declared.place.Place.{Place}
 use Rattle.ground.specs.declared.fault.Refusal.{Refusal}
 use Rattle.ground.specs.declared.fault.Refusal.TheVariants as refusals
@@ -27,13 +29,12 @@ use Rattle.efl_types.specs.Whole.{TellsWhole}
 use Rattle.efl_checks.specs.Answers.{typed_fault}
 use Rattle.efl_whole.specs.Names.{IsRightRefusal}
 use Rattle.efl_built.specs.Unbuilt.{first_unbuilt}
-use Rattle.efl_lowered.specs.Grammatical.{IsGrammatical}
-use Rattle.deck_check.specs.Laws.{LegalHasLinkage, LegalIsSound, LegalIsWell, LegalIsWhole}
-use Rattle.efl_lower.specs.Lowered.{made_of, IsServed, AreUnits}
-use Rattle.efl_lower.specs.Laws.{IsAccepted, AcceptedServes}
+use Rattle.legal_decks.specs.Laws.{LegalHasLinkage, LegalIsSound, LegalIsWell, LegalIsWhole}
+use Rattle.efl_lower.specs.Lowered.{made_of}
+use Rattle.efl_lower.specs.Laws.{IsOfText, IsAccepted, Serves}
 use Rattle.front.specs.declared.made.Made.{Made}
 use Rattle.front.specs.Checked.{Faulty, Means}
-use Rattle.front.specs.Efl.{unbuilt_at, meaning_of, IsServing, IsBuilt, IsTyped, IsJudged}
+use Rattle.front.specs.Efl.{meaning_of, IsBuilt, IsTyped, IsJudged}
 use Rattle.front.specs.Programs.{IsProgramOf}
 use Rattle.front.specs.Translated.{Refused, Finds}
 
@@ -51,9 +52,9 @@ earlier_none : {V : Type 0} (a b : Option V) → option_or a b ≡ None → a �
 earlier_none None b h = refl
 earlier_none (Some v) b h = absurd (none-some v (sym h))
 
-pub all_accepted : (tree : EflProgram) → IsGrammatical tree → IsScoped tree → typed_fault tree ≡ None → TellsWhole tree None → first_unbuilt tree ≡ None → IsAccepted tree
-all_accepted tree shaped scoped typed whole built = record {
-  shaped = shaped;
+pub all_accepted : (tree : EflProgram) → IsOfText tree → IsScoped tree → typed_fault tree ≡ None → TellsWhole tree None → first_unbuilt tree ≡ None → IsAccepted tree
+all_accepted tree text scoped typed whole built = record {
+  text = text;
   scopes = scopes_clear tree scoped;
   types = earlier_none (types.first_fault tree) (storage_fault tree) typed;
   whole = whole;
@@ -69,13 +70,13 @@ scoped_found tree (Ok made) scoped h = (h.0, inr (scoped, h.1), h.2)
 scoped_found tree (Err (refusals.Fault f)) scoped h = inr (scoped, h)
 scoped_found tree (Err refusals.Memory) scoped h = tt
 
-pub built_found : (tree : EflProgram) (r : Result Made Refusal) → TellsWhole tree None → first_unbuilt tree ≡ None → Finds (IsServing tree) r → Finds (IsTyped tree None) r
+pub built_found : (tree : EflProgram) (r : Result Made Refusal) → TellsWhole tree None → first_unbuilt tree ≡ None → Finds (λ c. c ≡ Means (meaning_of tree)) r → Finds (IsTyped tree None) r
 built_found tree (Ok made) whole built h = (h.0, (None, whole, subst (λ o. IsBuilt tree o (Means h.0)) (sym built) h.1), h.2)
 built_found tree (Err (refusals.Fault f)) whole built h = (None, whole, subst (λ o. IsBuilt tree o (Faulty f)) (sym built) h)
 built_found tree (Err refusals.Memory) whole built h = tt
 
-pub unbuilt_told : (tree : EflProgram) (place : Place) → TellsWhole tree None → first_unbuilt tree ≡ Some place → IsTyped tree None (unbuilt_at place)
-unbuilt_told tree place whole unbuilt = (None, whole, subst (λ o. IsBuilt tree o (unbuilt_at place)) (sym unbuilt) refl)
+pub unbuilt_told : (tree : EflProgram) (place : Place) → TellsWhole tree None → first_unbuilt tree ≡ Some place → IsTyped tree None (Faulty (fault_at place Unbuilt))
+unbuilt_told tree place whole unbuilt = (None, whole, subst (λ o. IsBuilt tree o (Faulty (fault_at place Unbuilt))) (sym unbuilt) refl)
 
 -- ---- the units ----
 
@@ -84,25 +85,25 @@ lines_if_any None = []
 lines_if_any (Some r) = r.lines
 
 -- the units of a tree are a program of what it means
-module _ (serves : AcceptedServes) (linkage : LegalHasLinkage) (sound : LegalIsSound) (well : LegalIsWell) (whole : LegalIsWhole) where
-  served_program : (tree : EflProgram) → IsAccepted tree → IsServed tree → IsProgramOf (meaning_of tree) (made_of tree)
-  served_program tree accepted served =
+module _ (linkage : LegalHasLinkage) (sound : LegalIsSound) (well : LegalIsWell) (whole : LegalIsWhole) where
+  served_program : (tree : EflProgram) → Serves tree → IsProgramOf (meaning_of tree) (made_of tree)
+  served_program tree serves =
       let made = made_of tree in
-      let l = linkage made served.legal in
+      let l = linkage made serves.legal in
       let codes : ℕ → List Line = λ u. lines_if_any (slice_get made.units u) in
       let coded : AreCodes made.units codes = λ u r e. ap lines_if_any e in
-      let d = serves tree accepted served.small l.0 l.1 codes coded in
+      let d = serves.same l.0 l.1 codes coded in
       record {
-        sound = sound made served.legal;
+        sound = sound made serves.legal;
         run = f66 l.0 codes;
-        linked = record { well = well made served.legal; whole = whole made served.legal; linkage = l.0; links = l.1; codes = codes; of = coded; is = refl };
+        linked = record { well = well made serves.legal; whole = whole made serves.legal; linkage = l.0; links = l.1; codes = codes; of = coded; is = refl };
         agrees = d.agrees;
         found = d.found;
-        printable = served.legal.printable;
-        passes = served.legal.deck;
+        printable = serves.legal.printable;
+        passes = serves.legal.deck;
       }
 
-  pub served_found : (tree : EflProgram) (units : List AUnit) → IsAccepted tree → AreUnits tree (Some units) →
+  pub served_found : (tree : EflProgram) (units : List AUnit) → Serves tree → map routine_of units ≡ (made_of tree).units →
       IsProgramOf (meaning_of tree) (record { units = map routine_of units; finish = tree.finish })
-  served_found tree units accepted are =
-      subst (λ us. IsProgramOf (meaning_of tree) (record { units = us; finish = tree.finish })) (sym are.1) (served_program tree accepted are.0)
+  served_found tree units serves are =
+      subst (λ us. IsProgramOf (meaning_of tree) (record { units = us; finish = tree.finish })) (sym are) (served_program tree serves)

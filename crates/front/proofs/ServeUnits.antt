@@ -1,20 +1,20 @@
 -- The units that serve for those of an accepted program link, by any linkage do what it means, and fit their cards.
-use Rattle.std.proofs.Common.{◌≡◌, ◌≤◌, ◌⊎◌, inl, inr, ℕ, suc, pos, ◌-ℤ◌, Bool, true, false, List, [], ◌∷◌, length, map, Option, Some, refl, sym, ap, subst, arith}
+use Rattle.std.proofs.Common.{◌≡◌, ◌≤◌, ℕ, pos, ◌-ℤ◌, List, [], ◌∷◌, length, map, Option, refl, sym, ap, subst, arith}
 use Rattle.std.specs.Prelude.{◌↔◌, All}
-use Rattle.std.specs.List.{AllZip, slice_get}
+use Rattle.std.specs.List.{AllZip}
 use Rattle.std.proofs.lemmas.List.Elements.{All-nil, All-cons, All-map}
 use Rattle.ground.specs.declared.place.Place.{Place}
-use Rattle.ground.specs.declared.fault.FaultKind.TheVariants.{MainCount, InitialTwice}
+use Rattle.ground.specs.declared.fault.FaultKind.TheVariants.{InitialTwice}
 use Rattle.f66_tree.specs.declared.unit.Unit.{Unit as AUnit}
 use Rattle.f66_tree.specs.Syntax.{Text, Line, Routine}
 use Rattle.f66_tree.specs.Views.{routine_of}
 use Rattle.f66_tree.specs.World.{Record, Shown}
-use Rattle.f66_tree.specs.Units.{is_main, Linkage}
+use Rattle.f66_tree.specs.Units.{Linkage}
 use Rattle.f66_tree.specs.Execution.{f66}
 use Rattle.f66_tree.specs.Agreement.{Agrees}
 use Rattle.f66_check.specs.Answers.{IsSoundUnit}
 use Rattle.f66_program.specs.Association.{Own, IsSame, ties_of, IsReal, IsBadUnit, IsNumbering}
-use Rattle.f66_program.specs.Linking.{Program, at_part, none, IsWhole, IsLinkage}
+use Rattle.f66_program.specs.Linking.{Program, IsWhole, IsLinkage}
 use Rattle.linked_soundness.specs.Laws.{AreCodes}
 use Rattle.stmt_text.specs.Fitting.{IsPrintable}
 use Rattle.call_ranks.specs.Ranks.{HaveRanks}
@@ -33,6 +33,7 @@ use Rattle.rat_lower.specs.Served.{AllServe}
 use Rattle.rat_linked.specs.Made.{IsMadeOf}
 use Rattle.rat_linked.specs.Meaning.{bodies_of, means_program}
 use Rattle.rat_linked.proofs.Programs.{Paired, paired, made_are_well, made_are_whole}
+use Rattle.legal_decks.proofs.Linkages.{HasMain, main_there}
 use Rattle.rat_linked.proofs.Sources.{source_links}
 use Rattle.rat_linked.proofs.Serving.{AllFaultless, all_made, own_codes, lines_in, units_do, units_found}
 use Rattle.front.specs.Checked.{Meaning}
@@ -41,19 +42,6 @@ use Rattle.front.proofs.ProgramLemmas.{all_sound}
 use Rattle.renumbering.proofs.SameRuns.{same_run}
 
 -- ---- units ----
-
--- the first main, or none is one
-abbrev HasMain : List Routine → Type 0
-HasMain rs = (u : ℕ) × (r : Routine) × (slice_get rs u ≡ Some r) × (is_main r.header ≡ true)
-
-some_main : (rs : List Routine) → HasMain rs ⊎ All (λ r. is_main r.header ≡ false) rs
-some_main [] = inr (All-nil (λ r. is_main r.header ≡ false))
-some_main (r ∷ rs) = by_header (is_main r.header) refl (some_main rs)
-  where
-    by_header : (b : Bool) → is_main r.header ≡ b → HasMain rs ⊎ All (λ r. is_main r.header ≡ false) rs → HasMain (r ∷ rs) ⊎ All (λ r. is_main r.header ≡ false) (r ∷ rs)
-    by_header true e rest = inl (0, r, refl, e)
-    by_header false e (inl m) = inl (suc m.0, m.1, m.2, m.3)
-    by_header false e (inr others) = inr (All-cons (λ r. is_main r.header ≡ false) r rs e others)
 
 own_are_codes : (rs : List Routine) → AreCodes rs (own_codes rs)
 own_are_codes rs u r here = ap lines_in here
@@ -106,11 +94,8 @@ module _ (p : RatProgram) (made : List AUnit) (accepted : IsAccepted p) (few : l
   matched : IsMatched units
   matched = whole_is_matched units is_whole
 
-  main_there : HasMain rs
-  main_there = elim (some_main rs) [
-    | inl m ↦ m
-    | inr others ↦ absurd (is_whole.clean MainCount (at_part (length rs) 0) (none (λ r c. subst (λ (s : Routine). is_main s.header ≡ false) c.2 (others c.0 r c.1)) refl))
-  ]
+  main : HasMain rs
+  main = main_there units is_whole
 
   -- ---- a linkage ----
 
@@ -137,10 +122,10 @@ module _ (p : RatProgram) (made : List AUnit) (accepted : IsAccepted p) (few : l
   numbers_apart = spare_apart k.pairs other total numbering
 
   abbrev linkage : Linkage
-  linkage = by_numbers rs main_there.0 number
+  linkage = by_numbers rs main.0 number
 
   links : IsLinkage rs linkage
-  links = links_by units sound (is_whole.clean InitialTwice) number same_numbers main_there.0 main_there.1 main_there.2 main_there.3
+  links = links_by units sound (is_whole.clean InitialTwice) number same_numbers main.0 main.1 main.2 main.3
 
   -- ---- what they do ----
 

@@ -12,7 +12,7 @@ use Rattle.efl_tree.specs.Syntax.{EflProgram}
 use Rattle.efl_types.specs.Whole.{program_calls, count_fault, TellsCalls, TellsWhole}
 use Rattle.efl_built.specs.Unbuilt.{first_unbuilt}
 use Rattle.front.specs.Checked.{Checked}
-use Rattle.front.specs.Efl.{IsServing, IsBuilt, IsWhole, IsTyped}
+use Rattle.front.specs.Efl.{IsBuilt, IsWhole, IsTyped}
 use Rattle.front.proofs.FirstFaults.{compare}
 
 one_number : (edges : List Edge) (i j : ℕ) → IsFirstOnCycle edges i → IsFirstOnCycle edges j → i ≡ j
@@ -36,15 +36,9 @@ one_whole p a b h k = by (count_fault p) refl
     by None e = one_calls p a b (rw e at h) (rw e at k)
     by (Some f) e = (rw e at h) ∙ sym (rw e at k)
 
-one_serving : (p : EflProgram) (a b : Checked) → IsServing p a → IsServing p b → a ≡ b
-one_serving p a b (inl h) (inl k) = h.1 ∙ sym k.1
-one_serving p a b (inl h) (inr k) = absurd (k.0 h.0)
-one_serving p a b (inr h) (inl k) = absurd (h.0 k.0)
-one_serving p a b (inr h) (inr k) = h.1 ∙ sym k.1
-
 one_built : (p : EflProgram) (o : Option Place) (a b : Checked) → IsBuilt p o a → IsBuilt p o b → a ≡ b
 one_built p (Some place) a b h k = h ∙ sym k
-one_built p None a b h k = one_serving p a b h k
+one_built p None a b h k = h ∙ sym k
 
 one_behind : (p : EflProgram) (o : Option Fault) (a b : Checked) → IsWhole p o a → IsWhole p o b → a ≡ b
 one_behind p (Some f) a b h k = h ∙ sym k

@@ -1,49 +1,29 @@
 -- What becomes of the tokens of an EFL text: its first fault, of the grammar, then of scopes, then of types, then of the whole
--- program; or what it means. A text that all of them accept is not built yet where it has a form that is not, and where its units are no
--- legal deck.
-use Rattle.std.specs.Prelude.{◌≡◌, ◌⊎◌, List, [], ◌∷◌, Option, Some, None}
+-- program; or what it means. A text that all of them accept is not built yet where it has a form that is not.
+use Rattle.std.specs.Prelude.{◌≡◌, ◌⊎◌, List, Option, Some, None}
 use Rattle.ground.specs.declared.fault.Fault.{Fault}
 use Rattle.ground.specs.declared.fault.FaultKind.TheVariants.{Unbuilt}
 use Rattle.ground.specs.declared.place.Place.{Place}
 use Rattle.ground.specs.Faults.{fault_at}
 use Rattle.ground.specs.declared.token.Token.{Token}
 use Rattle.efl_grammar.specs.Answers.{IsFirstFault, IsAccepted}
-use Rattle.efl_tree.specs.Syntax.{EflDecl, Statement, EflStmts, NoStmt, AndStmt, EflProcedure, EflProgram}
+use Rattle.efl_tree.specs.Syntax.{EflProgram}
 use Rattle.efl_scoped.specs.Answers.{IsScoped, IsFirst}
 use Rattle.efl_types.specs.Whole.{TellsWhole}
 use Rattle.efl_checks.specs.Answers.{typed_fault}
 use Rattle.efl_typed.specs.Linking.{efl_meaning}
 use Rattle.efl_built.specs.Unbuilt.{first_unbuilt}
-use Rattle.efl_lower.specs.Lowered.{IsServed}
 use Rattle.front.specs.Checked.{Meaning, Checked, Faulty, Means}
 
 -- ---- what is built ----
 
--- the first declaration of a procedure, or its first statement, or its end
-abbrev pub first_part : List EflDecl → EflStmts → Place → Place
-first_part (d ∷ ds) ss finish = d.place
-first_part [] (AndStmt (Statement labels p what) ss) finish = p
-first_part [] NoStmt finish = finish
-
--- that of the first procedure, or the end of the text
-abbrev pub unbuilt_place : List EflProcedure → Place → Place
-unbuilt_place [] finish = finish
-unbuilt_place (p ∷ ps) finish = first_part p.declarations p.body p.finish
-
-abbrev pub unbuilt_at : Place → Checked
-unbuilt_at place = Faulty (fault_at place Unbuilt)
-
 abbrev pub meaning_of : EflProgram → Meaning
 meaning_of tree input b = efl_meaning tree b input
 
--- a tree all of whose forms are built means something where its units are a legal deck
-abbrev pub IsServing : EflProgram → Checked → Type 0
-IsServing tree c = (IsServed tree × (c ≡ Means (meaning_of tree))) ⊎ ((¬ IsServed tree) × (c ≡ unbuilt_at (unbuilt_place tree.procedures tree.finish)))
-
 -- a form that is not built is told where it stands
 abbrev pub IsBuilt : EflProgram → Option Place → Checked → Type 0
-IsBuilt tree (Some place) c = c ≡ unbuilt_at place
-IsBuilt tree None c = IsServing tree c
+IsBuilt tree (Some place) c = c ≡ Faulty (fault_at place Unbuilt)
+IsBuilt tree None c = c ≡ Means (meaning_of tree)
 
 -- ---- checks ----
 

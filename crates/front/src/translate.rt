@@ -1,12 +1,14 @@
 // From a file to its units.
 ghost use Rattle.std.specs.Prelude.{◌≡◌, ◌≤◌, length};
+ghost use Rattle.std.specs.List.{All};
+ghost use Rattle.gathered_tokens.specs.Written.{TokenIsWritten};
 ghost use Rattle.macro_define.specs.Gathered.{HasCause};
 ghost use Rattle.macro_define.specs.GatherAnswers.{EndsText};
 ghost use Rattle.front.specs.Verdict.{IsChecked, file_name as name_of_file};
 ghost use Rattle.front.specs.Translated.{Finds, IsNamed, IsTranslated};
 
 use crate::{Made, efl, ratfor};
-use gathered_tokens::gathered_are_few;
+use gathered_tokens::{gathered_are_few, gathered_are_written};
 use ground::{Dialect, List, Refusal, Text, Token};
 use macro_define::{Gathered, TextRefusal, gather};
 use ports::Library;
@@ -35,6 +37,7 @@ pub fn translate_text<L: Library>(
 {
     let Gathered { tokens, files } = gather(alloc, dialect, name, library)?;
     gathered_are_few();
+    gathered_are_written();
     match made_of(alloc, dialect, tokens) {
         Ok(made) => Ok(Translated { made, files }),
         Err(refusal) => Err(named(alloc, &files, refusal)),
@@ -44,6 +47,7 @@ pub fn translate_text<L: Library>(
 /// The units of a text with these tokens, or the text's fault.
 fn made_of(alloc: Global, dialect: Dialect, tokens: List<Token>) -> Result<Made, Refusal>
     requires ends { EndsText tokens.items }
+    requires written { All TokenIsWritten tokens.items }
     requires few { length tokens.items ≤ 200000 }
     ensures { Finds (IsChecked dialect tokens.items) result }
 {

@@ -5,3 +5,4 @@ pub mod Formats
 pub mod Texts
 pub mod Shapes
 pub mod Units
+pub mod Bytes

@@ -14,6 +14,9 @@ name_length x t h = let short : length x ≤ 6 = grind (arith, nat_tests) in ome
 pub decimal_length : (n : ℕ) (t : List ℕ) → n ≤ 2147483647 → length (decimal n ++ t) ≤ 10 + length t
 decimal_length n t h = omega (arith, length-append (decimal n) t, length-decimal-le 10 n (omega arith) (omega (arith, h)) (omega (arith, h)))
 
+pub label_length : (l : ℕ) (t : List ℕ) → l ≤ 99999 → length (decimal l ++ t) ≤ 5 + length t
+label_length l t h = omega (arith, length-append (decimal l) t, length-decimal-le 5 l (omega arith) (omega (arith, h)) (omega (arith, h)))
+
 pub constant_length : (z : ℤ) (t : List ℕ) → is_constant z ≡ true → length (decimal (unsigned_abs z) ++ t) ≤ 10 + length t
 constant_length (pos n) t h =
     let both = and_parts (nat_le 0 n) (nat_le n 2147483647) h in

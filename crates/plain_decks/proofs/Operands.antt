@@ -6,7 +6,7 @@ use Rattle.ground.specs.declared.value.Kind.TheVariants.{Integer, Logical}
 use Rattle.f66_tree.specs.declared.expression.Operator.{Operator}
 use Rattle.f66_tree.specs.declared.expression.Operator.TheVariants.{Add, Sub, Mul, Div, Power, Lt, Le, Eq, Ne, Ge, Gt, And, Or}
 use Rattle.f66_tree.specs.Evaluation.{Intrinsic, Iabs, Mod, Isign, Idim, Max0, Min0}
-use Rattle.f66_tree.specs.Syntax.{Text, Formula, Int, Truth, Ref, Item, Group, Plus, Minus, Not, Pair, Formulas, NoFormula, AndFormula, Par, Constant, Named, One, Entries, NoEntry, AndEntry, Assign}
+use Rattle.f66_tree.specs.Syntax.{Text, Formula, Int, Truth, Ref, Item, Group, Plus, Minus, Not, Pair, Formulas, NoFormula, AndFormula, Par, Constant, Named, One, Entries, NoEntry, AndEntry}
 use Rattle.f66_tree.specs.Units.{Context}
 use Rattle.f66_names.specs.Kinds.{operand}
 use Rattle.f66_names.specs.Uses.{many}
@@ -14,7 +14,7 @@ use Rattle.stmt_text.specs.Characters.{opening, closing}
 use Rattle.stmt_text.specs.Texts.{operator_text, formula_text, formulas_text, more_formulas_text, arguments_text, par_text, entries_text, more_entries_text}
 use Rattle.plain_units.specs.Plain.{name_of, IsSigned, IsLeaf, AreLeaves, IsPassed, ArePassed, IsValue, IsTest, IsUnit, AreListed}
 use Rattle.plain_units.specs.Known.{AreKnown}
-use Rattle.plain_decks.specs.Few.{width_of, width_of_all, entries_of, HasFew, AreNames}
+use Rattle.plain_decks.specs.Few.{width_of, width_of_all, width_of_value, entries_of, AreNames}
 use Rattle.plain_decks.proofs.Numbers.{name_length, constant_length}
 
 -- ---- words ----
@@ -76,7 +76,7 @@ width_most (Ref x) = omega arith
 width_most (Int z) = omega arith
 width_most e = omega arith
 
-widths_most : (es : Formulas) → width_of_all es ≤ 13 * many es
+pub widths_most : (es : Formulas) → width_of_all es ≤ 13 * many es
 widths_most NoFormula = omega arith
 widths_most (AndFormula e es) = omega (arith, width_most e, widths_most es)
 
@@ -141,20 +141,20 @@ module _ (V F : Text → Kind → Type 0) (S : Text → Type 0) (c : Context) (k
   pub call_length : (es : Formulas) (t : List ℕ) → ArePassed V F S es → length (arguments_text es t) ≤ 2 + width_of_all es + length t
   call_length es t h = arguments_length es t (all_narrow es h)
 
-  pub value_length : (x : Text) (e : Formula) (k : Kind) (t : List ℕ) → IsValue V F S e k → HasFew (Assign (Ref x) e) → length (formula_text e t) ≤ 1308 + length t
-  value_length x (Plus a) k t h few = omega (arith, leaf_length a Integer t h.1)
-  value_length x (Minus a) k t h few = omega (arith, leaf_length a Integer t h.1)
-  value_length x (Not a) k t h few = omega (arith, leaf_length a Logical t h.1)
-  value_length x (Pair op a b) k t h few =
+  pub value_length : (e : Formula) (k : Kind) (t : List ℕ) → IsValue V F S e k → length (formula_text e t) ≤ width_of_value e + length t
+  value_length (Plus a) k t h = omega (arith, leaf_length a Integer t h.1)
+  value_length (Minus a) k t h = omega (arith, leaf_length a Integer t h.1)
+  value_length (Not a) k t h = omega (arith, leaf_length a Logical t h.1)
+  value_length (Pair op a b) k t h =
       omega (arith, leaf_length a (operand op) (operator_text op ++ formula_text b t) h.1, operator_length op (formula_text b t), leaf_length b (operand op) t h.2)
-  value_length x (Item f es) k t h few = elim h [
-    | inl g ↦ omega (arith, few, subst (λ y. length (y ++ opening ∷ formulas_text es (closing ∷ t)) ≤ 6 + length (opening ∷ formulas_text es (closing ∷ t))) (sym g.name) (intrinsic_length g.intrinsic (opening ∷ formulas_text es (closing ∷ t))), list_length es (closing ∷ t) (leaves_narrow es Integer g.leaves))
-    | inr g ↦ omega (arith, few, name_length f (opening ∷ formulas_text es (closing ∷ t)) (known.functions f k g.gives).0.text.short, list_length es (closing ∷ t) (all_narrow es g.passed))
+  value_length (Item f es) k t h = elim h [
+    | inl g ↦ omega (arith, subst (λ y. length (y ++ opening ∷ formulas_text es (closing ∷ t)) ≤ 6 + length (opening ∷ formulas_text es (closing ∷ t))) (sym g.name) (intrinsic_length g.intrinsic (opening ∷ formulas_text es (closing ∷ t))), list_length es (closing ∷ t) (leaves_narrow es Integer g.leaves))
+    | inr g ↦ omega (arith, name_length f (opening ∷ formulas_text es (closing ∷ t)) (known.functions f k g.gives).0.text.short, list_length es (closing ∷ t) (all_narrow es g.passed))
   ]
-  value_length x (Int z) k t h few = omega (arith, leaf_length (Int z) k t h)
-  value_length x (Truth b) k t h few = omega (arith, leaf_length (Truth b) k t h)
-  value_length x (Ref y) k t h few = omega (arith, leaf_length (Ref y) k t h)
-  value_length x e k t h few = absurd h
+  value_length (Int z) k t h = omega (arith, leaf_length (Int z) k t h)
+  value_length (Truth b) k t h = omega (arith, leaf_length (Truth b) k t h)
+  value_length (Ref y) k t h = omega (arith, leaf_length (Ref y) k t h)
+  value_length e k t h = absurd h
 
   pub test_length : (e : Formula) (t : List ℕ) → IsTest V F S e → length (formula_text e t) ≤ 26 + length t
   test_length (Truth true) t h = omega arith

@@ -1,10 +1,10 @@
 -- A plain unit with few operands is printable, and each of its statements is shallow, and whole where the FORMATs are.
-use Rattle.std.proofs.Common.{◌≡◌, ◌≤◌, List, [], ◌∷◌, ◌++◌, Some, None, ℕ, suc, inl, inr, refl, sym, subst, arith, length}
+use Rattle.std.proofs.Common.{◌≡◌, ◌≤◌, Bool, List, [], ◌∷◌, ◌++◌, Some, None, ℕ, suc, inl, inr, refl, sym, subst, arith, length}
 use Rattle.std.specs.List.{All, AllByRecursion, Contains, slice_get}
 use Rattle.std.proofs.lemmas.List.Elements.{All-head, All-tail, All-contains_itself}
 use Rattle.ground.specs.declared.value.Kind.{Kind}
-use Rattle.f66_tree.specs.Syntax.{Text, Act, Stop, Return, Read, Write, Line, Routine}
-use Rattle.f66_flow.specs.Acts.{is_format, formats_named}
+use Rattle.f66_tree.specs.Syntax.{Text, Act, Goto, When, Stop, Return, Read, Write, Line, Routine}
+use Rattle.f66_flow.specs.Acts.{is_executable, is_format, branches, formats_named}
 use Rattle.f66_check.specs.CheckRules.{context_of}
 use Rattle.stmt_text.specs.Fitting.{FitsCards, IsPrintable}
 use Rattle.stmt_text.specs.Texts.{statement_text}
@@ -53,7 +53,7 @@ last_whole Return h = tt
 last_whole a h = absurd h
 
 -- what holds of each place holds of each element
-everywhere : {X : Type 0} (R : X → Type 0) (xs : List X) → ((i : ℕ) (x : X) → slice_get xs i ≡ Some x → R x) → AllByRecursion R xs
+pub everywhere : {X : Type 0} (R : X → Type 0) (xs : List X) → ((i : ℕ) (x : X) → slice_get xs i ≡ Some x → R x) → AllByRecursion R xs
 everywhere R [] f = tt
 everywhere R (x ∷ xs) f = (f 0 x refl, everywhere R xs (λ i y e. f (suc i) y e))
 
@@ -61,16 +61,18 @@ the_one : (l : ℕ) → Contains (l ∷ []) l
 the_one l = All-head (Contains (l ∷ [])) l [] (All-contains_itself (l ∷ []))
 
 module _ (lines : List Line) (labels : HasLabels lines) where
-  led_low : (l : ℕ) → LeadsTo is_format lines l → l ≤ 99999
-  led_low l to = (labels.range to.place l to.line to.at to.label).1
+  led_low : (test : Act → Bool) (l : ℕ) → LeadsTo test lines l → l ≤ 99999
+  led_low test l to = (labels.range to.place l to.line to.at to.label).1
 
-  names_short : (i : ℕ) (s : Line) → slice_get lines i ≡ Some s → NamesShortLabel s.act
-  names_short i s e = go s.act (λ l h. led_low l (labels.formats i l s e h))
+  pub names_short : (i : ℕ) (s : Line) → slice_get lines i ≡ Some s → NamesShortLabel s.act
+  names_short i s e = go s.act (λ l h. led_low is_executable l (labels.leads i l s e h)) (λ l h. led_low is_format l (labels.formats i l s e h))
     where
-      go : (a : Act) → ((l : ℕ) → Contains (formats_named a) l → l ≤ 99999) → NamesShortLabel a
-      go (Read u l es) h = h l (the_one l)
-      go (Write u l es) h = h l (the_one l)
-      go a h = tt
+      go : (a : Act) → ((l : ℕ) → Contains (branches a) l → l ≤ 99999) → ((l : ℕ) → Contains (formats_named a) l → l ≤ 99999) → NamesShortLabel a
+      go (Goto l) to h = to l (the_one l)
+      go (When e (Goto l)) to h = to l (the_one l)
+      go (Read u l es) to h = h l (the_one l)
+      go (Write u l es) to h = h l (the_one l)
+      go a to h = tt
 
 module _ (V F : Text → Kind → Type 0) (S : Text → Type 0) (u : Routine) (unit : IsPlainUnit V F S u) where
   module _ (few : HasFewOperands V F S u unit) where

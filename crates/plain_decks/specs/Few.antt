@@ -1,9 +1,9 @@
 -- Plain statements with few operands. Their text has at most 1,320 characters, so that it fits its cards.
-use Rattle.std.specs.Prelude.{ℕ, ◌≤◌, ◌+◌, [], length, ⊤}
+use Rattle.std.specs.Prelude.{ℕ, ◌≤◌, ◌+◌, ◌*◌, [], length, ⊤}
 use Rattle.std.specs.List.{All}
 use Rattle.ground.specs.declared.value.Kind.{Kind}
 use Rattle.f66_tree.specs.Fields.{Step, Takes, Blanks, Chars, Slash, Fields, NoField, Single, Group}
-use Rattle.f66_tree.specs.Syntax.{Text, Formula, Int, Ref, Item, Formulas, NoFormula, AndFormula, Entries, NoEntry, AndEntry, Header, SubUnit, FuncUnit, Act, Assign, Invoke, Read, Write, Format, Typed, Routine}
+use Rattle.f66_tree.specs.Syntax.{Text, Formula, Int, Ref, Item, Formulas, NoFormula, AndFormula, Entries, NoEntry, AndEntry, Header, SubUnit, FuncUnit, Act, Assign, Goto, When, Invoke, Read, Write, Format, Typed, Routine}
 use Rattle.stmt_text.specs.Texts.{fields_text}
 use Rattle.deck_laws.specs.Whole.{AreWholeFields}
 use Rattle.plain_units.specs.Units.{IsPlainUnit}
@@ -32,6 +32,19 @@ HasFew (Write u l es) = entries_of es ≤ 180
 HasFew (Format fs) = length (fields_text fs []) ≤ 1300
 HasFew a = ⊤
 
+-- the most characters of what is assigned, and of a statement
+abbrev pub width_of_value : Formula → ℕ
+width_of_value (Item f es) = 8 + width_of_all es
+width_of_value e = 25
+
+abbrev pub width_of_act : Act → ℕ
+width_of_act (Assign x e) = 7 + width_of_value e
+width_of_act (Invoke x es) = 13 + width_of_all es
+width_of_act (Read u l es) = 22 + 7 * entries_of es
+width_of_act (Write u l es) = 23 + 7 * entries_of es
+width_of_act (Format fs) = 8 + length (fields_text fs [])
+width_of_act a = 42
+
 -- the most characters that the fields of a sound format have: counts and widths have three digits, and a comma stands behind each field
 abbrev pub width_of_step : Step → ℕ
 width_of_step (Takes kind w) = 8
@@ -50,8 +63,10 @@ AreNames NoFormula = ⊤
 AreNames (AndFormula (Ref x) es) = AreNames es
 AreNames (AndFormula e es) = ⊥
 
--- the label of the FORMAT of a READ or WRITE has five digits at most
+-- the labels in a statement have five digits at most
 abbrev pub NamesShortLabel : Act → Type 0
+NamesShortLabel (Goto l) = l ≤ 99999
+NamesShortLabel (When e (Goto l)) = l ≤ 99999
 NamesShortLabel (Read u l es) = l ≤ 99999
 NamesShortLabel (Write u l es) = l ≤ 99999
 NamesShortLabel a = ⊤
@@ -66,6 +81,11 @@ abbrev pub HasFewDummies : Header → Type 0
 HasFewDummies (SubUnit x ds) = length ds ≤ 180
 HasFewDummies (FuncUnit t x ds) = length ds ≤ 180
 HasFewDummies h = ⊤
+
+abbrev pub dummies_of : Header → ℕ
+dummies_of (SubUnit x ds) = length ds
+dummies_of (FuncUnit t x ds) = length ds
+dummies_of h = 0
 
 -- in a FORMAT only I, L, A and groups have counts, and A has a width of one
 abbrev pub HasWholeFormat : Act → Type 0

@@ -1,2 +1,3 @@
 -- The definitions of plain_decks.
 pub mod Few
+pub mod Bytes

@@ -20,7 +20,7 @@ returns-in-Some c =
     subst (λ f. IsTyped tree None (Faulty f)) (sym c.new.ensures) (unbuilt_told tree c.in-Some.place c.in_ok-whole.ensures.accepted (sym c.first_unbuilt.ensures ∙ c.in-Some.is))
 
 pub made_of_built-requires-clause-accepted : goal.made_of_built-requires-clause-accepted
-made_of_built-requires-clause-accepted c = all_accepted (program_of c.args.program.now) c.requires.shaped c.requires.scoped c.requires.typed c.in_ok-whole.ensures.accepted (sym c.first_unbuilt.ensures ∙ c.in-None.is)
+made_of_built-requires-clause-accepted c = all_accepted (program_of c.args.program.now) c.requires.text c.requires.scoped c.requires.typed c.in_ok-whole.ensures.accepted (sym c.first_unbuilt.ensures ∙ c.in-None.is)
 
 pub returns-in-None : goal.returns-in-None
 returns-in-None c = built_found (program_of c.args.program.now) c.made_of_built.result c.in_ok-whole.ensures.accepted (sym c.first_unbuilt.ensures ∙ c.in-None.is) c.made_of_built.ensures

@@ -1,0 +1,3 @@
+-- The definitions that the contracts of legal_decks cite.
+pub mod Legal
+pub mod Laws
