@@ -230,6 +230,14 @@ fn code_from(ops: &[Op], pc: usize) -> &[Op]
     &ops[pc..]
 }
 
+/// The number before which an instruction has seven or more behind it.
+#[inline(always)]
+fn roomy(ops: &[Op]) -> usize
+    ensures { result ≡ length ops.now - 7 }
+{
+    ops.len().saturating_sub(7)
+}
+
 /// So many instructions more, and the one at `pc`.
 #[inline(always)]
 fn counted(executed: u64, from: usize, pc: usize) -> u64
@@ -270,6 +278,7 @@ pub(crate) fn run_code<S: Source, K: Sink>(
     let mut level = 0;
     let mut base = 0;
     let mut plan: usize = 0;
+    let bound = roomy(ops);
     'turn: loop {
         prove!(0 < ahead.len());
         let op = &ahead[0];
@@ -338,7 +347,7 @@ pub(crate) fn run_code<S: Source, K: Sink>(
                         Err(trap) => return halted(trap, code, begun, left, done, from, pc + 1),
                     }
                 } else {
-                    match subscripts_behind(size, ahead, 1, ops.len() - pc) {
+                    match subscripts_behind(size, ahead, 1, pc, bound) {
                         Subscripts::Other => {
                             top = push_spot(first, size, stack, top);
                             pc += 1;

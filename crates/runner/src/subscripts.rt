@@ -94,16 +94,12 @@ fn two_at(ops: &[Op], at: usize, one: u32) -> Subscripts
     }
 }
 
-/// The subscripts from here on. The code's length is looked at once, for two of them: of the last few instructions none is found.
+/// The subscripts from here on.
 #[inline(always)]
-fn subscripts_at(ops: &[Op], at: usize, count: usize) -> Subscripts
-    requires few { at < 2 ^ 63 }
-    requires count { count ≡ length ops.now }
+fn subscripts_at(ops: &[Op], at: usize) -> Subscripts
+    requires { at + 6 < length ops.now }
     ensures { AreSubscripts (code_of ops.now) at result }
 {
-    if at + 6 >= count {
-        return Subscripts::Other;
-    }
     match variable_at(ops, at) {
         None => Subscripts::Other,
         Some(one) => match integer_at(ops, at + 2) {
@@ -119,18 +115,26 @@ fn subscripts_at(ops: &[Op], at: usize, count: usize) -> Subscripts
     }
 }
 
-/// The same behind a spot of so many units. Where that is one unit it is hardly an array's, and nothing is looked at. How many
-/// instructions there are is told apart, so that the loop that runs code need not keep it.
+/// The same behind a spot of so many units. Where that is one unit it is hardly an array's, and nothing is looked at, and neither is
+/// where the spot's number is not below a bound: one test, for two subscripts, of a number that the loop that runs code keeps anyway,
+/// as it need not keep how many instructions there are from here on. Of the last few instructions none is found.
 #[inline(always)]
-pub(crate) fn subscripts_behind(size: u32, ops: &[Op], at: usize, count: usize) -> Subscripts
-    requires few { at < 2 ^ 63 }
-    requires count { count ≡ length ops.now }
+pub(crate) fn subscripts_behind(
+    size: u32,
+    ops: &[Op],
+    at: usize,
+    number: usize,
+    bound: usize,
+) -> Subscripts
+    requires { number < bound → at + 6 < length ops.now }
     ensures { AreSubscripts (code_of ops.now) at result }
 {
     if size == 1 {
         Subscripts::Other
+    } else if number < bound {
+        subscripts_at(ops, at)
     } else {
-        subscripts_at(ops, at, count)
+        Subscripts::Other
     }
 }
 

@@ -115,17 +115,12 @@ prove-unreachable-requires-in-Spots g c =
     let rest = ap length c.turn.invariant.1 ∙ length-drop c.turn.pc c.args.code.now.ops.items in
     omega (arith, in_code, rest)
 
-pub overflow_sub-ops : goal.overflow_sub-ops
-overflow_sub-ops g c =
-    let in_code = turn.within c.requires.ready.valid c.valid_is_safe.ensures c.turn.invariant.0.turn in
-    let same = ap length c.deref-ops.ensures.value in
-    omega (arith, in_code, same)
-
-pub subscripts_behind-requires-clause-count : goal.subscripts_behind-requires-clause-count
-subscripts_behind-requires-clause-count g c =
+pub subscripts_behind-requires : goal.subscripts_behind-requires
+subscripts_behind-requires g c = λ low.
     let rest = ap length c.turn.invariant.1 ∙ length-drop c.turn.pc c.args.code.now.ops.items in
     let same = ap length c.deref-ops.ensures.value in
-    omega (arith, rest, same)
+    let bound = c.roomy-bound.ensures in
+    omega (arith, low, rest, same, bound)
 
 pub variable-requires-clause-unit : goal.variable-requires-clause-unit
 variable-requires-clause-unit g c =
