@@ -10,6 +10,7 @@ pub mod LoopArms
 pub mod Takes
 pub mod Reached
 pub mod ElementArms
+pub mod Placing
 pub mod FrameArms
 pub mod KnownArms
 pub mod Measure

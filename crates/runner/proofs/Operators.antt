@@ -1,22 +1,25 @@
 -- Operators with two values.
-use Rattle.std.proofs.Common.{◌≡◌, ℕ, zero, suc, ◌+◌, ◌≤◌, Bool, true, false, List, ◌∷◌, length, refl, sym, ap, ◌∙◌, subst, arith}
+use Rattle.std.proofs.Common.{◌≡◌, ℕ, zero, suc, ◌+◌, ◌-◌, ◌≤◌, Bool, true, false, List, ◌∷◌, length, get_or, refl, sym, ap, ◌∙◌, subst, arith}
 use Rattle.std.specs.Prelude.{Result, Ok, Err, Some, ℤ, pos, negsuc, IfOk, nat_le, unsigned_abs, if◌then◌else◌, int_div}
 use Rattle.std.specs.Int.{int_pow}
-use Rattle.std.proofs.lemmas.Bool.{leb-true}
+use Rattle.std.proofs.lemmas.Bool.{leb-true, true≢false}
 use Rattle.ground.specs.declared.trap.Trap.{Trap}
 use Rattle.ground.specs.declared.trap.Trap.TheVariants.{Overflow}
 use Rattle.ground.specs.Arithmetic.{IsInRange, in_range, quotient, power, greatest}
 use Rattle.ground.specs.Content.{Content, Nothing, Whole, Truth}
 use Rattle.f66_tree.specs.declared.expression.Operator.{Operator}
+use Rattle.f66_tree.specs.declared.expression.Operator.TheVariants.{Add, Sub, Mul, Div, Power, Lt, Le, Eq, Ne, Ge, Gt, And, Or}
 use Rattle.f66_tree.specs.Fields.{Fields}
 use Rattle.f66_tree.specs.World.{World, Trapped, Ended, Halts, Fails}
-use Rattle.f66_tree.specs.Evaluation.{operate, on_truth, on_whole}
+use Rattle.f66_tree.specs.Evaluation.{operate, on_truth, on_whole, whole}
 use Rattle.stack_code.specs.Instructions as i
 use Rattle.stack_code.specs.StackMachine.{Entry, Val, Core, on_value, pushed, act}
 use Rattle.stack_code.specs.Safety.{IsRight}
 use Rattle.runner.specs.declared.words.Word.{Word}
-use Rattle.runner.specs.Words.{Shows, Stand, IsMade, pile_of}
-use Rattle.runner.specs.Work.{IsGiven, AreOperands, MayWork, GoesTo, IsFine}
+use Rattle.runner.specs.Words.{Shows, Stand, IsMade, blank, pile_of}
+use Rattle.runner.specs.Subscripted.{integer_word}
+use Rattle.runner.specs.Work.{IsGiven, is_arithmetic, AreOperands, MayWork, GoesTo, IsFine}
+use Rattle.runner.proofs.Piles.{pile_second}
 use Rattle.runner.proofs.Tops.{tall, given_of, TwoValues, two_values, pushed_made, pushed_trap}
 
 pub small_result : (z : ℤ) → IfOk (in_range z) IsInRange
@@ -87,6 +90,7 @@ pub record TwoIntegers (op : Operator) (x y : Word) : Type 0 where
   pub first : IsInRange x.value
   pub second : IsInRange y.value
   pub given : IsGiven (on_whole op x.value y.value)
+  pub behind : x.behind ≡ 0
 
 pub record TwoTruths (x y : Word) : Type 0 where
   pub a : Bool
@@ -94,7 +98,7 @@ pub record TwoTruths (x y : Word) : Type 0 where
 
 pub integers : (op : Operator) (x y : Word) (a b : Content) → ((c d : Bool) → on_truth op c d ≡ Fails) → Shows (Val a) x → Shows (Val b) y → IsGiven (operate op a b) → TwoIntegers op x y
 integers op x y (Whole a) (Whole b) bad h k g =
-    record { first = subst IsInRange (sym h.value) h.small; second = subst IsInRange (sym k.value) k.small; given = subst (λ n. IsGiven (on_whole op n y.value)) (sym h.value) (subst (λ n. IsGiven (on_whole op a n)) (sym k.value) g) }
+    record { first = subst IsInRange (sym h.value) h.small; second = subst IsInRange (sym k.value) k.small; given = subst (λ n. IsGiven (on_whole op n y.value)) (sym h.value) (subst (λ n. IsGiven (on_whole op a n)) (sym k.value) g); behind = h.behind }
 integers op x y (Truth a) (Truth b) bad h k g = absurd (subst IsGiven (bad a b) g)
 integers op x y (Whole a) (Truth b) bad h k g = absurd g
 integers op x y (Truth a) (Whole b) bad h k g = absurd g
@@ -110,3 +114,37 @@ integers_made op x y r (Truth a) (Whole b) bad m h k g = absurd g
 integers_made op x y r Nothing b bad m h k g = absurd h
 integers_made op x y r (Whole a) Nothing bad m h k g = absurd k
 integers_made op x y r (Truth a) Nothing bad m h k g = absurd k
+
+-- ---- operators that make an integer ----
+
+no_truth : (op : Operator) → is_arithmetic op ≡ true → (c d : Bool) → on_truth op c d ≡ Fails
+no_truth Add k c d = refl
+no_truth Sub k c d = refl
+no_truth Mul k c d = refl
+no_truth Div k c d = refl
+no_truth Power k c d = refl
+no_truth Lt k c d = refl
+no_truth Le k c d = refl
+no_truth Eq k c d = refl
+no_truth Ne k c d = refl
+no_truth Ge k c d = refl
+no_truth Gt k c d = refl
+no_truth And k c d = absurd (true≢false (sym k))
+no_truth Or k c d = absurd (true≢false (sym k))
+
+module _ (op : Operator) (kind : is_arithmetic op ≡ true) (buffer : List Word) (top : ℕ) (below : List Word) (x y : Word) (e : pile_of buffer top ≡ y ∷ x ∷ below) where
+  pub arithmetic_operands : MayWork (i.Both op) buffer top → TwoIntegers op x y
+  arithmetic_operands m =
+      let o = both_operands op buffer top below x y m e in
+      integers op x y o.a o.b (no_truth op kind) o.first o.second o.given
+
+  -- nothing is behind the first value
+  pub arithmetic_under : MayWork (i.Both op) buffer top → (get_or buffer (top - 2) blank).behind ≡ 0
+  arithmetic_under m =
+      let t = arithmetic_operands m in
+      ap (λ w. w.behind) (pile_second buffer top x y below (both_tall op buffer top m) m.within e) ∙ t.behind
+
+  pub arithmetic_works : (plans : List Fields) (s : Core) (w : World) → Stand s.stack (pile_of buffer top) → IsFine (act plans (Some (i.Both op)) s w) → (z : ℤ) (piled : List Word) → whole (Ok z) ≡ on_whole op x.value y.value → IsInRange z → piled ≡ integer_word z ∷ below → GoesTo (act plans (Some (i.Both op)) s w) s w (s.pc + 1) piled
+  arithmetic_works plans s w st fine z piled is small e1 =
+      both_works op (pile_of buffer top) below x y e plans s w st fine (integer_word z) piled
+      (λ a b h k g. integers_made op x y (Ok (integer_word z)) a b (no_truth op kind) (subst (λ t. IsMade t (Ok (integer_word z))) is (record { value = refl; behind = refl; small = small })) h k g) e1

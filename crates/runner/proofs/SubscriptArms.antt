@@ -3,7 +3,7 @@
 use Rattle.std.proofs.Common.{◌≡◌, ℕ, suc, ◌+◌, ◌-◌, ◌*◌, ◌<◌, ◌≤◌, ◌^◌, List, ◌∷◌, ◌++◌, length, drop, Option, Some, None, Bool, true, false, refl, sym, ap, ◌∙◌, subst, arith, slice_get, slice_set}
 use Rattle.std.specs.Prelude.{ℤ, Result, Ok, Err, pos, ◌-ℤ◌, unsigned_abs, int_le, ◌&&◌, if◌then◌else◌}
 use Rattle.std.proofs.lemmas.List.{length-set}
-use Rattle.std.proofs.lemmas.Option.{get_or_from_slice_get}
+use Rattle.std.proofs.lemmas.Option.{get_or_from_slice_get, none-some}
 use Rattle.ground.specs.declared.place.Place.{Place}
 use Rattle.ground.specs.declared.trap.Trap.{Trap}
 use Rattle.ground.specs.declared.trap.Trap.TheVariants.{Subscript}
@@ -34,7 +34,7 @@ use Rattle.runner.specs.Words.{Shows, Stand, IsMade, IsSmall, blank, content_of,
 use Rattle.runner.specs.Work.{Works, IsFine, GoesTo}
 use Rattle.runner.specs.declared.elements.Reach.{Reach}
 use Rattle.runner.specs.Reaching.{Alike, Same, Many, IsShifted, advanced, reaches, at_first, value_at, capped, before, two_reach}
-use Rattle.runner.specs.Subscripted.{AreSubscripts, IsVariable, IsByOne, IsByTwo, IsRead, IsLaidOne, AreLaidTwo, integer_word}
+use Rattle.runner.specs.Subscripted.{IsPlacedBy, AreSubscripts, IsVariable, IsByOne, IsByTwo, IsRead, IsLaidOne, AreLaidTwo, integer_word}
 use Rattle.runner.proofs.ElementArms.{element_outside, element_past, element_works}
 use Rattle.runner.proofs.Measure.{far}
 use Rattle.runner.proofs.PlaceArms.{load_works, load_traps}
@@ -152,6 +152,20 @@ module _ (first size : ℕ) (one : Word) (extent : ℤ) (old : List Word) (top :
     pub one_works : (made : Word) (piled : List Word) → ((p : Spot) (k : ℕ) → Shows (At p) (spot_word first size) → Alike far k → IsShifted (shift p k) (Some made)) → piled ≡ made ∷ pile_of old top → GoesTo (act plans (Some (i.Element 1)) s w) s w (s.pc + 1) piled
     one_works made piled f e1 = element_works 1 buffer (top + 3) l.within _ plans s w st fine (top + 1) (omega arith) found_by_one.n found_by_one.is (spot_word first size) (pile_of old top) l.spot made piled (λ p m h a. f p m h (alike_both found_by_one.n far m found_by_one.alike a)) e1
 
+  pub one_unplaced : IsPlacedBy first size (before one.value extent) None → act plans (Some (i.Element 1)) s w ≡ Halts (Ended (Trapped Subscript s.frame.place)) w
+  one_unplaced h = by (before one.value extent) refl h
+    where
+      by : (o : Option ℕ) → o ≡ before one.value extent → IsPlacedBy first size o None → act plans (Some (i.Element 1)) s w ≡ Halts (Ended (Trapped Subscript s.frame.place)) w
+      by None e p = one_outside e
+      by (Some n) e p = one_past n e p
+
+  pub one_placed : (made : Word) (piled : List Word) → IsPlacedBy first size (before one.value extent) (Some made) → piled ≡ made ∷ pile_of old top → GoesTo (act plans (Some (i.Element 1)) s w) s w (s.pc + 1) piled
+  one_placed made piled h e1 = by (before one.value extent) refl h
+    where
+      by : (o : Option ℕ) → o ≡ before one.value extent → IsPlacedBy first size o (Some made) → GoesTo (act plans (Some (i.Element 1)) s w) s w (s.pc + 1) piled
+      by None e p = absurd (none-some made p)
+      by (Some n) e p = one_works n e made piled p e1
+
 module _ (first size : ℕ) (one two : Word) (rows columns : ℤ) (old : List Word) (top : ℕ) (buffer : List Word) (l : AreLaidTwo first size one two rows columns old top buffer) (plans : List Fields) (s : Core) (w : World) (st : Stand s.stack (pile_of buffer (top + 5))) (fine : IsFine (act plans (Some (i.Element 2)) s w)) where
   reached_by_two : AreAlike (reaches at_first buffer (top + 1) ((top + 5) - 2) 2) (two_reach one.value two.value rows columns)
   reached_by_two =
@@ -173,6 +187,20 @@ module _ (first size : ℕ) (one two : Word) (rows columns : ℤ) (old : List Wo
 
     pub two_works : (made : Word) (piled : List Word) → ((p : Spot) (k : ℕ) → Shows (At p) (spot_word first size) → Alike far k → IsShifted (shift p k) (Some made)) → piled ≡ made ∷ pile_of old top → GoesTo (act plans (Some (i.Element 2)) s w) s w (s.pc + 1) piled
     two_works made piled f e1 = element_works 2 buffer (top + 5) l.within _ plans s w st fine (top + 1) (omega arith) found_by_two.n found_by_two.is (spot_word first size) (pile_of old top) l.spot made piled (λ p m h a. f p m h (alike_both found_by_two.n far m found_by_two.alike a)) e1
+
+  pub two_unplaced : IsPlacedBy first size (two_reach one.value two.value rows columns) None → act plans (Some (i.Element 2)) s w ≡ Halts (Ended (Trapped Subscript s.frame.place)) w
+  two_unplaced h = by (two_reach one.value two.value rows columns) refl h
+    where
+      by : (o : Option ℕ) → o ≡ two_reach one.value two.value rows columns → IsPlacedBy first size o None → act plans (Some (i.Element 2)) s w ≡ Halts (Ended (Trapped Subscript s.frame.place)) w
+      by None e p = two_outside e
+      by (Some n) e p = two_past n e p
+
+  pub two_placed : (made : Word) (piled : List Word) → IsPlacedBy first size (two_reach one.value two.value rows columns) (Some made) → piled ≡ made ∷ pile_of old top → GoesTo (act plans (Some (i.Element 2)) s w) s w (s.pc + 1) piled
+  two_placed made piled h e1 = by (two_reach one.value two.value rows columns) refl h
+    where
+      by : (o : Option ℕ) → o ≡ two_reach one.value two.value rows columns → IsPlacedBy first size o (Some made) → GoesTo (act plans (Some (i.Element 2)) s w) s w (s.pc + 1) piled
+      by None e p = absurd (none-some made p)
+      by (Some n) e p = two_works n e made piled p e1
 
 -- ---- a subscript is read, and a dimension pushed ----
 

@@ -1,5 +1,5 @@
 -- Elements whose subscripts are variables, which are not written on the stack.
-use Rattle.std.specs.Prelude.{◌≡◌, ℤ, ℕ, ◌+◌, ◌<◌, ◌≤◌, List, ◌∷◌, length, Some, Result, Ok, Err, slice_get, slice_set}
+use Rattle.std.specs.Prelude.{◌≡◌, ℤ, ℕ, ◌+◌, ◌<◌, ◌≤◌, List, ◌∷◌, length, Option, Some, None, Result, Ok, Err, slice_get, slice_set}
 use Rattle.ground.specs.declared.trap.Trap.{Trap}
 use Rattle.ground.specs.declared.value.Kind.TheVariants.{Integer}
 use Rattle.ground.specs.Content.{Whole}
@@ -9,7 +9,9 @@ use Rattle.runner.specs.declared.subscripts.Subscripts.{Subscripts}
 use Rattle.runner.specs.declared.subscripts.Subscripts.TheVariants as s
 use Rattle.runner.specs.declared.words.Word.{Word}
 use Rattle.runner.specs.declared.words.Cell.{Cell}
-use Rattle.runner.specs.Words.{pile_of, spot_word}
+use Rattle.stack_code.specs.StackMachine.{Spot, At, shift}
+use Rattle.runner.specs.Words.{Shows, pile_of, spot_word}
+use Rattle.runner.specs.Reaching.{Alike, IsShifted}
 use Rattle.runner.specs.Work.{Holds}
 
 -- a variable's spot stands there, and a load of an integer behind it
@@ -39,6 +41,11 @@ AreSubscripts code at (s.Two one two rows columns) = IsByTwo code at one two row
 abbrev pub IsRead : ℕ → List Cell → Result Word Trap → Type 0
 IsRead unit cells (Ok x) = (buffer : List Word) (at size : ℕ) → at < length buffer → Holds (i.Load Integer) (slice_set buffer at (spot_word unit size)) (at + 1) cells (slice_set buffer at x) cells (Ok (at + 1))
 IsRead unit cells (Err t) = (buffer new : List Word) (at size : ℕ) → at < length buffer → Holds (i.Load Integer) (slice_set buffer at (spot_word unit size)) (at + 1) cells new cells (Err t)
+
+-- where a place is told, the word stands for the spot so many places behind a variable's first unit, or there is none
+abbrev pub IsPlacedBy : ℕ → ℕ → Option ℕ → Option Word → Type 0
+IsPlacedBy first size (Some far) r = (p : Spot) (n : ℕ) → Shows (At p) (spot_word first size) → Alike far n → IsShifted (shift p n) r
+IsPlacedBy first size None r = None ≡ r
 
 abbrev pub integer_word : ℤ → Word
 integer_word z = record { value = z; behind = 0 }

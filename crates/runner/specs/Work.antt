@@ -3,6 +3,7 @@ use Rattle.std.specs.Prelude.{◌≡◌, Bool, true, false, ◌&&◌, ℤ, pos, 
 use Rattle.ground.specs.declared.trap.Trap.{Trap}
 use Rattle.ground.specs.Content.{Content}
 use Rattle.f66_tree.specs.declared.expression.Operator.{Operator}
+use Rattle.f66_tree.specs.declared.expression.Operator.TheVariants.{Add, Sub, Mul, Div, Power}
 use Rattle.f66_tree.specs.Fields.{Fields}
 use Rattle.f66_tree.specs.World.{World, Store, Trapped, Ended, Out, Gives, Halts, Try, Yields, Traps, Fails, holding}
 use Rattle.f66_tree.specs.Evaluation.{operate}
@@ -18,6 +19,15 @@ abbrev pub IsGiven : {A : Type 0} → Try A → Type 0
 IsGiven (Yields a) = Unit {0}
 IsGiven (Traps t) = Unit {0}
 IsGiven Fails = ⊥
+
+-- whether an operator makes an integer
+abbrev pub is_arithmetic : Operator → Bool
+is_arithmetic Add = true
+is_arithmetic Sub = true
+is_arithmetic Mul = true
+is_arithmetic Div = true
+is_arithmetic Power = true
+is_arithmetic _ = false
 
 -- two words stand for what the operator takes
 pub record AreOperands (op : Operator) (x y : Word) : Type 0 where

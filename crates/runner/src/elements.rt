@@ -1,5 +1,5 @@
 // Elements of arrays.
-ghost use Rattle.std.specs.Prelude.{◌≡◌, ◌+◌, ◌<◌, ◌≤◌, ◌^◌, ℕ, pos, length, IfSome};
+ghost use Rattle.std.specs.Prelude.{◌≡◌, ◌+◌, ◌<◌, ◌≤◌, ◌^◌, ℕ, pos, length, None, IfSome};
 ghost use Rattle.stack_code.specs.Instructions.{Element};
 ghost use Rattle.stack_code.specs.StackMachine.{Spot, At, shift};
 ghost use Rattle.runner.specs.Words.{Shows, spot_word};
@@ -206,7 +206,8 @@ pub(crate) fn shifted(word: Word, far: u64) -> Option<Word>
 pub(crate) fn spot_on(first: u32, size: u32, far: u64) -> Option<Word>
     requires some { 1 ≤ size }
     requires few { first + size < 2 ^ 31 }
-    ensures { (p : Spot) (n : ℕ) → Shows (At p) (spot_word first size) → Alike far n → IsShifted (shift p n) result }
+    ensures on { (p : Spot) (n : ℕ) → Shows (At p) (spot_word first size) → Alike far n → IsShifted (shift p n) result }
+    ensures past { size ≤ far → None ≡ result }
 {
     if far < size as u64 {
         Some(placed(first as u64 + far, first + size))

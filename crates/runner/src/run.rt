@@ -18,7 +18,7 @@ use crate::loops::{loop_start, loop_turn, variable_turn};
 use crate::places::{forget, lend, load, store, variable};
 use crate::records::record_step;
 use crate::subscripts::{Subscripts, element_by_one, element_by_two, subscript, subscripts_behind};
-use crate::values::{both, minus, not, push_integer, push_spot, push_truth};
+use crate::values::{arithmetic, both, minus, not, push_integer, push_spot, push_truth};
 use crate::words::{Cell, Word};
 use f66_tree::Operator;
 use ground::{Kind, Place, Trap};
@@ -167,11 +167,11 @@ fn operation(op: &Op, stack: &mut [Word], top: usize) -> Result<usize, Trap>
     ensures room { IsRoomFor stack.new result }
 {
     match op {
-        Op::Add => both(Operator::Add, stack, top),
-        Op::Sub => both(Operator::Sub, stack, top),
-        Op::Mul => both(Operator::Mul, stack, top),
-        Op::Div => both(Operator::Div, stack, top),
-        Op::Pow => both(Operator::Power, stack, top),
+        Op::Add => arithmetic(Operator::Add, stack, top),
+        Op::Sub => arithmetic(Operator::Sub, stack, top),
+        Op::Mul => arithmetic(Operator::Mul, stack, top),
+        Op::Div => arithmetic(Operator::Div, stack, top),
+        Op::Pow => arithmetic(Operator::Power, stack, top),
         Op::And => both(Operator::And, stack, top),
         Op::Or => both(Operator::Or, stack, top),
         Op::Compare(op) => both(*op, stack, top),

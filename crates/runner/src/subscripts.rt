@@ -1,5 +1,5 @@
 // Elements whose subscripts are variables: of what they are made nothing but the element's spot is written on the stack.
-ghost use Rattle.std.specs.Prelude.{◌≡◌, ◌+◌, ◌<◌, ◌≤◌, ◌^◌, List, length, slice_get, IfSome, Some, true};
+ghost use Rattle.std.specs.Prelude.{◌≡◌, ◌+◌, ◌*◌, ◌<◌, ◌≤◌, ◌^◌, pos, ◌-ℤ◌, unsigned_abs, int_le, List, length, slice_get, IfSome, Some, true, false};
 ghost use Rattle.ground.specs.Arithmetic.{IsInRange};
 ghost use Rattle.ground.specs.Content.{Whole};
 ghost use Rattle.stack_code.specs.Instructions.{Push, Element};
@@ -7,7 +7,7 @@ ghost use Rattle.stack_code.specs.Views.{code_of};
 ghost use Rattle.runner.specs.declared.words.Word.{Word as TheWord};
 ghost use Rattle.runner.specs.Work.{Works, IsRoomFor};
 ghost use Rattle.runner.specs.Reaching.{before as before_in, two_reach};
-ghost use Rattle.runner.specs.Subscripted.{IsVariable, AreSubscripts, IsRead, IsLaidOne, AreLaidTwo};
+ghost use Rattle.runner.specs.Subscripted.{IsVariable, AreSubscripts, IsRead, IsLaidOne, AreLaidTwo, IsPlacedBy};
 
 use crate::elements::spot_on;
 use crate::places::{cell_at, shown};
@@ -147,30 +147,60 @@ pub(crate) fn subscript(unit: u32, cells: &[Cell]) -> Result<Word, Trap>
     shown(Kind::Integer, cell_at(cells, unit as usize))
 }
 
-/// How many lie before the one that a subscript names.
+/// How many lie before the one that a subscript names. Where the subscript is below one it is more than any array has, so that how
+/// many units the array has is the only lower bound that is looked at.
 #[inline(always)]
-fn before(subscript: i32, extent: i32) -> Option<u64>
-    ensures is { result ≡ before_in subscript extent }
-    ensures small { IfSome result (λ far. far ≤ 2 ^ 31) }
+fn before(subscript: i32) -> u64
+    ensures named { int_le (pos 1) subscript ≡ true → result ≡ unsigned_abs (subscript -ℤ pos 1) }
+    ensures unnamed { int_le (pos 1) subscript ≡ false → 2 ^ 31 ≤ result + 1 }
+    ensures small { result < 2 ^ 32 }
 {
-    if 1 <= subscript && subscript <= extent {
-        Some(u64::from((subscript - 1).unsigned_abs()))
+    u64::from(subscript.cast_unsigned().wrapping_sub(1))
+}
+
+/// Whether a subscript is at most its dimension.
+#[inline(always)]
+fn is_within(subscript: i32, extent: i32) -> bool
+    ensures { result ≡ int_le subscript extent }
+{
+    subscript <= extent
+}
+
+/// The spot of the element by one subscript and its dimension.
+#[inline(always)]
+fn spot_by_one(first: u32, size: u32, subscript: i32, extent: i32) -> Option<Word>
+    requires some { 1 ≤ size }
+    requires few { first + size < 2 ^ 31 }
+    ensures { IsPlacedBy first size (before_in subscript extent) result }
+{
+    if is_within(subscript, extent) {
+        spot_on(first, size, before(subscript))
     } else {
         None
     }
 }
 
-/// How far an element is by two subscripts and their dimensions. No cap is needed, since the number of units is looked at next.
+/// How many lie before the one that two subscripts name, where each is at most its dimension.
 #[inline(always)]
-fn far_by_two(one: i32, two: i32, rows: i32, columns: i32) -> Option<u64>
-    ensures { result ≡ two_reach one two rows columns }
+fn before_both(one: i32, two: i32, rows: i32) -> u64
+    ensures named { int_le (pos 1) one ≡ true → int_le (pos 1) two ≡ true → int_le one rows ≡ true → result ≡ unsigned_abs (one -ℤ pos 1) + unsigned_abs (two -ℤ pos 1) * unsigned_abs rows }
+    ensures first { int_le (pos 1) one ≡ false → 2 ^ 31 ≤ result + 1 }
+    ensures second { int_le (pos 1) one ≡ true → int_le one rows ≡ true → int_le (pos 1) two ≡ false → 2 ^ 31 ≤ result + 1 }
 {
-    match before(one, rows) {
-        Some(left) => match before(two, columns) {
-            Some(above) => Some(left + above * rows as u64),
-            None => None,
-        },
-        None => None,
+    before(one) + before(two) * u64::from(rows.cast_unsigned())
+}
+
+/// The same by two.
+#[inline(always)]
+fn spot_by_two(first: u32, size: u32, one: i32, two: i32, rows: i32, columns: i32) -> Option<Word>
+    requires some { 1 ≤ size }
+    requires few { first + size < 2 ^ 31 }
+    ensures { IsPlacedBy first size (two_reach one two rows columns) result }
+{
+    if is_within(one, rows) && is_within(two, columns) {
+        spot_on(first, size, before_both(one, two, rows))
+    } else {
+        None
     }
 }
 
@@ -192,15 +222,12 @@ pub(crate) fn element_by_one(
     ensures works { (buffer : List TheWord) → IsLaidOne first size subscript extent stack.old top buffer → Works (Element 1) buffer (top + 3) stack.new result }
     ensures room { IsRoomFor stack.new result }
 {
-    match before(subscript.value, whole(extent).value) {
+    match spot_by_one(first, size, subscript.value, whole(extent).value) {
         None => Err(Trap::Subscript),
-        Some(far) => match spot_on(first, size, far) {
-            None => Err(Trap::Subscript),
-            Some(word) => {
-                push(stack, top, word);
-                Ok(top + 1)
-            }
-        },
+        Some(word) => {
+            push(stack, top, word);
+            Ok(top + 1)
+        }
     }
 }
 
@@ -224,19 +251,18 @@ pub(crate) fn element_by_two(
     ensures works { (buffer : List TheWord) → AreLaidTwo first size one two rows columns stack.old top buffer → Works (Element 2) buffer (top + 5) stack.new result }
     ensures room { IsRoomFor stack.new result }
 {
-    match far_by_two(
+    match spot_by_two(
+        first,
+        size,
         one.value,
         two.value,
         whole(rows).value,
         whole(columns).value,
     ) {
         None => Err(Trap::Subscript),
-        Some(far) => match spot_on(first, size, far) {
-            None => Err(Trap::Subscript),
-            Some(word) => {
-                push(stack, top, word);
-                Ok(top + 1)
-            }
-        },
+        Some(word) => {
+            push(stack, top, word);
+            Ok(top + 1)
+        }
     }
 }

@@ -1,12 +1,13 @@
 // The instructions on values: operators, signs and intrinsic functions.
-ghost use Rattle.std.specs.Prelude.{◌≡◌, ◌+◌, ◌≤◌, ◌<◌, ◌^◌, length, IfOk, Ok, neg_ℤ};
+ghost use Rattle.std.specs.Prelude.{◌≡◌, ◌∷◌, ◌+◌, ◌≤◌, ◌<◌, ◌^◌, length, get_or, IfOk, Ok, neg_ℤ, true};
 ghost use Rattle.ground.specs.Arithmetic.{IsInRange, in_range as ranged};
 ghost use Rattle.ground.specs.Content.{Content, Whole, Truth};
 ghost use Rattle.f66_tree.specs.Evaluation.{on_whole, whole as tried, operate as operated, opposite as opposed, denied as refused};
 ghost use Rattle.stack_code.specs.Instructions.{Both, Push, PushSpot, Minus, Not};
 ghost use Rattle.stack_code.specs.StackMachine.{Val};
-ghost use Rattle.runner.specs.Words.{Shows, IsMade, IsWholeWord};
-ghost use Rattle.runner.specs.Work.{AreOperands, IsOperand, IsGiven, MayWork, Works, IsRoomFor};
+ghost use Rattle.runner.specs.Words.{Shows, IsMade, IsWholeWord, blank, pile_of};
+ghost use Rattle.runner.specs.Subscripted.{integer_word};
+ghost use Rattle.runner.specs.Work.{is_arithmetic, AreOperands, IsOperand, IsGiven, MayWork, Works, IsRoomFor};
 
 use crate::words::{Word, first_of, is_true, push, truth, two_at, whole, word_at};
 use f66_tree::Operator;
@@ -35,6 +36,25 @@ pub(crate) fn made(number: Result<i64, Trap>) -> Result<Word, Trap>
     }
 }
 
+/// What an arithmetic operator makes of two integers.
+#[inline(always)]
+fn number(op: Operator, a: i64, b: i64) -> Result<i64, Trap>
+    requires kind { is_arithmetic op ≡ true }
+    requires first { IsInRange a }
+    requires second { IsInRange b }
+    ensures is { tried result ≡ on_whole op a b }
+    ensures small { IfOk result IsInRange }
+{
+    match op {
+        Operator::Add => in_range(a + b),
+        Operator::Sub => in_range(a - b),
+        Operator::Mul => in_range(a * b),
+        Operator::Div => div(a, b),
+        Operator::Power => power(a, b),
+        _ => unreachable!(),
+    }
+}
+
 /// An operator with two integers.
 #[inline(always)]
 fn on_integers(op: Operator, a: i64, b: i64) -> Result<Word, Trap>
@@ -44,11 +64,9 @@ fn on_integers(op: Operator, a: i64, b: i64) -> Result<Word, Trap>
     ensures { IsMade (on_whole op a b) result }
 {
     match op {
-        Operator::Add => made(in_range(a + b)),
-        Operator::Sub => made(in_range(a - b)),
-        Operator::Mul => made(in_range(a * b)),
-        Operator::Div => made(div(a, b)),
-        Operator::Power => made(power(a, b)),
+        Operator::Add | Operator::Sub | Operator::Mul | Operator::Div | Operator::Power => {
+            made(number(op, a, b))
+        }
         Operator::Lt => Ok(truth(a < b)),
         Operator::Le => Ok(truth(a <= b)),
         Operator::Eq => Ok(truth(a <= b && b <= a)),
@@ -85,6 +103,36 @@ pub(crate) fn both(op: Operator, stack: &mut [Word], top: usize) -> Result<usize
         Ok(word) => {
             let under = top - 2;
             push(stack, under, word);
+            Ok(under + 1)
+        }
+        Err(trap) => Err(trap),
+    }
+}
+
+/// Writes an integer in the place of a word behind which nothing is, of which only the number changes.
+#[inline(always)]
+fn put_number(stack: &mut [Word], at: usize, number: i64)
+    requires within { at < length stack.old }
+    requires small { IsInRange number }
+    requires same { (get_or stack.old at blank).behind ≡ 0 }
+    ensures { pile_of stack.new (at + 1) ≡ integer_word number ∷ pile_of stack.old at }
+{
+    stack[at].value = number as i32;
+}
+
+/// Two integers are popped, and what an arithmetic operator makes of them is pushed: it is written in the place of the first.
+#[inline(always)]
+pub(crate) fn arithmetic(op: Operator, stack: &mut [Word], top: usize) -> Result<usize, Trap>
+    requires kind { is_arithmetic op ≡ true }
+    requires work { MayWork (Both op) stack.old top }
+    ensures works { Works (Both op) stack.old top stack.new result }
+    ensures room { IsRoomFor stack.new result }
+{
+    let (x, y) = two_at(stack, top);
+    match number(op, i64::from(x.value), i64::from(y.value)) {
+        Ok(exact) => {
+            let under = top - 2;
+            put_number(stack, under, exact);
             Ok(under + 1)
         }
         Err(trap) => Err(trap),

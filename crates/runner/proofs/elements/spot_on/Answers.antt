@@ -10,14 +10,14 @@ placed-requires c =
     let few = c.requires.few in
     omega arith
 
-pub returns-then-far-size : goal.returns-then-far-size
-returns-then-far-size c = λ p n h a.
+pub returns-then-far-size-clause-on : goal.returns-then-far-size-clause-on
+returns-then-far-size-clause-on c = λ p n h a.
     let lt : c.args.far < c.args.size = search rules in
     let some = c.requires.some in
     placed_on p n (spot_word c.args.first c.args.size) c.args.far (c.args.first + c.args.far) (λ e. absurd (omega arith)) h a (unit_here c.args.first c.args.far (spot_word c.args.first c.args.size) refl) (omega arith) c.placed.result c.placed.ensures.value c.placed.ensures.behind
 
-pub returns-else-far-size : goal.returns-else-far-size
-returns-else-far-size c = λ p n h a.
+pub returns-else-far-size-clause-on : goal.returns-else-far-size-clause-on
+returns-else-far-size-clause-on c = λ p n h a.
     let past : c.args.size ≤ c.args.far = search rules in
     let some = c.requires.some in
     placed_past p n (spot_word c.args.first c.args.size) c.args.far (c.args.first + c.args.far) (λ e. absurd (omega arith)) h a (unit_here c.args.first c.args.far (spot_word c.args.first c.args.size) refl) (omega arith)
