@@ -27,7 +27,7 @@ fn failing(alloc: Global, call: u64) -> Result<Vec<u64>, Fail> {
 }
 
 /// A library of these texts, of whose fetches one fails.
-fn library_of(alloc: Global, texts: Texts<'_>, fetch: u64) -> Result<MemLibrary, Fail> {
+pub fn library_of(alloc: Global, texts: Texts<'_>, fetch: u64) -> Result<MemLibrary, Fail> {
     let mut names = Vec::new(alloc);
     for (name, text) in texts {
         names.push((String::from_str(alloc, name)?, text.to_vec(alloc)?))?;
@@ -37,7 +37,7 @@ fn library_of(alloc: Global, texts: Texts<'_>, fetch: u64) -> Result<MemLibrary,
 
 /// A source of these pieces, of whose reads one fails. A piece without bytes is left out.
 #[tactic(auto, using(crate::proofs::PieceLemmas::full_more))]
-fn source_of(alloc: Global, pieces: Pieces<'_>, read: u64) -> Result<MemSource, Fail> {
+pub fn source_of(alloc: Global, pieces: Pieces<'_>, read: u64) -> Result<MemSource, Fail> {
     let mut full = Vec::new(alloc);
     for piece in pieces {
         if !piece.is_empty() {
@@ -58,7 +58,7 @@ fn words_of(alloc: Global, texts: Texts<'_>) -> Result<Vec<String>, Fail> {
 }
 
 /// Bytes as characters.
-fn shown(alloc: Global, bytes: &[u8]) -> Result<String, AllocError> {
+pub fn shown(alloc: Global, bytes: &[u8]) -> Result<String, AllocError> {
     let mut shown = String::new(alloc);
     for byte in bytes {
         shown.push(*byte as char)?;

@@ -15,6 +15,8 @@ use std::alloc::Global;
 #[cfg(test)]
 mod calling;
 #[cfg(test)]
+mod counts;
+#[cfg(test)]
 mod failures;
 #[cfg(test)]
 mod inputs;
