@@ -1,9 +1,8 @@
 -- Edits A1 that come next with nothing between them, and the characters that go by them.
-use Rattle.std.specs.Prelude.{◌≡◌, ℕ, zero, suc, ◌+◌, ◌-◌, ◌<◌, ◌≤◌, List, [], ◌∷◌, ◌++◌, refl, pos, Ok, Err, Option, Some, None, length, take, drop, set, replicate, get_or, slice_get, All, if◌then◌else◌}
-use Rattle.std.proofs.Common.{sym, ◌∙◌, ap, subst, arith, append_assoc, append-nil, length-append, drop-cons}
-use Rattle.std.proofs.Math.Seq.{set-append_seam}
-use Rattle.std.proofs.lemmas.List.{length-take-le, take_more, take-append-drop, take-append-le, drop-append-le}
-use Rattle.std.proofs.lemmas.List.Elements.{All-head, All-tail, All-push}
+use Rattle.std.specs.Prelude.{◌≡◌, ℕ, zero, suc, ◌+◌, ◌-◌, ◌<◌, ◌≤◌, List, [], ◌∷◌, ◌++◌, refl, pos, Ok, Err, Some, None, length, take, drop, replicate, get_or, slice_get, All, if◌then◌else◌}
+use Rattle.std.proofs.Common.{sym, ◌∙◌, ap, subst, arith, append_assoc, append-nil, length-append}
+use Rattle.std.proofs.lemmas.List.{length-take-le, take-append-drop, take-append-le, drop-append-le}
+use Rattle.std.proofs.lemmas.List.Elements.{All-head, All-tail}
 use Rattle.std.proofs.lemmas.Bool.{le-leb}
 use Rattle.ground.specs.declared.trap.Trap.TheVariants.{BadCharacter, LongRecord}
 use Rattle.f66_tree.specs.declared.editing.EditKind.TheVariants.{Letter}
@@ -40,9 +39,6 @@ take_replicate (suc k) s tail = ap (λ v. s ∷ v) (take_replicate k s tail)
 pub taken_ahead : (rest tail : List Step) (k : ℕ) → rest ≡ replicate k (Takes Letter 1) ++ tail → take k rest ≡ replicate k (Takes Letter 1)
 taken_ahead rest tail k e = ap (take k) e ∙ take_replicate k (Takes Letter 1) tail
 
-pub letter_if : (c : ℕ) → 32 ≤ c → c ≤ 126 → IsLetter c
-letter_if c low high = grind (arith, le-leb)
-
 -- ---- characters go out ----
 
 letter_text_is : (c : ℕ) → IsLetter c → letter_text (pos c) ≡ Ok (c ∷ [])
@@ -68,10 +64,6 @@ take_none : (n : ℕ) → ◌≡◌ {A = List ℕ} (take n []) []
 take_none zero = refl
 take_none (suc n) = refl
 
-get_next : (line : List ℕ) (n : ℕ) → get_or (drop 1 line) n 32 ≡ get_or line (suc n) 32
-get_next [] n = refl
-get_next (l ∷ ls) n = refl
-
 pub field_next : (n : ℕ) (line : List ℕ) → field (suc n) line ≡ get_or line 0 32 ∷ field n (drop 1 line)
 field_next n [] = ap (λ v. replicate v 32) (let e : suc n - 0 ≡ suc n = omega arith in e)
     ∙ ap (λ v. 32 ∷ replicate v 32) (let e : n ≡ n - 0 = omega arith in e) ∙ ap (λ v. 32 ∷ (v ++ replicate (n - 0) 32)) (sym (take_none n))
@@ -82,32 +74,6 @@ field_zero line = ap (λ v. replicate v 32) (let e : 0 - length line ≡ 0 = ome
 
 field_one : (line : List ℕ) → field 1 line ≡ get_or line 0 32 ∷ []
 field_one line = field_next 0 line ∙ ap (λ v. get_or line 0 32 ∷ v) (field_zero (drop 1 line))
-
--- a field of one column more
-pub field_grows : (n : ℕ) (line : List ℕ) → field (n + 1) line ≡ field n line ++ get_or line n 32 ∷ []
-field_grows zero line = field_one line ∙ ap (λ v. v ++ get_or line 0 32 ∷ []) (sym (field_zero line))
-field_grows (suc n) line =
-    ap (λ v. field v line) (let e : suc n + 1 ≡ suc (n + 1) = omega arith in e) ∙ field_next (n + 1) line
-    ∙ ap (λ v. get_or line 0 32 ∷ v) (field_grows n (drop 1 line))
-    ∙ ap (λ v. get_or line 0 32 ∷ (field n (drop 1 line) ++ v ∷ [])) (get_next line n)
-    ∙ sym (ap (λ v. v ++ get_or line (suc n) 32 ∷ []) (field_next n line))
-
--- the next one takes another content
-pub seam_set : {A : Type 0} (xs old : List A) (i : ℕ) (x d : A) → length xs ≡ i → i < length old → set (xs ++ drop i old) i x ≡ (xs ++ x ∷ []) ++ drop (i + 1) old
-seam_set xs old i x d n lt =
-    let behind = drop (suc i) old in
-    ap (λ v. set (xs ++ v) i x) (drop-cons old i d lt)
-    ∙ ap (λ v. set (xs ++ get_or old i d ∷ behind) v x) (sym n)
-    ∙ set-append_seam xs (get_or old i d) behind x
-    ∙ sym (append_assoc xs (x ∷ []) behind)
-    ∙ ap (λ v. (xs ++ x ∷ []) ++ drop v old) (let e : suc i ≡ i + 1 = omega arith in e)
-
--- one character more of a text comes to the front of some bytes
-pub front_set : (text bytes : List ℕ) (i : ℕ) → i < length text → i < length bytes → set (take i text ++ drop i bytes) i (get_or text i 0) ≡ take (i + 1) text ++ drop (i + 1) bytes
-front_set text bytes i lt fits = seam_set (take i text) bytes i (get_or text i 0) 0 (length-take-le i text (omega arith)) fits ∙ ap (λ v. v ++ drop (i + 1) bytes) (sym (take_more text i 0 lt))
-
-pub letters_more : (text : List ℕ) (i : ℕ) → i < length text → All IsLetter (take i text) → IsLetter (get_or text i 0) → All IsLetter (take (i + 1) text)
-letters_more text i lt all is = subst (All IsLetter) (sym (take_more text i 0 lt)) (All-push IsLetter (take i text) (get_or text i 0) all is)
 
 drop_next : (n : ℕ) (line : List ℕ) → drop n (drop 1 line) ≡ drop (suc n) line
 drop_next zero line = refl

@@ -298,7 +298,8 @@ impl Edit {
         0
     }
 
-    /// The characters at the front of a text go out, as many as come with nothing between them and have room. How many.
+    /// The front of a text goes out by edits that come with nothing between them, as much as has room, where all of it are
+    /// characters; else none. How many.
     pub fn put_letters(&mut self, plan: &Plan, text: &[u8]) -> usize
         requires { self.old.way ≡ Writing }
         ensures same_way { self.new.way ≡ self.old.way }
@@ -323,8 +324,8 @@ impl Edit {
         count
     }
 
-    /// The next characters of the record come into the first of these bytes, as many as come with nothing between them. How
-    /// many.
+    /// The next characters of the record come into the first of these bytes by edits with nothing between them, where all of
+    /// them are characters; else none. How many.
     pub fn take_letters(&mut self, plan: &Plan, bytes: &mut [u8]) -> usize
         requires { self.old.way ≡ Reading }
         ensures same_way { self.new.way ≡ self.old.way }

@@ -1,8 +1,9 @@
 // The record in hand of a READ: what of it is not read yet, and the contents of its fields.
-ghost use Rattle.std.specs.Prelude.{◌≡◌, ℕ, ◌≤◌, List, [], ◌++◌, length, take, drop, get_or, All, IfOk};
+ghost use Rattle.std.specs.Prelude.{◌≡◌, ℕ, ◌≤◌, ◌-◌, List, [], ◌++◌, length, take, drop, replicate, get_or, All, IfOk};
 ghost use Rattle.format_io.specs.Letters.{IsLetter};
 ghost use Rattle.f66_tree.specs.Fielded.{field, unblanked, in_magnitude, digit, digits_of, ranged, sign_of, digits_from, whole_of, truth_of, letter_of};
 
+use crate::characters::are_characters;
 use ground::Trap;
 use std::alloc::{AllocError, Global};
 use std::marker::Model;
@@ -43,6 +44,16 @@ fn copy_into(buffer: &mut [u8], bytes: &[u8])
     ensures front { take (length bytes.now) buffer.new ≡ bytes.now }
 {
     buffer[..bytes.len()].copy_from_slice(bytes);
+}
+
+/// A text at the front of a field, and blanks behind it.
+fn lay(field: &mut [u8], text: &[u8])
+    requires { length text.now ≤ length field.old }
+    ensures { field.new ≡ text.now ++ replicate (length field.old - length text.now) 32 }
+{
+    let (front, behind) = field.split_at_mut(text.len());
+    front.copy_from_slice(text);
+    behind.fill(b' ');
 }
 
 /// What is not read yet of a record of at most 65,535 bytes.
@@ -204,20 +215,19 @@ impl Input {
         }
     }
 
-    /// The next characters come into these bytes, as many as are letters. How many.
+    /// The next bytes, blanks behind the record's end, come into these, where all of them are characters; else none. How many.
     pub fn letters(&self, bytes: &mut [u8]) -> usize
         ensures within { result ≤ length bytes.old }
         ensures letters { All IsLetter (field result self.now) }
         ensures came { bytes.new ≡ field result self.now ++ drop result bytes.old }
     {
         let line = self.as_slice();
-        for i in 0..bytes.len() {
-            let code = column(line, i);
-            if code < 32 || code > 126 {
-                return i;
-            }
-            bytes[i] = code;
+        let count = line.len().min(bytes.len());
+        let front = &line[..count];
+        if !are_characters(front) {
+            return 0;
         }
+        lay(bytes, front);
         bytes.len()
     }
 

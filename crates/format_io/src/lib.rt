@@ -2,6 +2,7 @@
 #![tactic(auto)]
 
 mod between;
+mod characters;
 mod code;
 mod edit;
 mod format;

@@ -5,26 +5,25 @@ ghost use Rattle.f66_tree.specs.Turns.{extended, with_letter};
 ghost use Rattle.format_io.specs.Answers.{Writes};
 ghost use Rattle.format_io.specs.Letters.{IsLetter};
 
+use crate::characters::are_characters;
 use ground::Trap;
 use itoa::Buffer;
 use std::marker::Model;
 
-/// The characters at the front of a text come to the first of these bytes, as many as there are and have room. How many.
-fn letters_into(bytes: &mut [u8], text: &[u8]) -> usize
+/// The front of a text comes to the first of these bytes, as much as has room, where all of it are characters; else none. How many.
+fn characters_into(bytes: &mut [u8], text: &[u8]) -> usize
     ensures within { result ≤ length text.now }
     ensures room { length bytes.new ≡ length bytes.old }
     ensures letters { All IsLetter (take result text.now) }
     ensures bytes { bytes.new ≡ take result text.now ++ drop result bytes.old }
 {
-    let most = text.len().min(bytes.len());
-    for i in 0..most {
-        let code = text[i];
-        if code < 32 || code > 126 {
-            return i;
-        }
-        bytes[i] = code;
+    let count = text.len().min(bytes.len());
+    let front = &text[..count];
+    if !are_characters(front) {
+        return 0;
     }
-    most
+    bytes[..count].copy_from_slice(front);
+    count
 }
 
 /// At most 132 characters.
@@ -155,14 +154,14 @@ impl Output {
         Ok(())
     }
 
-    /// The characters at the front of a text go to the end, as many as there are and have room. How many.
+    /// The front of a text goes to the end, as much as has room, where all of it are characters; else none. How many.
     pub fn letters(&mut self, text: &[u8]) -> usize
         ensures within { result ≤ length text.now }
         ensures room { 0 < result → length self.new ≤ 132 }
         ensures letters { All IsLetter (take result text.now) }
         ensures pushed { self.new ≡ self.old ++ take result text.now }
     {
-        let count = letters_into(&mut self.bytes[self.len..], text);
+        let count = characters_into(&mut self.bytes[self.len..], text);
         self.len += count;
         count
     }
