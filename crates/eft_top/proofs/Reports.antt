@@ -23,10 +23,11 @@ use Rattle.front.specs.Translated.{IsTranslated}
 use Rattle.front.specs.declared.translate.Translated.{Translated}
 use Rattle.deck_file.specs.Answers.{IsDeckIn}
 use Rattle.f66_tree.specs.declared.unit.Unit.{Unit as AUnit}
-use Rattle.record_intake.specs.Intakes.{MayCome as MayCome1}
+use Rattle.record_intake.specs.Intakes.{MayCome as MayCome1, Pieces}
+use Rattle.record_intake.proofs.Asking.{pieces_by}
 use Rattle.runner.specs.declared.run.End.{End as TheEnd}
 use Rattle.runner.specs.declared.run.End.TheVariants as ends
-use Rattle.machine.specs.Runs.{Executes}
+use Rattle.machine.specs.Runs.{Executes, AsksForMore as AsksForMore1}
 use Rattle.machine.specs.Streams.{RunsWhole, RunsCutOff, RunsBrokenOff, StreamsTo}
 use Rattle.eft_top.specs.Words.{Command, Cards, Listing, Deck}
 use Rattle.eft_top.specs.Causes.{NeedsNoInput}
@@ -34,7 +35,7 @@ use Rattle.eft_top.specs.declared.status.Status.TheVariants as statuses
 use Rattle.eft_top.specs.declared.report.Counts.{Counts}
 use Rattle.eft_top.specs.declared.report.Report.{Report}
 use Rattle.eft_top.specs.Input.{Got, Unread, Nothing, Broken, HasGiven, HasGot, HasRead, is_unread}
-use Rattle.eft_top.specs.Outcome.{Outcome, HasFault, HasText, Runs, IsRun, IsDeckRun, RunsOver, ComesOf, DeckComesOf, IsOutcomeOf, IsOutcomeBy, end_status, end_line, count_line, if_asked}
+use Rattle.eft_top.specs.Outcome.{Outcome, HasFault, HasText, Runs, IsRun, IsDeckRun, AsksForMore, RunsOver, ComesOf, DeckComesOf, IsOutcomeOf, IsOutcomeBy, end_status, end_line, count_line, if_asked}
 use Rattle.eft_top.specs.Report.{ReportsRefusal, counts_at, counts_bytes, report_bytes, status_at, line_at}
 use Rattle.eft_top.specs.Story.{HasPut, HasBroken, Shows, AllPut, BrokenOff, IsUnitsRun, Prints, CameOf, NotFetched, NoMemory, Came}
 use Rattle.eft_top.proofs.Delivery.{longer, none_before}
@@ -77,6 +78,12 @@ module _ {S K : Type 0} (left : S → Option (List ℕ)) (puts : K → List ℕ 
   abbrev pub Counted : List ℕ
   Counted = count_line (if_asked count executed) begun
 
+  asks_more : (rs : List Record) → AsksForMore1 made limit rs → AsksForMore (IsUnitsRun made limit) rs
+  asks_more rs a = (a.shown, a.executed, (a.runs, a.counts), (a.place, a.end))
+
+  asked : (pieces : List (List ℕ)) → Pieces (AsksForMore1 made limit) [] pieces → Pieces (AsksForMore (IsUnitsRun made limit)) [] pieces
+  asked pieces h = pieces_by asks_more [] pieces h
+
   whole : (end : End) → RunsWhole left puts faults failures i0 i1 o0 o1 made limit end begun executed → (report : Report) → Some report.status ≡ end_status false end → report_bytes report ≡ Counted ++ end_line files limit false end → Shown1 report
   whole end h report status line = by h.ended h.at_end h.told (λ failed later may. (h.runs failed later may, h.counts failed later may))
     where
@@ -86,12 +93,12 @@ module _ {S K : Type 0} (left : S → Option (List ℕ)) (puts : K → List ℕ 
       by : (ended : Bool) → (ended ≡ true → IsAtEnd (left i1)) → ((place : Place) → end ≡ Ended (Trapped EndOfInput place) → ended ≡ true) → ((failed : Bool) (later : List ℕ) → MayCome1 ended failed later → IsUnitsRun made limit (got_records failed (h.got ++ later)) shown executed) → Shown1 report
       by true at_end told runs =
           AllPut (Runs files limit false (if_asked count executed) shown)
-          (record { bytes = h.got; behind = Nothing }, record { bytes = h.consumes; counts = h.steady.input; end = λ e. at_end refl }, shown, executed, runs, tt, refl)
+          (record { bytes = h.got; behind = Nothing; pieces = h.gets.pieces }, record { reads = record { bytes = h.consumes; all = h.gets.all; idle = h.gets.idle }; counts = h.steady.input; end = λ e. at_end refl }, shown, executed, runs, tt, asked h.gets.pieces h.gets.asked, refl)
           (record { all = h.sent; steady = h.steady.out })
           (record { status = status; line = line })
       by false at_end told runs =
           AllPut (Runs files limit false (if_asked count executed) shown)
-          (record { bytes = h.got; behind = Unread }, record { bytes = h.consumes; counts = h.steady.input; end = λ e. cc }, shown, executed, runs, (λ place is. let no : false ≡ true = told place is in cc), refl)
+          (record { bytes = h.got; behind = Unread; pieces = h.gets.pieces }, record { reads = record { bytes = h.consumes; all = h.gets.all; idle = h.gets.idle }; counts = h.steady.input; end = λ e. cc }, shown, executed, runs, (λ place is. let no : false ≡ true = told place is in cc), asked h.gets.pieces h.gets.asked, refl)
           (record { all = h.sent; steady = h.steady.out })
           (record { status = status; line = line })
 
@@ -104,7 +111,7 @@ module _ {S K : Type 0} (left : S → Option (List ℕ)) (puts : K → List ℕ 
   cut_off : RunsCutOff left puts faults failures i0 i1 o0 o1 made limit begun executed → (report : Report) → report.status ≡ statuses.InputFault → report_bytes report ≡ Counted ++ line_at files limit ends.InputFault → Shown1 report
   cut_off h report status line =
       AllPut (Runs files limit true (if_asked count executed) shown)
-      (record { bytes = h.got; behind = Broken }, record { bytes = h.consumes; counts = h.input; end = λ e. cc }, shown, executed, alone true h.got shown executed (h.runs, h.counts), (h.place, refl), refl)
+      (record { bytes = h.got; behind = Broken; pieces = h.gets.pieces }, record { reads = record { bytes = h.consumes; all = h.gets.all; idle = h.gets.idle }; counts = h.input; end = λ e. cc }, shown, executed, alone true h.got shown executed (h.runs, h.counts), (h.place, refl), asked h.gets.pieces h.gets.asked, refl)
       (record { all = h.sent; steady = h.out })
       (record { status = ap Some status; line = line })
     where
@@ -114,7 +121,7 @@ module _ {S K : Type 0} (left : S → Option (List ℕ)) (puts : K → List ℕ 
   broken_off : RunsBrokenOff left puts faults failures i0 i1 o0 o1 made limit → (report : Report) → report.status ≡ statuses.OutputFault → report_bytes report ≡ line_at files limit ends.OutputFault → Shown1 report
   broken_off h report status line =
       BrokenOff (Runs files limit false (if_asked count counts.0) shown)
-      (record { bytes = h.got; behind = Nothing }, h.consumes, shown, counts.0, alone false h.got shown counts.0 (h.some.1, counts.1), tt, refl)
+      (record { bytes = h.got; behind = Nothing; pieces = h.gets.pieces }, record { bytes = h.consumes; all = h.gets.all; idle = h.gets.idle }, shown, counts.0, alone false h.got shown counts.0 (h.some.1, counts.1), tt, asked h.gets.pieces h.gets.asked, refl)
       (record { some = some; front = subst (λ (bytes : List ℕ). PutsPrefix puts o0 bytes o1) more (longer puts failures o0 o1 (output_bytes h.written) (output_bytes begins.rest) h.sent); cause = h.out })
       (record { status = status; line = line })
     where
@@ -180,13 +187,28 @@ is_run meaning made limit input program shown executed runs =
     let linked = program.linked in
     record { made = made; program = program; is = runs.0.shows linked.linkage linked.links linked.codes linked.of ∙ sym (ap (λ (run : Meaning). run input limit) linked.is); counted = runs.1 }
 
+asks_in_text : (meaning : Meaning) (made : Program) (limit : ℕ) → IsProgramOf meaning made → (rs : List Record) → AsksForMore (IsUnitsRun made limit) rs → AsksForMore (IsRun meaning limit) rs
+asks_in_text meaning made limit program rs a = (a.0, a.1, is_run meaning made limit rs program a.0 a.1 a.2, a.3)
+
+asks_in_deck : (made : Program) (limit : ℕ) (rs : List Record) → AsksForMore (IsUnitsRun made limit) rs → AsksForMore (IsDeckRun made limit) rs
+asks_in_deck made limit rs a = (a.0, a.1, a.2.0, a.3)
+
 -- so an accepted text comes to its run, and a deck to its own
 pub ran_text : (files : List (List ℕ)) (made : Program) (meaning : Meaning) (limit : ℕ) (count : Bool) → IsProgramOf meaning made → (given : Got → Type 0) (o : Outcome) → RunsOver files (IsUnitsRun made limit) limit count given o → ComesOf (Accepts files meaning) limit count given o
-ran_text files made meaning limit count program given o over = (over.0, over.1, over.2, over.3, (λ failed later may. is_run meaning made limit _ program over.2 over.3 (over.4 failed later may)), over.5, over.6)
+ran_text files made meaning limit count program given o over = (
+  over.0,
+  over.1,
+  over.2,
+  over.3,
+  (λ failed later may. is_run meaning made limit _ program over.2 over.3 (over.4 failed later may)),
+  over.5,
+  pieces_by (asks_in_text meaning made limit program) [] over.0.pieces over.6,
+  over.7,
+)
 
 pub ran_deck : (made : Program) (files : List (List ℕ)) (file : List ℕ) (limit : ℕ) → files ≡ file ∷ [] → (given : Got → Type 0) (o : Outcome) → RunsOver files (IsUnitsRun made limit) limit false given o → DeckComesOf file (Ok made) limit given o
 ran_deck made files file limit is given o over =
-    subst (λ (names : List (List ℕ)). RunsOver names (IsDeckRun made limit) limit false given o) is (over.0, over.1, over.2, over.3, (λ failed later may. (over.4 failed later may).0), over.5, over.6)
+    subst (λ (names : List (List ℕ)). RunsOver names (IsDeckRun made limit) limit false given o) is (over.0, over.1, over.2, over.3, (λ failed later may. (over.4 failed later may).0), over.5, pieces_by (asks_in_deck made limit) [] over.0.pieces over.6, over.7)
 
 -- ---- a text that is put ----
 

@@ -63,9 +63,9 @@ module _ (verdicts : OneVerdict) (words : List (List ℕ)) (limit : ℕ) (count 
           executed = r.3;
           is = r.4;
           presents = record {
-            status = shown.status ∙ ap status_of r.6;
-            on_out = subst (λ (x : Outcome). out (out_of x)) r.6 shown.on_out;
-            on_diag = subst (λ (x : Outcome). diag (diag_line x)) r.6 shown.on_diag;
+            status = shown.status ∙ ap status_of r.7;
+            on_out = subst (λ (x : Outcome). out (out_of x)) r.7 shown.on_out;
+            on_diag = subst (λ (x : Outcome). diag (diag_line x)) r.7 shown.on_diag;
           };
         },
       )
@@ -163,4 +163,4 @@ module _ {S : Type 0} (left : S → Option (List ℕ)) (faults : S → ℕ) (bef
       by Broken b = absurd (other b)
 
   pub input_is_whole : InputIsWhole left faults before after
-  input_is_whole got bytes given told other = told_by got bytes (left before) (left after) told given.bytes given.end other
+  input_is_whole got bytes given told other = told_by got bytes (left before) (left after) told given.reads.bytes given.end other

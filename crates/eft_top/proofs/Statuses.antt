@@ -61,7 +61,7 @@ no_run_is_faulty failed GoesOn e = cc
 no_run_is_faulty failed Lost e = cc
 
 no_run_over_is_faulty : (files : List (List ℕ)) (P : List Record → Shown → ℕ → Type 0) (limit : ℕ) (count : Bool) (given : Got → Type 0) (o : Outcome) → RunsOver files P limit count given o → status_of o ≡ Some SourceFault → ⊥
-no_run_over_is_faulty files P limit count given o over e = no_run_is_faulty (is_broken over.0.behind) over.2.end (ap status_of (sym over.6) ∙ e)
+no_run_over_is_faulty files P limit count given o over e = no_run_is_faulty (is_broken over.0.behind) over.2.end (ap status_of (sym over.7) ∙ e)
 
 faulty_of : (verdict : Verdict) (limit : ℕ) (count : Bool) (given : Got → Type 0) (one other : Outcome) → ComesOf verdict limit count given one → ComesOf verdict limit count given other → status_of other ≡ Some SourceFault → status_of one ≡ Some SourceFault
 faulty_of (Refuses fault file) limit count given one other h k e = ap status_of h
@@ -253,10 +253,10 @@ printed_status IsText (Accepts files meaning) o h = inr (ap status_of h.2)
 
 module _ (files : Option (List ℕ → Option (List ℕ))) (given : Got → Type 0) (o : Outcome) where
   failed_of_run : (names : List (List ℕ)) (P : List Record → Shown → ℕ → Type 0) (limit : ℕ) (count : Bool) → RunsOver names P limit count given o → status_of o ≡ Some InputFault → (got : Got) × given got × (got.behind ≡ Broken)
-  failed_of_run names P limit count over e = (over.0, over.1, broken_of over.0.behind (failed_of_end (is_broken over.0.behind) over.2.end (ap status_of (sym over.6) ∙ e)))
+  failed_of_run names P limit count over e = (over.0, over.1, broken_of over.0.behind (failed_of_end (is_broken over.0.behind) over.2.end (ap status_of (sym over.7) ∙ e)))
 
   read_of_run : (names : List (List ℕ)) (P : List Record → Shown → ℕ → Type 0) (limit : ℕ) (count : Bool) → RunsOver names P limit count given o → status_of o ≡ Some (IsTrapped EndOfInput) → (got : Got) × given got × (got.behind ≡ Nothing)
-  read_of_run names P limit count over e = (over.0, over.1, end_of_end over.0.behind over.2.end over.5 (ap status_of (sym over.6) ∙ e))
+  read_of_run names P limit count over e = (over.0, over.1, end_of_end over.0.behind over.2.end over.5 (ap status_of (sym over.7) ∙ e))
 
   failed_of_verdict : (verdict : Verdict) (limit : ℕ) (count : Bool) → ComesOf verdict limit count given o → status_of o ≡ Some InputFault → (got : Got) × given got × (got.behind ≡ Broken)
   failed_of_verdict (Refuses fault file) limit count h e = absurd (let f = ap status_of (sym h) ∙ e in cc)
@@ -289,7 +289,7 @@ module _ (files : Option (List ℕ → Option (List ℕ))) (given : Got → Type
 -- what was got may be told by less
 module _ (one other : Got → Type 0) (so : (got : Got) → one got → other got) where
   run_too : (names : List (List ℕ)) (P : List Record → Shown → ℕ → Type 0) (limit : ℕ) (count : Bool) (o : Outcome) → RunsOver names P limit count one o → RunsOver names P limit count other o
-  run_too names P limit count o over = (over.0, so over.0 over.1, over.2, over.3, over.4, over.5, over.6)
+  run_too names P limit count o over = (over.0, so over.0 over.1, over.2, over.3, over.4, over.5, over.6, over.7)
 
   verdict_too : (verdict : Verdict) (limit : ℕ) (count : Bool) (o : Outcome) → ComesOf verdict limit count one o → ComesOf verdict limit count other o
   verdict_too (Refuses fault file) limit count o h = h

@@ -6,6 +6,7 @@ use Rattle.std.specs.declared.option.Option.{Option}
 use Rattle.ports.specs.Causes.{Rose}
 use Rattle.ports.specs.Records.{got_records}
 use Rattle.f66_tree.specs.World.{Record}
+use Rattle.record_intake.specs.Intakes.{joined}
 
 -- nothing is known of what is behind; or the source has told that nothing is; or a read of it has failed
 pub data Behind : Type 0 where
@@ -17,10 +18,11 @@ abbrev pub is_broken : Behind → Bool
 is_broken Broken = true
 is_broken _ = false
 
--- the bytes, and what is behind them
+-- the bytes, what is behind them, and the pieces in which they came, one for each read
 pub record Got : Type 0 where
   pub bytes : List ℕ
   pub behind : Behind
+  pub pieces : List (List ℕ)
 
 -- what may come behind, and whether a read fails there
 abbrev pub MayCome : Behind → Bool → List ℕ → Type 0
@@ -42,15 +44,17 @@ Counts Broken before now = Rose before now
 Counts _ before now = now ≡ before
 
 -- The reads of a call gave this. Where the source tells its bytes, those that were left before the call are these, followed
--- by those that are left after it.
-pub record HasGiven {S : Type 0} (left : S → Option (List ℕ)) (faults : S → ℕ) (before after : S) (got : Got) : Type 0 where
+-- by those that are left after it. Where there was no read the source is as it was.
+pub record HasGot {S : Type 0} (left : S → Option (List ℕ)) (before after : S) (got : Got) : Type 0 where
   pub bytes : Consumes (left before) (left after) got.bytes
+  pub all : joined got.pieces ≡ got.bytes
+  pub idle : got.pieces ≡ [] → after ≡ before
+
+-- the same, with what is known of what is behind
+pub record HasGiven {S : Type 0} (left : S → Option (List ℕ)) (faults : S → ℕ) (before after : S) (got : Got) : Type 0 where
+  pub reads : HasGot left before after got
   pub counts : Counts got.behind (faults before) (faults after)
   pub end : got.behind ≡ Nothing → IsAtEnd (left after)
-
--- the same of the bytes alone
-abbrev pub HasGot : {S : Type 0} → (S → Option (List ℕ)) → S → S → Got → Type 0
-HasGot left before after got = Consumes (left before) (left after) got.bytes
 
 -- some bytes were read, or none
 abbrev pub HasRead : Option (List ℕ) → Option (List ℕ) → Type 0

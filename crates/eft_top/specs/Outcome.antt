@@ -13,6 +13,7 @@ use Rattle.front.specs.Checked.{Meaning}
 use Rattle.deck.specs.Decks.{deck_of}
 use Rattle.front.specs.Verdict.{Verdict, Refuses, Accepts, Becomes, file_name}
 use Rattle.front.specs.Programs.{IsProgramOf}
+use Rattle.record_intake.specs.Intakes.{Pieces}
 use Rattle.machine.specs.Runs.{IsRunOf, Executes}
 use Rattle.machine.specs.Listings.{IsListingOf}
 use Rattle.deck_file.specs.Loaded.{Loaded, IsLoaded}
@@ -68,11 +69,16 @@ abbrev pub if_asked : Bool → ℕ → Option ℕ
 if_asked true executed = Some executed
 if_asked false executed = None
 
+-- P holds of a run over these records alone that ends where it asks for one more
+abbrev pub AsksForMore : (List Record → Shown → ℕ → Type 0) → List Record → Type 0
+AsksForMore P records = (shown : Shown) × (executed : ℕ) × P records shown executed × ((place : Place) × (shown.end ≡ Ended (Trapped EndOfInput place)))
+
 -- What comes of a run: of what reads may have given, something was got, and P holds of what the run shows, and of its instructions, over the
--- records of each input that begins so.
+-- records of each input that begins so. Each piece of what was got is at most 65,537 bytes, and was read where the run, over the records that
+-- were got before it, asks for one more; so a run that asks for none reads nothing.
 abbrev pub RunsOver : List (List ℕ) → (List Record → Shown → ℕ → Type 0) → ℕ → Bool → (Got → Type 0) → Outcome → Type 0
 RunsOver files P limit count given outcome =
-    (got : Got) × given got × (shown : Shown) × (executed : ℕ) × OfEach got (λ records. P records shown executed) × Asks got.behind shown.end
+    (got : Got) × given got × (shown : Shown) × (executed : ℕ) × OfEach got (λ records. P records shown executed) × Asks got.behind shown.end × Pieces (AsksForMore P) [] got.pieces
     × (outcome ≡ Runs files limit (is_broken got.behind) (if_asked count executed) shown)
 
 -- a refused text comes to its fault, an accepted one to a run

@@ -21,6 +21,6 @@ mod records;
 #[cfg(test)]
 mod subprograms;
 #[cfg(test)]
-mod tape;
+mod transfers;
 #[cfg(test)]
 mod units;

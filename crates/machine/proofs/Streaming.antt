@@ -4,18 +4,19 @@ use Rattle.std.specs.Prelude.{Option}
 use Rattle.ground.specs.declared.place.Place.{Place}
 use Rattle.ground.specs.declared.trap.Trap.TheVariants.{EndOfInput}
 use Rattle.ports.specs.Records.{got_records, input_records}
-use Rattle.f66_tree.specs.World.{Record, End, Ended, Trapped}
+use Rattle.f66_tree.specs.World.{Record, Shown, End, Ended, Trapped}
 use Rattle.f66_program.specs.Linking.{Program}
 use Rattle.stack_code.specs.declared.valid.Code.{Code}
 use Rattle.runner.specs.declared.run.End.{End as TheEnd}
 use Rattle.runner.specs.declared.run.End.TheVariants as ends
 use Rattle.runner.specs.declared.runner.Runner.{Runner}
 use Rattle.stack_code.specs.StackMachine.{Runs}
-use Rattle.runner.specs.Running.{program, bounded, RunsTo}
+use Rattle.runner.specs.Running.{program, bounded, RunsTo, Wants}
 use Rattle.record_intake.specs.Intakes.{MayCome}
+use Rattle.record_intake.proofs.Asking.{gets_by}
 use Rattle.runner.specs.Endings.{IsWhole, IsCutOff, IsBrokenOff, IsEnd}
 use Rattle.runner.specs.Runners.{IsFresh, IsRun, IsRunFrom, IsFirst}
-use Rattle.machine.specs.Runs.{IsRunOf, Codes, Executes}
+use Rattle.machine.specs.Runs.{IsRunOf, Codes, Executes, AsksForMore}
 use Rattle.machine.specs.Streams.{RunsWhole, RunsCutOff, RunsBrokenOff, StreamsTo}
 use Rattle.machine.specs.Loading.{IsLoaded}
 use Rattle.machine.proofs.LongInputs.{long_never_ends, letters, later_long}
@@ -43,6 +44,18 @@ module _ {S K : Type 0} (left : S → Option (List ℕ)) (puts : K → List ℕ 
       is = h.executed;
     }
 
+    asks_more : (input : List Record) → Wants (program code) steps input → AsksForMore made steps input
+    asks_more input w =
+        let shown : Shown = record { records = w.records; end = Ended (Trapped EndOfInput w.place); work = w.work } in
+        record {
+          shown = shown;
+          executed = bounded w.count;
+          place = w.place;
+          runs = codes.runs input steps shown w.count w.runs;
+          counts = record { code = code; codes = codes; count = w.count; runs = w.runs; is = refl };
+          end = refl;
+        }
+
     -- A run that may still get anything is not at the end of its input: over a record that is too long it would be trapped before.
     told_end : (got : List ℕ) (written : List Record) (end : End) (ended : Bool) → ((failed : Bool) (later : List ℕ) → MayCome ended failed later → RunsTo (program code) (got_records failed (got ++ later)) steps written end rest executed) → (place : Place) → end ≡ Ended (Trapped EndOfInput place) → ended ≡ true
     told_end got written end true runs place is = refl
@@ -59,6 +72,7 @@ module _ {S K : Type 0} (left : S → Option (List ℕ)) (puts : K → List ℕ 
       written = h.written;
       ended = h.ended;
       consumes = h.consumes;
+      gets = gets_by asks_more h.gets;
       at_end = h.at_end;
       told = told_end h.got h.written end h.ended h.runs;
       sent = h.sent;
@@ -73,6 +87,7 @@ module _ {S K : Type 0} (left : S → Option (List ℕ)) (puts : K → List ℕ 
       written = h.written;
       place = h.place;
       consumes = h.consumes;
+      gets = gets_by asks_more h.gets;
       sent = h.sent;
       input = h.input;
       out = h.out;
@@ -85,6 +100,7 @@ module _ {S K : Type 0} (left : S → Option (List ℕ)) (puts : K → List ℕ 
       got = h.got;
       written = h.written;
       consumes = h.consumes;
+      gets = gets_by asks_more h.gets;
       sent = h.sent;
       wanted = h.some;
       input = h.input;

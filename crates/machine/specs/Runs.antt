@@ -1,7 +1,9 @@
 -- What a run of linked units comes to.
 use Rattle.std.specs.Prelude.{◌≡◌, ◌<◌, ◌^◌, ℕ, List, All}
 use Rattle.f66_tree.specs.Syntax.{Line}
-use Rattle.f66_tree.specs.World.{Record, Shown}
+use Rattle.ground.specs.declared.place.Place.{Place}
+use Rattle.ground.specs.declared.trap.Trap.TheVariants.{EndOfInput}
+use Rattle.f66_tree.specs.World.{Record, Shown, Ended, Trapped}
 use Rattle.f66_tree.specs.Units.{Linkage}
 use Rattle.f66_tree.specs.Execution.{f66}
 use Rattle.f66_check.specs.Answers.{IsSoundUnit}
@@ -39,3 +41,12 @@ pub record Executes (made : Program) (input : List Record) (limit : ℕ) (shown 
   pub count : ℕ
   pub runs : Runs (program code) input limit shown count
   pub is : executed ≡ bounded count
+
+-- a run of linked units over these records alone ends where it asks for one more
+pub record AsksForMore (made : Program) (limit : ℕ) (input : List Record) : Type 0 where
+  pub shown : Shown
+  pub executed : ℕ
+  pub place : Place
+  pub runs : IsRunOf made input limit shown
+  pub counts : Executes made input limit shown executed
+  pub end : shown.end ≡ Ended (Trapped EndOfInput place)

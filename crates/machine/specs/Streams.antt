@@ -8,19 +8,21 @@ use Rattle.ports.specs.Puts.{PutsPrefix}
 use Rattle.ports.specs.Records.{got_records, input_records, output_bytes}
 use Rattle.f66_tree.specs.World.{Record, Shown, End, Ended, GoesOn, Done, Stopped, Trapped, IsPrefix}
 use Rattle.f66_program.specs.Linking.{Program}
-use Rattle.record_intake.specs.Intakes.{MayCome}
+use Rattle.record_intake.specs.Intakes.{MayCome, Gets, untouched}
 use Rattle.record_flow.specs.Flows.{AreSteady}
 use Rattle.runner.specs.declared.run.End.{End as TheEnd}
 use Rattle.runner.specs.declared.run.End.TheVariants as ends
-use Rattle.machine.specs.Runs.{IsRunOf, Executes}
+use Rattle.machine.specs.Runs.{IsRunOf, Executes, AsksForMore}
 
 -- The units come to this end over the records of the bytes that were got and of all that may come behind them: nothing, where the
--- source has told its end, as it has where one record more than there are was asked for. What they write was put.
+-- source has told its end, as it has where one record more than there are was asked for. What they write was put. Each read was made where
+-- the units, over the records of what was got before, ask for one more.
 pub record RunsWhole {S K : Type 0} (left : S → Option (List ℕ)) (puts : K → List ℕ → K → Type 0) (faults : S → ℕ) (failures : K → ℕ) (i0 i1 : S) (o0 o1 : K) (made : Program) (steps : ℕ) (end : End) (begun executed : ℕ) : Type 0 where
   pub got : List ℕ
   pub written : List Record
   pub ended : Bool
   pub consumes : Consumes (left i0) (left i1) got
+  pub gets : Gets (AsksForMore made steps) i0 i1 untouched got
   pub at_end : ended ≡ true → IsAtEnd (left i1)
   pub told : (place : Place) → end ≡ Ended (Trapped EndOfInput place) → ended ≡ true
   pub sent : puts o0 (output_bytes written) o1
@@ -34,6 +36,7 @@ pub record RunsCutOff {S K : Type 0} (left : S → Option (List ℕ)) (puts : K 
   pub written : List Record
   pub place : Place
   pub consumes : Consumes (left i0) (left i1) got
+  pub gets : Gets (AsksForMore made steps) i0 i1 untouched got
   pub sent : puts o0 (output_bytes written) o1
   pub input : Rose (faults i0) (faults i1)
   pub out : failures o1 ≡ failures o0
@@ -45,6 +48,7 @@ pub record RunsBrokenOff {S K : Type 0} (left : S → Option (List ℕ)) (puts :
   pub got : List ℕ
   pub written : List Record
   pub consumes : Consumes (left i0) (left i1) got
+  pub gets : Gets (AsksForMore made steps) i0 i1 untouched got
   pub sent : PutsPrefix puts o0 (output_bytes written) o1
   pub wanted : written ≢ []
   pub input : faults i1 ≡ faults i0

@@ -1,4 +1,8 @@
 -- The lemmas of record_flow.
+pub mod Turning
+pub mod Ending
+pub mod Contents
+pub mod Characters
 pub mod Taking
 pub mod Fetching
 pub mod Walking

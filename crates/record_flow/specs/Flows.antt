@@ -7,7 +7,7 @@ use Rattle.f66_tree.specs.Fields.{Fields}
 use Rattle.f66_tree.specs.Editing.{Files}
 use Rattle.f66_tree.specs.World.{Record, Tape}
 use Rattle.format_io.specs.Places.{Stand, hand_of}
-use Rattle.record_intake.specs.Intakes.{Content, MayCome}
+use Rattle.record_intake.specs.Intakes.{Content, MayCome, Gets}
 
 -- the bytes at hand, and the place of the statement in its format
 pub record State : Type 0 where
@@ -33,16 +33,18 @@ pub record Takes (old new : Content) (got : List ℕ) (taken : List Record) : Ty
   pub records : (failed : Bool) (later : List ℕ) → MayCome new.ended failed later → got_records failed (old.hand ++ got ++ later) ≡ taken ++ got_records failed (new.hand ++ later)
   pub ended : old.ended ≡ true → (got ≡ []) × (new.ended ≡ true)
 
--- the same of a source, which gave those bytes, and is at its end where it has told so
-pub record Reads {S : Type 0} (left : S → Option (List ℕ)) (input0 input1 : S) (old new : Content) (taken : List Record) : Type 0 where
+-- The same of a source, which gave those bytes where a record was asked for behind those that there were, and is at its end where it
+-- has told so.
+pub record Reads {S : Type 0} (left : S → Option (List ℕ)) (asks : List Record → Type 0) (input0 input1 : S) (old new : Content) (taken : List Record) : Type 0 where
   pub got : List ℕ
   pub takes : Takes old new got taken
   pub consumes : Consumes (left input0) (left input1) got
+  pub gets : Gets asks input0 input1 old got
   pub at_end : (old.ended ≡ true → IsAtEnd (left input0)) → new.ended ≡ true → IsAtEnd (left input1)
 
 -- these records were taken, and those were put
-pub record Flows {S K : Type 0} (left : S → Option (List ℕ)) (puts : K → List ℕ → K → Type 0) (input0 input1 : S) (out0 out1 : K) (old new : Content) (taken put : List Record) : Type 0 where
-  pub reads : Reads left input0 input1 old new taken
+pub record Flows {S K : Type 0} (left : S → Option (List ℕ)) (puts : K → List ℕ → K → Type 0) (asks : List Record → Type 0) (input0 input1 : S) (out0 out1 : K) (old new : Content) (taken put : List Record) : Type 0 where
+  pub reads : Reads left asks input0 input1 old new taken
   pub sent : puts out0 (output_bytes put) out1
 
 -- no read and no put has failed

@@ -12,10 +12,11 @@ ghost use Rattle.format_io.specs.Letters.{IsLetter};
 ghost use Rattle.format_io.specs.Places.{hand_of};
 ghost use Rattle.ports.specs.Puts.{PutsPrefix};
 ghost use Rattle.ports.specs.Causes.{HasCause};
-ghost use Rattle.record_tape.specs.Letters.{SendsLetters, GetsLetters};
-ghost use Rattle.record_tape.specs.Reels.{content, IsSmall};
-ghost use Rattle.record_tape.specs.Moves.{Changes, IsPut, IsTaken, onward, ahead, to_close, left_of};
+ghost use Rattle.record_flow.specs.declared.flow.Break.TheVariants.{Trapped};
 ghost use Rattle.record_flow.specs.Flows.{State, tape};
+ghost use Rattle.record_flow.specs.Values.{content, IsSmall};
+ghost use Rattle.record_flow.specs.Moves.{Changes, IsPut, IsTaken, onward, ahead, to_close, left_of};
+ghost use Rattle.record_flow.specs.Letters.{SendsLetters, GetsLetters};
 ghost use Rattle.record_flow.specs.Steps.{IsFetched, IsChanged, IsTurned, IfGoesOn, IsStep, IsOpened};
 
 use f66_tree::{EditKind, Turn, Way};
@@ -23,7 +24,6 @@ use format_io::{Edit, Plan};
 use ground::{Kind, Memory, Trap, Value};
 use ports::{Failed, Sink, Source};
 use record_intake::{Found, Intake};
-use record_tape::Break;
 use std::alloc::Global;
 use std::marker::Model;
 
@@ -33,6 +33,21 @@ pub enum Stop {
     Trapped(Trap),
     Input,
     Output,
+}
+
+/// Why a content does not go out or come in: a trap, or what no sound unit does.
+#[derive(Clone, Copy, Debug, PartialEq, Eq)]
+pub enum Break {
+    Trapped(Trap),
+    Wrong,
+}
+
+impl From<Trap> for Break {
+    ghost from_gives = { λ trap stop. stop ≡ Trapped trap };
+
+    fn from(trap: Trap) -> Self {
+        Break::Trapped(trap)
+    }
 }
 
 /// The bytes at hand of a source, and the statement in progress.
@@ -339,7 +354,8 @@ impl Flow {
         self.edit.letters_ahead(plan)
     }
 
-    /// The characters at the front of a text go out, as many as come with nothing between them and have room. How many.
+    /// The front of a text goes out by edits that come with nothing between them, as much as has room, where all of it are
+    /// characters; else none. How many.
     pub fn put_letters(&mut self, plan: &Plan, text: &[u8]) -> usize
         requires { self.old.stand.way ≡ Writing }
         ensures way { self.new.stand.way ≡ self.old.stand.way }
@@ -352,8 +368,8 @@ impl Flow {
         self.edit.put_letters(plan, text)
     }
 
-    /// The next characters of the record come into the first of these bytes, as many as come with nothing between them. How
-    /// many.
+    /// The next characters of the record come into the first of these bytes by edits with nothing between them, where all of
+    /// them are characters; else none. How many.
     pub fn take_letters(&mut self, plan: &Plan, bytes: &mut [u8]) -> usize
         requires { self.old.stand.way ≡ Reading }
         ensures way { self.new.stand.way ≡ self.old.stand.way }

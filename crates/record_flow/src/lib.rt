@@ -3,4 +3,4 @@
 
 mod flow;
 
-pub use flow::{Flow, Stop};
+pub use flow::{Break, Flow, Stop};

@@ -20,6 +20,33 @@ pub record Grows (old new : Content) (got : List ℕ) : Type 0 where
   pub hand : new.hand ≡ old.hand ++ got
   pub ended : old.ended ≡ true → (got ≡ []) × (new.ended ≡ true)
 
+-- bytes in one, as they came
+abbrev pub joined : List (List ℕ) → List ℕ
+joined [] = []
+joined (piece ∷ pieces) = piece ++ joined pieces
+
+-- behind these bytes such pieces came, each by one read, where what was got before it asks for a record
+abbrev pub Pieces : (List (List ℕ) → Type 0) → List ℕ → List (List ℕ) → Type 0
+Pieces asks before [] = Unit {0}
+Pieces asks before (piece ∷ pieces) = asks (got_records true before) × (length piece ≤ 65537) × Pieces asks (before ++ piece) pieces
+
+-- The reads of a source, a piece for each, also where one gave nothing or failed: each was asked for, and where there is none the source
+-- is as it was. At the end of a source there is none.
+pub record Gets {S : Type 0} (asks : List (List ℕ) → Type 0) (input0 input1 : S) (old : Content) (got : List ℕ) : Type 0 where
+  pub pieces : List (List ℕ)
+  pub all : joined pieces ≡ got
+  pub asked : Pieces asks old.hand pieces
+  pub idle : pieces ≡ [] → input1 ≡ input0
+  pub over : old.ended ≡ true → pieces ≡ []
+
+-- nothing at hand yet
+abbrev pub untouched : Content
+untouched = record { hand = []; ended = false }
+
+-- there is no record
+abbrev pub IsNone : List (List ℕ) → Type 0
+IsNone records = records ≡ []
+
 -- the first of so many bytes at hand are a record, and behind so many the others begin, whatever comes later
 pub record IsRecord (c : Content) (size next : ℕ) : Type 0 where
   pub order : size ≤ next

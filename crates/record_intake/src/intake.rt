@@ -3,7 +3,7 @@ ghost use Rattle.std.specs.Prelude.{◌≡◌, ◌≤◌, ◌<◌, ◌++◌, ℕ
 ghost use Rattle.std.specs.Io.KnownBytes.{Consumes, Keeps, IsAtEnd};
 ghost use Rattle.ports.specs.Records.{without_return};
 ghost use Rattle.ports.specs.Causes.{HasCause};
-ghost use Rattle.record_intake.specs.Intakes.{Content, Grows, IsFound, IsCut, is_steady, Counts};
+ghost use Rattle.record_intake.specs.Intakes.{Content, Gets, IsNone, Grows, IsFound, IsCut, is_steady, Counts};
 
 use ground::Memory;
 use memchr::memchr;
@@ -127,6 +127,7 @@ impl Intake {
     fn read<S: Source>(&mut self, input: &mut S) -> Result<usize, Failed>
         requires { length self.old.hand < 65537 }
         ensures more { IfOk result (λ n. (got : List ℕ) × (self.new.hand ≡ self.old.hand ++ got) × (length got ≡ n) × Consumes (S.left input.old) (S.left input.new) got) }
+        ensures few { IfOk result (λ n. n ≤ 65537) }
         ensures at_end { IfOk result (λ n. n ≡ 0 → IsAtEnd (S.left input.new)) }
         ensures same { OnErr result (self.new.hand ≡ self.old.hand) }
         ensures none { OnErr result (Keeps (S.left input.old) (S.left input.new)) }
@@ -163,7 +164,7 @@ impl Intake {
 
     /// What the input goes on with, of which as much is read as that takes.
     pub fn find<S: Source>(&mut self, input: &mut S) -> Found
-        ensures grows { (got : List ℕ) × Grows self.old self.new got × Consumes (S.left input.old) (S.left input.new) got }
+        ensures grows { (got : List ℕ) × Grows self.old self.new got × Consumes (S.left input.old) (S.left input.new) got × Gets IsNone input.old input.new self.old got }
         ensures found { IsFound result self.new }
         ensures at_end { (self.old.ended ≡ true → IsAtEnd (S.left input.old)) → self.new.ended ≡ true → IsAtEnd (S.left input.new) }
         ensures counts { Counts result (S.faults input.old) (S.faults input.new) }

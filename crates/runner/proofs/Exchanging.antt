@@ -15,11 +15,12 @@ use Rattle.record_flow.specs.declared.flow.Stop.{Stop}
 use Rattle.record_flow.specs.declared.flow.Stop.TheVariants as stops
 use Rattle.record_flow.specs.Flows as flows
 use Rattle.record_flow.specs.Flows.{tape, Flows, MayFollow}
-use Rattle.record_flow.specs.Steps.{IsStep}
+use Rattle.record_flow.specs.Steps.{LacksInStep, IsStep}
+use Rattle.record_flow.proofs.Taking.{reads_by, flows_by}
 use Rattle.stack_code.specs.StackMachine.{Spot, transfer, edited}
 use Rattle.runner.specs.declared.words.Word.{Word}
 use Rattle.runner.specs.declared.words.Cell.{Cell}
-use Rattle.runner.specs.Exchanges.{GoesRight, AreWritten, Transfers, IsExchange}
+use Rattle.runner.specs.Exchanges.{GoesRight, AreWritten, Transfers, LacksItem, IsExchange}
 use Rattle.runner.proofs.Keeping.{Stays, transfer_stays}
 
 pub still : (ws : List Record) (v : World) (o : Out ⊤) → IsPrefix ws v.state.tape.written → Stays v o → AreWritten ws o
@@ -40,14 +41,19 @@ module _ {S K : Type 0} (left : S → Option (List ℕ)) (puts : K → List ℕ 
   abbrev go : Spot → Place → World → Out ⊤
   go p place = edited place way kind p
 
+  lacks_item : (rs : List Record) → LacksInStep (due kind) fs old.stand rs → LacksItem go word fs old.stand cells rs
+  lacks_item rs lacks p place w written shows f =
+      let l = lacks written in
+      (l.0.written, record { state = record { store = w.state.store; tape = l.0 }; is = edits way kind p place w _ (Breaks EndOfInput l.0) f.taped l.1; shows = refl })
+
   pub not_found : (stop : Stop) → IsStep left puts faults failures i0 i1 o0 o1 (due kind) fs old mid (Err stop) → IsExchange left puts faults failures i0 i1 o0 o1 go word fs old mid cells cells (Err stop)
-  not_found (stops.Trapped e) s = (s.0, s.1, s.2, s.3, λ p place w unread written m shows f. let b = s.4 unread written m in record { state = record { store = w.state.store; tape = b.0 }; is = edits way kind p place w _ (Breaks e b.0) f.taped b.1; shows = b.2 })
-  not_found stops.Input s = (s.0, s.1, s.2, s.3, s.4, s.5, λ p place w written shows f. let b = s.6 written in record { state = record { store = w.state.store; tape = b.0 }; is = edits way kind p place w _ (Breaks EndOfInput b.0) f.taped b.1; shows = b.2 })
-  not_found stops.Output s = (s.0, s.1, s.2, s.3, s.4, s.5, λ p place w unread written shows f. let e = edits way kind p place w _ _ f.taped refl in subst (AreWritten (written ++ s.1)) (sym e) (written_by way kind p place (written ++ s.1) w _ (s.6 unread written) (subst GoesRight e f.right)), s.7)
+  not_found (stops.Trapped e) s = (s.0, s.1, flows_by left puts lacks_item s.2, s.3, λ p place w unread written m shows f. let b = s.4 unread written m in record { state = record { store = w.state.store; tape = b.0 }; is = edits way kind p place w _ (Breaks e b.0) f.taped b.1; shows = b.2 })
+  not_found stops.Input s = (s.0, s.1, flows_by left puts lacks_item s.2, s.3, s.4, s.5, λ p place w written shows f. let b = s.6 written in record { state = record { store = w.state.store; tape = b.0 }; is = edits way kind p place w _ (Breaks EndOfInput b.0) f.taped b.1; shows = b.2 })
+  not_found stops.Output s = (s.0, s.1, reads_by left lacks_item s.2, s.3, s.4, s.5, λ p place w unread written shows f. let e = edits way kind p place w _ _ f.taped refl in subst (AreWritten (written ++ s.1)) (sym e) (written_by way kind p place (written ++ s.1) w _ (s.6 unread written) (subst GoesRight e f.right)), s.7)
 
   module _ (new : flows.State) (cells1 : List Cell) (s : IsStep left puts faults failures i0 i1 o0 o1 (due kind) fs old mid (Ok tt)) (same : new.intake ≡ mid.intake) where
-    flows_there : Flows left puts i0 i1 o0 o1 old.intake new.intake s.0 s.1
-    flows_there = subst (λ c. Flows left puts i0 i1 o0 o1 old.intake c s.0 s.1) (sym same) s.2
+    flows_there : Flows left puts (LacksItem go word fs old.stand cells) i0 i1 o0 o1 old.intake new.intake s.0 s.1
+    flows_there = subst (λ c. Flows left puts (LacksItem go word fs old.stand cells) i0 i1 o0 o1 old.intake c s.0 s.1) (sym same) (flows_by left puts lacks_item s.2)
 
     found : (p : Spot) (place : Place) (w : World) (unread written : List Record) → w.state.tape ≡ tape fs old.stand (s.0 ++ unread) written → go p place w ≡ transfer place way kind p (taping (tape fs mid.stand unread (written ++ s.1)) w)
     found p place w unread written e = edits way kind p place w _ _ e (s.4 unread written)

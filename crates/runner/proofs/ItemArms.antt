@@ -22,8 +22,9 @@ use Rattle.runner.specs.declared.words.Word.{Word}
 use Rattle.runner.specs.declared.words.Cell.{Cell}
 use Rattle.runner.specs.Words.{Shows, Stand, pile_of}
 use Rattle.runner.specs.Work.{MayHold, IsFine}
-use Rattle.runner.specs.Recording.{tape_at, Faces, InHand, IsInHand, HasWritten, IsActed, MayAct}
-use Rattle.runner.specs.Exchanges.{IsSpot, GoesRight, Meets, AreWritten, IsExchange}
+use Rattle.record_flow.proofs.Taking.{reads_by, flows_by}
+use Rattle.runner.specs.Recording.{tape_at, Faces, InHand, IsInHand, HasWritten, LacksAct, IsActed, MayAct}
+use Rattle.runner.specs.Exchanges.{IsSpot, GoesRight, Meets, AreWritten, LacksItem, IsExchange}
 use Rattle.runner.proofs.Opening.{IsAmong, open_item}
 use Rattle.runner.proofs.PlaceArms.{spot_in, spot_is, spot_stand}
 
@@ -49,12 +50,18 @@ module _ {S K : Type 0} (left : S → Option (List ℕ)) (puts : K → List ℕ 
       let r = spotted s w f.stand f.fine in
       record { agrees = f.agrees; taped = f.taped ∙ ap (λ h. tape_at h written unread) hand_is; right = right_first (go r.spot s.frame.place w) (λ _ w1. Gives (next s r.below) w1) (subst IsFine r.is f.fine) }
 
+  lacks_at_spot : (rs : List Record) → LacksItem go word fs old.stand cells rs → LacksAct plans j hand buffer top cells rs
+  lacks_at_spot rs lacks s w written f =
+      let r = spotted s w f.stand f.fine in
+      let c = lacks r.spot s.frame.place w written r.shows (meets s w rs written f) in
+      (c.0, record { state = c.1.state; is = r.is ∙ ap (λ o. bind o (λ _ w1. Gives (next s r.below) w1)) c.1.is; shows = c.1.shows })
+
   pub spot_goes : InHand plans after (hand_of fs new.stand) new.stand plan → IsExchange left puts faults failures i0 i1 o0 o1 go word fs old new cells cells1 (Ok tt) → IsActed left puts faults failures i0 i1 o0 o1 plans j after hand old new buffer top cells buffer cells1 (Ok (top1, plan))
   spot_goes held x = (
     x.0,
     x.1,
     hand_of fs new.stand,
-    x.2,
+    flows_by left puts lacks_at_spot x.2,
     x.3,
     held,
     λ s w unread written f.
@@ -67,7 +74,7 @@ module _ {S K : Type 0} (left : S → Option (List ℕ)) (puts : K → List ℕ 
   spot_stops (stops.Trapped e) x = (
     x.0,
     x.1,
-    x.2,
+    flows_by left puts lacks_at_spot x.2,
     x.3,
     λ s w unread written m f.
         let r = spotted s w f.stand f.fine in
@@ -77,7 +84,7 @@ module _ {S K : Type 0} (left : S → Option (List ℕ)) (puts : K → List ℕ 
   spot_stops stops.Input x = (
     x.0,
     x.1,
-    x.2,
+    flows_by left puts lacks_at_spot x.2,
     x.3,
     x.4,
     x.5,
@@ -89,7 +96,7 @@ module _ {S K : Type 0} (left : S → Option (List ℕ)) (puts : K → List ℕ 
   spot_stops stops.Output x = (
     x.0,
     x.1,
-    x.2,
+    reads_by left lacks_at_spot x.2,
     x.3,
     x.4,
     x.5,

@@ -23,9 +23,8 @@ use Rattle.f66_tree.specs.Statements.{taped}
 use Rattle.f66_tree.specs.World.{Record, Tape, Store, World, Gives, bind, settle, Moves, Yields, Traps, moving, taping, holding, put_in}
 use Rattle.format_io.specs.Letters.{IsLetter}
 use Rattle.format_io.specs.Places.{Stand as Standing}
-use Rattle.format_io.proofs.LetterRuns.{seam_set}
 use Rattle.record_flow.specs.Flows.{tape}
-use Rattle.record_tape.specs.Letters.{SendsLetters, GetsLetters}
+use Rattle.record_flow.specs.Letters.{SendsLetters, GetsLetters}
 use Rattle.stack_code.specs.StackMachine.{Spot, At, unit_of, shift, store, transfer, edited, row}
 use Rattle.runner.specs.declared.words.Word.{Word}
 use Rattle.runner.specs.declared.words.Cell.{Cell}
@@ -36,6 +35,16 @@ use Rattle.runner.specs.Words.{Shows, IsSpotWord, Agrees, content_in}
 use Rattle.runner.proofs.Cells.{agrees_put, same_unit}
 
 -- ---- codes in a block and in units ----
+
+-- the next one takes another content
+seam_set : {A : Type 0} (xs old : List A) (i : ℕ) (x d : A) → length xs ≡ i → i < length old → set (xs ++ drop i old) i x ≡ (xs ++ x ∷ []) ++ drop (i + 1) old
+seam_set xs old i x d n lt =
+    let behind = drop (suc i) old in
+    ap (λ v. set (xs ++ v) i x) (drop-cons old i d lt)
+    ∙ ap (λ v. set (xs ++ get_or old i d ∷ behind) v x) (sym n)
+    ∙ set-append_seam xs (get_or old i d) behind x
+    ∙ sym (append_assoc xs (x ∷ []) behind)
+    ∙ ap (λ v. (xs ++ x ∷ []) ++ drop v old) (let e : suc i ≡ i + 1 = omega arith in e)
 
 -- one more unit holds a code of the block
 pub kept_more : (block : List ℕ) (i : ℕ) (units old : List Cell) → units ≡ map coded (take i block) ++ drop i old → i < length block → i < length old

@@ -29,15 +29,15 @@ use Rattle.runner.specs.declared.words.Word.{Word}
 use Rattle.runner.specs.declared.words.Cell.{Cell}
 use Rattle.runner.specs.Frames.{Level}
 use Rattle.runner.specs.Words.{pile_of}
-use Rattle.runner.specs.Recording.{tape_at, Faces, MovesTo, TripsOver, HasWritten, Acts, MayAct, HasPlan}
-use Rattle.runner.specs.Running.{IsValidCode, RunsTo, program, bounded}
+use Rattle.runner.specs.Recording.{tape_at, Faces, MovesTo, TripsOver, HasWritten, LacksAct, Acts, MayAct, HasPlan}
+use Rattle.runner.specs.Running.{IsValidCode, RunsTo, Wants, program, bounded}
 use Rattle.runner.specs.Endings.{IsUnread, IsEnd, end_in}
 use Rattle.runner.proofs.Roles.{IsNext}
 use Rattle.runner.proofs.Live as live
 use Rattle.runner.proofs.Live.{Held}
 use Rattle.runner.proofs.Keeping.{begins_run}
 use Rattle.runner.proofs.Turn.{CountsOne, fine, opened_at}
-use Rattle.runner.proofs.UnderWay.{IsUnderWay}
+use Rattle.runner.proofs.UnderWay.{IsUnderWay, gets_fresh}
 
 module _ {S K : Type 0} {left : S → Option (List ℕ)} {puts : K → List ℕ → K → Type 0} {faults : S → ℕ} {failures : K → ℕ} {i0 i1 : S} {o0 o1 : K} {first now : State} {code : Code} {steps pc rest top : ℕ} {stack : List Word} {cells : List Cell} {place : Place} {executed from : ℕ} {level : Level} {plan : ℕ} (valid : IsValidCode code) (law : ValidIsSafe) (u : IsUnderWay left puts faults failures i0 i1 o0 o1 first now code steps pc rest top stack cells place executed from level plan) {j : Instruction} (at : slice_get (code_of code.ops.items) pc ≡ Some j) (straight : IsNext j) where
   way_on : IsIn (pc + 1) (ways j pc)
@@ -78,6 +78,18 @@ module _ {S K : Type 0} {left : S → Option (List ℕ)} {puts : K → List ℕ 
         (record { world = record { state = m.state; left = k.world.left; count = k.world.count }; is = m.is ∙ ap (λ p. Halts (Ended (Trapped e p)) (record { state = m.state; left = k.world.left; count = k.world.count })) l.line; count = omega arith; shows = m.shows })
         (told k.base k.told ∙ ap bounded same))
 
+  -- over what was taken and these records alone the run asks for one more
+  lacks_run : (rs : List Record) → LacksAct code.plans.items j u.hand stack top cells rs → Wants (program code) steps (u.taken ++ rs)
+  lacks_run rs lacks =
+      let k = u.turn.held rs in
+      let l = k.live in
+      let sums = l.sums in
+      let m = lacks k.core k.world u.written (faces rs) in
+      let ended = live.ends (program code) (u.taken ++ rs) steps code.units code.stack code.dummies code.depth valid.valid valid.bounds law pc rest (pile_of stack top) cells place level (tape_at u.hand u.written rs) executed from k j at m.0 (Ended (Trapped EndOfInput place)) (bounded (suc k.count))
+      (record { world = record { state = m.1.state; left = k.world.left; count = k.world.count }; is = m.1.is ∙ ap (λ p. Halts (Ended (Trapped EndOfInput p)) (record { state = m.1.state; left = k.world.left; count = k.world.count })) l.line; count = omega arith; shows = m.1.shows })
+      refl in
+      record { records = m.0; place = place; work = steps - rest; count = ended.count; runs = ended.runs }
+
   run_begins : (taken1 ws unread : List Record) → HasWritten ws (act code.plans.items (Some j) (u.turn.held (taken1 ++ unread)).core (u.turn.held (taken1 ++ unread)).world) → (a : Shown) (count : ℕ) → Runs (program code) ((u.taken ++ taken1) ++ unread) steps a count → IsPrefix ws a.records
   run_begins taken1 ws unread h a count r =
       let k = u.turn.held (taken1 ++ unread) in
@@ -99,7 +111,7 @@ module _ {S K : Type 0} {left : S → Option (List ℕ)} {puts : K → List ℕ 
           written = u.written ++ a.1;
           hand = a.2;
           turn = record { held = λ unread. moved_on a.0 a.1 a.2 stack1 r.0 cells1 unread (a.6 (u.turn.held (a.0 ++ unread)).core (u.turn.held (a.0 ++ unread)).world unread u.written (faces (a.0 ++ unread))); within = room; order = let order = u.turn.order in omega arith; units = long ∙ u.turn.units; among = o.0; opened = o.2; in_hand = a.5 };
-          flows = flows_on left puts in_a_row i0 i1 i2 o0 o1 o2 first.intake now.intake new.intake u.taken a.0 u.written a.1 u.flows a.3;
+          flows = flows_on left puts in_a_row i0 i1 i2 o0 o1 o2 first.intake now.intake new.intake u.taken a.0 u.written a.1 lacks_run u.flows a.3;
           steady = record { input = a.4.input ∙ u.steady.input; out = a.4.out ∙ u.steady.out };
         }
 
@@ -107,12 +119,13 @@ module _ {S K : Type 0} {left : S → Option (List ℕ)} {puts : K → List ℕ 
     acts_over {executed1} told fresh (stops.Trapped e) acted =
         let o = opened_at valid law u.turn at (pc + 1) way_on in
         let a = here (Err (stops.Trapped e)) acted u.turn.among o.0 u.hand u.turn.in_hand o.1 in
-        let f = flows_on left puts in_a_row i0 i1 i2 o0 o1 o2 first.intake now.intake new.intake u.taken a.0 u.written a.1 u.flows a.2 in
+        let f = flows_on left puts in_a_row i0 i1 i2 o0 o1 o2 first.intake now.intake new.intake u.taken a.0 u.written a.1 lacks_run u.flows a.2 in
         record {
           got = f.reads.got;
           written = u.written ++ a.1;
           ended = new.intake.ended;
           consumes = f.reads.consumes;
+          gets = gets_fresh fresh f.reads.gets;
           at_end = f.reads.at_end (λ e1. absurd (true≢false (sym e1 ∙ fresh.going)));
           sent = f.sent;
           steady = record { input = a.3.input ∙ u.steady.input; out = a.3.out ∙ u.steady.out };
@@ -125,12 +138,13 @@ module _ {S K : Type 0} {left : S → Option (List ℕ)} {puts : K → List ℕ 
     acts_over {executed1} told fresh stops.Input acted =
         let o = opened_at valid law u.turn at (pc + 1) way_on in
         let a = here (Err stops.Input) acted u.turn.among o.0 u.hand u.turn.in_hand o.1 in
-        let f = flows_on left puts in_a_row i0 i1 i2 o0 o1 o2 first.intake now.intake new.intake u.taken a.0 u.written a.1 u.flows a.2 in
+        let f = flows_on left puts in_a_row i0 i1 i2 o0 o1 o2 first.intake now.intake new.intake u.taken a.0 u.written a.1 lacks_run u.flows a.2 in
         record {
           got = f.reads.got;
           written = u.written ++ a.1;
           place = place;
           consumes = f.reads.consumes;
+          gets = gets_fresh fresh f.reads.gets;
           sent = f.sent;
           input = subst (λ n. Rose n (faults i2)) u.steady.input a.3;
           out = a.4 ∙ u.steady.out;
@@ -139,12 +153,13 @@ module _ {S K : Type 0} {left : S → Option (List ℕ)} {puts : K → List ℕ 
     acts_over {executed1} told fresh stops.Output acted =
         let o = opened_at valid law u.turn at (pc + 1) way_on in
         let a = here (Err stops.Output) acted u.turn.among o.0 u.hand u.turn.in_hand o.1 in
-        let f = reads_on left i0 i1 i2 first.intake now.intake new.intake u.taken a.0 u.flows.reads a.2 in
+        let f = reads_on left i0 i1 i2 first.intake now.intake new.intake u.taken a.0 lacks_run u.flows.reads a.2 in
         let unread = input_records new.intake.hand in
         record {
           got = f.got;
           written = u.written ++ a.1;
           consumes = f.consumes;
+          gets = gets_fresh fresh f.gets;
           sent = puts_on puts in_a_row o0 o1 o2 (output_bytes u.written) (output_bytes a.1) [] (output_bytes (u.written ++ a.1)) u.flows.sent a.3 (flat_map-append (λ record_bytes. record_bytes ++ 10 ∷ []) u.written a.1 ∙ ap (λ (l : List ℕ). output_bytes u.written ++ l) (sym (append-nil (output_bytes a.1))));
           some = λ none. a.7 (none_behind u.written a.1 none);
           input = a.4 ∙ u.steady.input;

@@ -24,7 +24,7 @@ use Rattle.runner.specs.declared.words.Cell.{Cell}
 use Rattle.runner.specs.Words.{Stand, pile_of}
 use Rattle.runner.specs.Work.{MayHold, IsFine, IsGiven}
 use Rattle.runner.specs.Reaching.{product, exactly, IsProduct, Alike, Same}
-use Rattle.runner.specs.Recording.{IsActed}
+use Rattle.runner.specs.Recording.{LacksAct, IsActed}
 use Rattle.runner.specs.Exchanges.{IsSpot}
 use Rattle.runner.proofs.Extents.{product_is, extent_is}
 use Rattle.runner.proofs.ItemArms.{Spotted}
@@ -133,7 +133,7 @@ pub row_outside : {S K : Type 0} (left : S → Option (List ℕ)) (puts : K → 
 row_outside left puts faults failures nothing i o plans j after hand old buffer top cells is = (
   [],
   [],
-  flows_nothing left puts nothing i o old.intake,
+  flows_nothing left puts (LacksAct plans j hand buffer top cells) nothing i o old.intake,
   record { input = refl; out = refl },
   λ s w unread written m f. record { state = w.state; is = is s w f.stand f.fine; shows = ap (λ t. t.written) f.taped ∙ sym (append-nil written) },
 )

@@ -17,9 +17,10 @@ use Rattle.ports.specs.Causes.{Rose}
 use Rattle.ports.specs.Records.{output_bytes}
 use Rattle.record_flow.specs.declared.flow.Stop.{Stop}
 use Rattle.record_flow.specs.declared.flow.Stop.TheVariants as stops
+use Rattle.format_io.specs.Places.{Stand as Standing}
 use Rattle.record_flow.specs.Flows as flows
 use Rattle.record_flow.specs.Flows.{tape, Flows, AreSteady}
-use Rattle.record_flow.proofs.Taking.{reads_on, flows_on, flows_nothing}
+use Rattle.record_flow.proofs.Taking.{reads_by, reads_on, flows_by, flows_on, flows_nothing}
 use Rattle.record_flow.proofs.Puts.{none_behind}
 use Rattle.stack_code.specs.Safety.{IsWithin}
 use Rattle.stack_code.specs.StackMachine.{Spot, At, shift, edited, row}
@@ -28,7 +29,7 @@ use Rattle.runner.specs.declared.words.Cell.{Cell}
 use Rattle.runner.specs.Reaching.{Alike, Same, Many, IsShifted}
 use Rattle.runner.specs.Words.{Shows, IsSpotWord, Agrees}
 use Rattle.runner.specs.Blocks.{MovesUnits}
-use Rattle.runner.specs.Exchanges.{IsSpot, Trips, GoesRight, Meets, AreWritten, IsExchange}
+use Rattle.runner.specs.Exchanges.{IsSpot, Trips, GoesRight, Meets, AreWritten, LacksItem, IsExchange}
 use Rattle.runner.proofs.Exchanging.{still}
 use Rattle.runner.proofs.Keeping.{row_stays}
 
@@ -42,10 +43,14 @@ pub record Reached (way : Way) (k : Kind) (index : ℕ) (p : Spot) (place : Plac
   pub agrees : Agrees cells store
   pub is : row place way k p total 0 w ≡ row place way k p n index (later w store now fs unread written)
 
+-- over these records alone one is lacking for a row of so many units or more
+abbrev pub LacksRow : Way → Kind → Word → Fields → Standing → List Cell → ℕ → List Record → Type 0
+LacksRow way k word fs stand cells index rs = (m : ℕ) → index ≤ m → LacksItem (λ p place. row place way k p m 0) word fs stand cells rs
+
 pub record RowSince {S K : Type 0} (left : S → Option (List ℕ)) (puts : K → List ℕ → K → Type 0) (faults : S → ℕ) (failures : K → ℕ) (i0 i1 : S) (o0 o1 : K) (way : Way) (k : Kind) (word : Word) (fs : Fields) (old now : flows.State) (cells cells1 : List Cell) (index : ℕ) : Type 0 where
   pub taken : List Record
   pub put : List Record
-  pub flows : Flows left puts i0 i1 o0 o1 old.intake now.intake taken put
+  pub flows : Flows left puts (LacksRow way k word fs old.stand cells index) i0 i1 o0 o1 old.intake now.intake taken put
   pub steady : AreSteady faults failures i0 i1 o0 o1
   pub few : index < 2 ^ 31
   pub goes : (p : Spot) (place : Place) (w : World) (unread written : List Record) → Shows (At p) word → Agrees cells w.state.store → w.state.tape ≡ tape fs old.stand (taken ++ unread) written → (total n : ℕ) → total ≡ index + n → GoesRight (row place way k p total 0 w) → Reached way k index p place w fs now cells1 unread (written ++ put) total n
@@ -125,7 +130,7 @@ module _ {S K : Type 0} (left : S → Option (List ℕ)) (puts : K → List ℕ 
       record {
         taken = [];
         put = [];
-        flows = flows_nothing left puts nothing i o old.intake;
+        flows = flows_nothing left puts (LacksRow way k word fs old.stand cells 0) nothing i o old.intake;
         steady = record { input = refl; out = refl };
         few = omega arith;
         goes = λ p place w unread written shows agrees taped total n e right. record {
@@ -136,12 +141,19 @@ module _ {S K : Type 0} (left : S → Option (List ℕ)) (puts : K → List ℕ 
       }
 
   module _ (i0 i1 i2 : S) (o0 o1 o2 : K) (old now new : flows.State) (cells cells1 cells2 : List Cell) (index : ℕ) (s : RowSince left puts faults failures i0 i1 o0 o1 way k word fs old now cells cells1 index) where
+    -- a longer row lacks what this one does
+    lacks_longer : (at : ℕ) → index ≤ at → (rs : List Record) → LacksRow way k word fs old.stand cells index rs → LacksRow way k word fs old.stand cells at rs
+    lacks_longer at le rs lacks m more = lacks m (omega (arith, le, more))
+
+    lacks_whole : (m : ℕ) → index ≤ m → (rs : List Record) → LacksRow way k word fs old.stand cells index rs → LacksItem (λ p place. row place way k p m 0) word fs old.stand cells rs
+    lacks_whole m le rs lacks = lacks m le
+
     -- the row ends
     pub row_done : (count m : ℕ) → index ≡ count → Alike count m → IsExchange left puts faults failures i0 i1 o0 o1 (λ p place. row place way k p m 0) word fs old now cells cells1 (Ok tt)
     row_done count m at (Same e) = (
       s.taken,
       s.put,
-      s.flows,
+      flows_by left puts (lacks_whole m (omega arith)) s.flows,
       s.steady,
       λ p place w unread written shows f. let r = s.goes p place w unread written shows f.agrees f.taped m 0 (omega arith) f.right in record { store = r.store; is = r.is; agrees = r.agrees },
     )
@@ -152,7 +164,7 @@ module _ {S K : Type 0} (left : S → Option (List ℕ)) (puts : K → List ℕ 
     row_past count m lt most alike none = (
       s.taken,
       s.put,
-      s.flows,
+      flows_by left puts (lacks_whole m (let e = reach_more index count m lt most alike in omega (arith, e))) s.flows,
       s.steady,
       λ p place w unread written may shows f.
           let r = s.goes p place w unread written shows f.agrees f.taped m (suc (m - (index + 1))) (reach_more index count m lt most alike) f.right in
@@ -166,7 +178,7 @@ module _ {S K : Type 0} (left : S → Option (List ℕ)) (puts : K → List ℕ 
         record {
           taken = s.taken;
           put = s.put;
-          flows = subst (λ c. Flows left puts i0 i1 o0 o1 old.intake c s.taken s.put) (sym intake) s.flows;
+          flows = subst (λ c. Flows left puts (LacksRow way k word fs old.stand cells at) i0 i1 o0 o1 old.intake c s.taken s.put) (sym intake) (flows_by left puts (lacks_longer at (omega (arith, is))) s.flows);
           steady = s.steady;
           few = subst (λ v. v < 2 ^ 31) (sym is) few;
           goes = λ p place w unread written shows agrees taped total n e right.
@@ -203,12 +215,20 @@ module _ {S K : Type 0} (left : S → Option (List ℕ)) (puts : K → List ℕ 
       together : (t unread : List Record) (w : World) (written : List Record) → w.state.tape ≡ tape fs old.stand ((s.taken ++ t) ++ unread) written → w.state.tape ≡ tape fs old.stand (s.taken ++ (t ++ unread)) written
       together t unread w written e = e ∙ ap (λ l. tape fs old.stand l written) (append_assoc s.taken t unread)
 
+      -- a record that is lacking for this unit is lacking for the row
+      lacks_in_row : (m : ℕ) → index < m → (rs : List Record) → LacksItem (λ p place. edited place way k p) at fs now.stand cells1 rs → LacksItem (λ p place. row place way k p m 0) word fs old.stand cells (s.taken ++ rs)
+      lacks_in_row m lt rs lacks p place w written shows f =
+          let n = m - (index + 1) in
+          let x = inside p place w rs written shows f.agrees f.taped m n (omega (arith, lt)) f.right in
+          let c = lacks x.spot place (later w x.store now fs rs (written ++ s.put)) (written ++ s.put) x.shows x.meets in
+          (c.0, record { state = c.1.state; is = x.is ∙ ap (λ o. bind o (λ _ w2. row place way k p n (index + 1) w2)) c.1.is; shows = c.1.shows })
+
       pub row_on : index + 1 < 2 ^ 31 → IsExchange left puts faults failures i1 i2 o1 o2 (λ p place. edited place way k p) at fs now new cells1 cells2 (Ok tt) → RowSince left puts faults failures i0 i2 o0 o2 way k word fs old new cells cells2 (index + 1)
       row_on few t =
           record {
             taken = s.taken ++ t.0;
             put = s.put ++ t.1;
-            flows = flows_on left puts in_a_row i0 i1 i2 o0 o1 o2 old.intake now.intake new.intake s.taken t.0 s.put t.1 s.flows t.2;
+            flows = flows_on left puts in_a_row i0 i1 i2 o0 o1 o2 old.intake now.intake new.intake s.taken t.0 s.put t.1 (λ rs lacks m le. lacks_in_row m (omega (arith, le)) rs lacks) (flows_by left puts (lacks_longer (index + 1) (omega arith)) s.flows) t.2;
             steady = record { input = t.3.input ∙ s.steady.input; out = t.3.out ∙ s.steady.out };
             few = few;
             goes = λ p place w unread written shows agrees taped total n e right.
@@ -221,6 +241,9 @@ module _ {S K : Type 0} (left : S → Option (List ℕ)) (puts : K → List ℕ 
         abbrev rest : ℕ
         rest = m - (index + 1)
 
+        inside_row : index < m
+        inside_row = let e = reach_more index count m lt most alike in omega (arith, e)
+
         stopped_in : (p : Spot) (place : Place) (w : World) (unread written : List Record) (e : Trap) (ws : List Record) (x : Inside p place w unread written m rest) → Trips (edited place way k x.spot (later w x.store now fs unread written)) place (later w x.store now fs unread written) e ws → Trips (row place way k p m 0 w) place w e ws
         stopped_in p place w unread written e ws x c = record { state = c.state; is = x.is ∙ ap (λ o. bind o (λ _ w2. row place way k p rest (index + 1) w2)) c.is; shows = c.shows }
 
@@ -228,7 +251,7 @@ module _ {S K : Type 0} (left : S → Option (List ℕ)) (puts : K → List ℕ 
         row_stops (stops.Trapped e) t = (
           s.taken ++ t.0,
           s.put ++ t.1,
-          flows_on left puts in_a_row i0 i1 i2 o0 o1 o2 old.intake now.intake new.intake s.taken t.0 s.put t.1 s.flows t.2,
+          flows_on left puts in_a_row i0 i1 i2 o0 o1 o2 old.intake now.intake new.intake s.taken t.0 s.put t.1 (lacks_in_row m inside_row) (flows_by left puts (lacks_whole m (omega (arith, inside_row))) s.flows) t.2,
           record { input = t.3.input ∙ s.steady.input; out = t.3.out ∙ s.steady.out },
           λ p place w unread written may shows f.
               let x = inside p place w (t.0 ++ unread) written shows f.agrees (together t.0 unread w written f.taped) m rest (reach_more index count m lt most alike) f.right in
@@ -238,7 +261,7 @@ module _ {S K : Type 0} (left : S → Option (List ℕ)) (puts : K → List ℕ 
         row_stops stops.Input t = (
           s.taken ++ t.0,
           s.put ++ t.1,
-          flows_on left puts in_a_row i0 i1 i2 o0 o1 o2 old.intake now.intake new.intake s.taken t.0 s.put t.1 s.flows t.2,
+          flows_on left puts in_a_row i0 i1 i2 o0 o1 o2 old.intake now.intake new.intake s.taken t.0 s.put t.1 (lacks_in_row m inside_row) (flows_by left puts (lacks_whole m (omega (arith, inside_row))) s.flows) t.2,
           subst (λ n. Rose n (faults i2)) s.steady.input t.3,
           t.4 ∙ s.steady.out,
           t.5,
@@ -250,7 +273,7 @@ module _ {S K : Type 0} (left : S → Option (List ℕ)) (puts : K → List ℕ 
         row_stops stops.Output t = (
           s.taken ++ t.0,
           s.put ++ t.1,
-          reads_on left i0 i1 i2 old.intake now.intake new.intake s.taken t.0 s.flows.reads t.2,
+          reads_on left i0 i1 i2 old.intake now.intake new.intake s.taken t.0 (lacks_in_row m inside_row) (reads_by left (lacks_whole m (omega (arith, inside_row))) s.flows.reads) t.2,
           puts_on puts in_a_row o0 o1 o2 (output_bytes s.put) (output_bytes t.1) [] (output_bytes (s.put ++ t.1)) s.flows.sent t.3 (flat_map-append (λ record_bytes. record_bytes ++ 10 ∷ []) s.put t.1 ∙ ap (λ (l : List ℕ). output_bytes s.put ++ l) (sym (append-nil (output_bytes t.1)))),
           t.4 ∙ s.steady.input,
           subst (λ n. Rose n (failures o2)) s.steady.out t.5,

@@ -14,10 +14,10 @@ use Rattle.f66_tree.specs.Statements.{taped}
 use Rattle.f66_tree.specs.World.{Record, Tape, Store, World, Trapped, Ended, Out, Gives, Halts, bind, Move, Moves, Breaks, Misses, Try, Yields, Traps, Fails, settle, moving, holding, taping}
 use Rattle.format_io.specs.Places.{Stand as Standing}
 use Rattle.record_flow.specs.Flows.{tape}
-use Rattle.record_tape.specs.declared.tape.Break.{Break}
-use Rattle.record_tape.specs.declared.tape.Break.TheVariants as breaks
-use Rattle.record_tape.specs.Moves.{IsPut, IsTaken}
-use Rattle.record_tape.specs.Reels.{content}
+use Rattle.record_flow.specs.declared.flow.Break.{Break}
+use Rattle.record_flow.specs.declared.flow.Break.TheVariants as breaks
+use Rattle.record_flow.specs.Moves.{IsPut, IsTaken}
+use Rattle.record_flow.specs.Values.{content}
 use Rattle.stack_code.specs.StackMachine.{Spot, At, load, store, transfer}
 use Rattle.runner.specs.declared.words.Word.{Word}
 use Rattle.runner.specs.declared.words.Cell.{Cell}

@@ -5,6 +5,7 @@ use Rattle.ground.specs.declared.place.Place.{Place}
 use Rattle.f66_tree.specs.Turns.{Hand}
 use Rattle.f66_tree.specs.World.{empty_hand, Record, End}
 use Rattle.ports.specs.Records.{got_records}
+use Rattle.record_intake.specs.Intakes.{Content, Pieces, Gets, untouched}
 use Rattle.record_flow.specs.Flows.{State, Flows, AreSteady}
 use Rattle.record_flow.proofs.AllRecords.{all_later}
 use Rattle.record_flow.proofs.Taking.{flows_nothing}
@@ -14,22 +15,27 @@ use Rattle.runner.specs.declared.words.Cell.{Cell}
 use Rattle.runner.specs.declared.run.End.{End as TheEnd}
 use Rattle.runner.specs.declared.run.Ran.{Ran}
 use Rattle.runner.specs.Frames.{Level}
-use Rattle.runner.specs.Running.{ran, RunsTo, program}
+use Rattle.runner.specs.Running.{ran, RunsTo, Wants, program}
 use Rattle.runner.specs.Endings.{IsUnread, IsWhole, IsEnd, IsRunOf}
 use Rattle.runner.proofs.Turn.{IsTurn}
+
+-- what was got since nothing was read
+pub gets_fresh : {S : Type 0} {asks : List Record → Type 0} {i j : S} {c : Content} {got : List ℕ} → IsUnread c → Gets asks i j c got → Gets asks i j untouched got
+gets_fresh {S} {asks} {i} {j} {c} {got} fresh g =
+    record { pieces = g.pieces; all = g.all; asked = subst (λ (l : List ℕ). Pieces asks l g.pieces) fresh.hand g.asked; idle = g.idle; over = λ e. absurd (true≢false (sym e)) }
 
 pub record IsUnderWay {S K : Type 0} (left : S → Option (List ℕ)) (puts : K → List ℕ → K → Type 0) (faults : S → ℕ) (failures : K → ℕ) (i0 i1 : S) (o0 o1 : K) (first now : State) (code : Code) (steps pc rest top : ℕ) (stack : List Word) (cells : List Cell) (place : Place) (executed from : ℕ) (level : Level) (plan : ℕ) : Type 0 where
   pub taken : List Record
   pub written : List Record
   pub hand : Hand
   pub turn : IsTurn code steps pc rest top stack cells place executed from level taken written hand now.stand plan
-  pub flows : Flows left puts i0 i1 o0 o1 first.intake now.intake taken written
+  pub flows : Flows left puts (Wants (program code) steps) i0 i1 o0 o1 first.intake now.intake taken written
   pub steady : AreSteady faults failures i0 i1 o0 o1
 
 module _ {S K : Type 0} (left : S → Option (List ℕ)) (puts : K → List ℕ → K → Type 0) (faults : S → ℕ) (failures : K → ℕ) where
   pub under_way : (nothing : (s : K) → puts s [] s) (i : S) (o : K) (first : State) (code : Code) (steps pc rest top : ℕ) (stack : List Word) (cells : List Cell) (place : Place) (executed from : ℕ) (level : Level) (plan : ℕ) → IsTurn code steps pc rest top stack cells place executed from level [] [] empty_hand first.stand plan → IsUnderWay left puts faults failures i i o o first first code steps pc rest top stack cells place executed from level plan
   under_way nothing i o first code steps pc rest top stack cells place executed from level plan t =
-      record { taken = []; written = []; hand = empty_hand; turn = t; flows = flows_nothing left puts nothing i o first.intake; steady = record { input = refl; out = refl } }
+      record { taken = []; written = []; hand = empty_hand; turn = t; flows = flows_nothing left puts (Wants (program code) steps) nothing i o first.intake; steady = record { input = refl; out = refl } }
 
 module _ {S K : Type 0} {left : S → Option (List ℕ)} {puts : K → List ℕ → K → Type 0} {faults : S → ℕ} {failures : K → ℕ} {i0 i1 : S} {o0 o1 : K} {first now : State} {code : Code} {steps pc rest top : ℕ} {stack : List Word} {cells : List Cell} {place : Place} {executed from : ℕ} {level : Level} {plan : ℕ} (u : IsUnderWay left puts faults failures i0 i1 o0 o1 first now code steps pc rest top stack cells place executed from level plan) where
   -- one more instruction that has nothing to do with records
@@ -44,6 +50,7 @@ module _ {S K : Type 0} {left : S → Option (List ℕ)} {puts : K → List ℕ 
         written = u.written;
         ended = now.intake.ended;
         consumes = r.consumes;
+        gets = gets_fresh fresh r.gets;
         at_end = r.at_end (λ e. absurd (true≢false (sym e ∙ fresh.going)));
         sent = u.flows.sent;
         steady = u.steady;

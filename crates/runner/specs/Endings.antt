@@ -8,7 +8,7 @@ use Rattle.f66_tree.specs.World.{Record, End, Done, Stopped, Trapped, Ended, Goe
 use Rattle.ports.specs.Causes.{Rose}
 use Rattle.ports.specs.Puts.{PutsPrefix}
 use Rattle.ports.specs.Records.{got_records, input_records, output_bytes}
-use Rattle.record_intake.specs.Intakes.{Content, MayCome}
+use Rattle.record_intake.specs.Intakes.{Content, MayCome, Gets, untouched}
 use Rattle.record_flow.specs.declared.flow.Stop.{Stop}
 use Rattle.record_flow.specs.declared.flow.Stop.TheVariants as stops
 use Rattle.record_flow.specs.Flows.{AreSteady}
@@ -17,7 +17,7 @@ use Rattle.stack_code.specs.declared.valid.Code.{Code}
 use Rattle.runner.specs.declared.run.Ran.{Ran}
 use Rattle.runner.specs.declared.run.End.{End as TheEnd}
 use Rattle.runner.specs.declared.run.End.TheVariants as ends
-use Rattle.runner.specs.Running.{program, RunsTo}
+use Rattle.runner.specs.Running.{program, RunsTo, Wants}
 
 -- nothing has been read
 pub record IsUnread (c : Content) : Type 0 where
@@ -25,12 +25,14 @@ pub record IsUnread (c : Content) : Type 0 where
   pub going : c.ended ≡ false
 
 -- The machine comes to this end over the records of the bytes that were got and of all that may come behind them: nothing, where the
--- source has told its end. What it writes was put.
+-- source has told its end. What it writes was put. Each read was made where the machine, over the records of what was got before, asks for
+-- one more.
 pub record IsWhole {S K : Type 0} (left : S → Option (List ℕ)) (puts : K → List ℕ → K → Type 0) (faults : S → ℕ) (failures : K → ℕ) (i0 i1 : S) (o0 o1 : K) (c : Code) (steps : ℕ) (end : End) (rest shown : ℕ) : Type 0 where
   pub got : List ℕ
   pub written : List Record
   pub ended : Bool
   pub consumes : Consumes (left i0) (left i1) got
+  pub gets : Gets (Wants (program c) steps) i0 i1 untouched got
   pub at_end : ended ≡ true → IsAtEnd (left i1)
   pub sent : puts o0 (output_bytes written) o1
   pub steady : AreSteady faults failures i0 i1 o0 o1
@@ -42,6 +44,7 @@ pub record IsCutOff {S K : Type 0} (left : S → Option (List ℕ)) (puts : K �
   pub written : List Record
   pub place : Place
   pub consumes : Consumes (left i0) (left i1) got
+  pub gets : Gets (Wants (program c) steps) i0 i1 untouched got
   pub sent : puts o0 (output_bytes written) o1
   pub input : Rose (faults i0) (faults i1)
   pub out : failures o1 ≡ failures o0
@@ -52,6 +55,7 @@ pub record IsBrokenOff {S K : Type 0} (left : S → Option (List ℕ)) (puts : K
   pub got : List ℕ
   pub written : List Record
   pub consumes : Consumes (left i0) (left i1) got
+  pub gets : Gets (Wants (program c) steps) i0 i1 untouched got
   pub sent : PutsPrefix puts o0 (output_bytes written) o1
   pub some : written ≢ []
   pub input : faults i1 ≡ faults i0

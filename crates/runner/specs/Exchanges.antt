@@ -19,7 +19,7 @@ use Rattle.record_flow.specs.declared.flow.Stop.{Stop}
 use Rattle.record_flow.specs.declared.flow.Stop.TheVariants as stops
 use Rattle.record_flow.specs.Flows as flows
 use Rattle.record_flow.specs.Flows.{tape, MayFollow, Reads, Flows, AreSteady}
-use Rattle.record_tape.specs.Reels.{content}
+use Rattle.record_flow.specs.Values.{content}
 use Rattle.stack_code.specs.Safety.{IsRight, IsWithin}
 use Rattle.stack_code.specs.StackMachine.{Spot, At, transfer}
 use Rattle.runner.specs.declared.words.Word.{Word}
@@ -81,18 +81,23 @@ abbrev pub AreWritten : List Record → Out ⊤ → Type 0
 AreWritten ws (Gives a w) = IsPrefix ws w.state.tape.written
 AreWritten ws (Halts e w) = IsPrefix ws w.state.tape.written
 
+-- over these records alone one is lacking for the step
+abbrev pub LacksItem : (Spot → Place → World → Out ⊤) → Word → Fields → Standing → List Cell → List Record → Type 0
+LacksItem go word fs stand cells records =
+    (p : Spot) (place : Place) (w : World) (written : List Record) → Shows (At p) word → Meets (go p place) cells (tape fs stand records written) w → (ws : List Record) × Trips (go p place w) place w EndOfInput ws
+
 -- a step with the records and the store goes on, or it is trapped, or a read or a put fails
 abbrev pub IsExchange : {S K : Type 0} → (S → Option (List ℕ)) → (K → List ℕ → K → Type 0) → (S → ℕ) → (K → ℕ) → S → S → K → K → (Spot → Place → World → Out ⊤) → Word → Fields → flows.State → flows.State → List Cell → List Cell → Result (Unit {0}) Stop → Type 0
 IsExchange left puts faults failures i0 i1 o0 o1 go word fs old new cells cells1 (Ok u) =
-    (taken : List Record) × (put : List Record) × Flows left puts i0 i1 o0 o1 old.intake new.intake taken put × AreSteady faults failures i0 i1 o0 o1
+    (taken : List Record) × (put : List Record) × Flows left puts (LacksItem go word fs old.stand cells) i0 i1 o0 o1 old.intake new.intake taken put × AreSteady faults failures i0 i1 o0 o1
     × ((p : Spot) (place : Place) (w : World) (unread written : List Record) → Shows (At p) word → Meets (go p place) cells (tape fs old.stand (taken ++ unread) written) w → Comes (go p place w) w cells1 (tape fs new.stand unread (written ++ put)))
 IsExchange left puts faults failures i0 i1 o0 o1 go word fs old new cells cells1 (Err (stops.Trapped e)) =
-    (taken : List Record) × (put : List Record) × Flows left puts i0 i1 o0 o1 old.intake new.intake taken put × AreSteady faults failures i0 i1 o0 o1
+    (taken : List Record) × (put : List Record) × Flows left puts (LacksItem go word fs old.stand cells) i0 i1 o0 o1 old.intake new.intake taken put × AreSteady faults failures i0 i1 o0 o1
     × ((p : Spot) (place : Place) (w : World) (unread written : List Record) → MayFollow new.intake unread → Shows (At p) word → Meets (go p place) cells (tape fs old.stand (taken ++ unread) written) w → Trips (go p place w) place w e (written ++ put))
 IsExchange left puts faults failures i0 i1 o0 o1 go word fs old new cells cells1 (Err stops.Input) =
-    (taken : List Record) × (put : List Record) × Flows left puts i0 i1 o0 o1 old.intake new.intake taken put × Rose (faults i0) (faults i1) × (failures o1 ≡ failures o0) × IsCut new.intake
+    (taken : List Record) × (put : List Record) × Flows left puts (LacksItem go word fs old.stand cells) i0 i1 o0 o1 old.intake new.intake taken put × Rose (faults i0) (faults i1) × (failures o1 ≡ failures o0) × IsCut new.intake
     × ((p : Spot) (place : Place) (w : World) (written : List Record) → Shows (At p) word → Meets (go p place) cells (tape fs old.stand (taken ++ []) written) w → Trips (go p place w) place w EndOfInput (written ++ put))
 IsExchange left puts faults failures i0 i1 o0 o1 go word fs old new cells cells1 (Err stops.Output) =
-    (taken : List Record) × (put : List Record) × Reads left i0 i1 old.intake new.intake taken × PutsPrefix puts o0 (output_bytes put) o1 × (faults i1 ≡ faults i0) × Rose (failures o0) (failures o1)
+    (taken : List Record) × (put : List Record) × Reads left (LacksItem go word fs old.stand cells) i0 i1 old.intake new.intake taken × PutsPrefix puts o0 (output_bytes put) o1 × (faults i1 ≡ faults i0) × Rose (failures o0) (failures o1)
     × ((p : Spot) (place : Place) (w : World) (unread written : List Record) → Shows (At p) word → Meets (go p place) cells (tape fs old.stand (taken ++ unread) written) w → AreWritten (written ++ put) (go p place w))
     × (put ≢ [])

@@ -67,20 +67,25 @@ abbrev pub HasWritten : List Record → Out Core → Type 0
 HasWritten ws (Gives s w) = IsPrefix ws w.state.tape.written
 HasWritten ws (Halts e w) = IsPrefix ws w.state.tape.written
 
+-- over these records alone one is lacking for the instruction
+abbrev pub LacksAct : List Fields → Instruction → Hand → List Word → ℕ → List Cell → List Record → Type 0
+LacksAct plans j hand buffer top cells records =
+    (s : Core) (w : World) (written : List Record) → Faces plans j buffer top cells (tape_at hand written records) s w → (ws : List Record) × TripsOver (act plans (Some j) s w) s w EndOfInput ws
+
 -- the instruction goes on, with this statement open; or it is trapped, or a read or a put fails
 abbrev pub IsActed : {S K : Type 0} → (S → Option (List ℕ)) → (K → List ℕ → K → Type 0) → (S → ℕ) → (K → ℕ) → S → S → K → K → List Fields → Instruction → Open → Hand → flows.State → flows.State → List Word → ℕ → List Cell → List Word → List Cell → Result (ℕ × ℕ) Stop → Type 0
 IsActed left puts faults failures i0 i1 o0 o1 plans j after hand old new buffer top cells buffer1 cells1 (Ok r) =
-    (taken : List Record) × (put : List Record) × (hand1 : Hand) × Flows left puts i0 i1 o0 o1 old.intake new.intake taken put × AreSteady faults failures i0 i1 o0 o1
+    (taken : List Record) × (put : List Record) × (hand1 : Hand) × Flows left puts (LacksAct plans j hand buffer top cells) i0 i1 o0 o1 old.intake new.intake taken put × AreSteady faults failures i0 i1 o0 o1
     × InHand plans after hand1 new.stand r.1
     × ((s : Core) (w : World) (unread written : List Record) → Faces plans j buffer top cells (tape_at hand written (taken ++ unread)) s w → MovesTo (act plans (Some j) s w) s w (pile_of buffer1 r.0) cells1 (tape_at hand1 (written ++ put) unread))
 IsActed left puts faults failures i0 i1 o0 o1 plans j after hand old new buffer top cells buffer1 cells1 (Err (stops.Trapped e)) =
-    (taken : List Record) × (put : List Record) × Flows left puts i0 i1 o0 o1 old.intake new.intake taken put × AreSteady faults failures i0 i1 o0 o1
+    (taken : List Record) × (put : List Record) × Flows left puts (LacksAct plans j hand buffer top cells) i0 i1 o0 o1 old.intake new.intake taken put × AreSteady faults failures i0 i1 o0 o1
     × ((s : Core) (w : World) (unread written : List Record) → MayFollow new.intake unread → Faces plans j buffer top cells (tape_at hand written (taken ++ unread)) s w → TripsOver (act plans (Some j) s w) s w e (written ++ put))
 IsActed left puts faults failures i0 i1 o0 o1 plans j after hand old new buffer top cells buffer1 cells1 (Err stops.Input) =
-    (taken : List Record) × (put : List Record) × Flows left puts i0 i1 o0 o1 old.intake new.intake taken put × Rose (faults i0) (faults i1) × (failures o1 ≡ failures o0) × IsCut new.intake
+    (taken : List Record) × (put : List Record) × Flows left puts (LacksAct plans j hand buffer top cells) i0 i1 o0 o1 old.intake new.intake taken put × Rose (faults i0) (faults i1) × (failures o1 ≡ failures o0) × IsCut new.intake
     × ((s : Core) (w : World) (written : List Record) → Faces plans j buffer top cells (tape_at hand written (taken ++ [])) s w → TripsOver (act plans (Some j) s w) s w EndOfInput (written ++ put))
 IsActed left puts faults failures i0 i1 o0 o1 plans j after hand old new buffer top cells buffer1 cells1 (Err stops.Output) =
-    (taken : List Record) × (put : List Record) × Reads left i0 i1 old.intake new.intake taken × PutsPrefix puts o0 (output_bytes put) o1 × (faults i1 ≡ faults i0) × Rose (failures o0) (failures o1)
+    (taken : List Record) × (put : List Record) × Reads left (LacksAct plans j hand buffer top cells) i0 i1 old.intake new.intake taken × PutsPrefix puts o0 (output_bytes put) o1 × (faults i1 ≡ faults i0) × Rose (failures o0) (failures o1)
     × ((s : Core) (w : World) (unread written : List Record) → Faces plans j buffer top cells (tape_at hand written (taken ++ unread)) s w → HasWritten (written ++ put) (act plans (Some j) s w))
     × (put ≢ [])
 
@@ -119,15 +124,20 @@ abbrev pub IsUnitTest : List Fields → Way → ℕ → Core → World → List 
 IsUnitTest plans way n s w buffer top true = GoesBy (act plans (Some (Start way n)) s w) (opened_by way (slice_get plans n)) s w (pile_of buffer (top - 1))
 IsUnitTest plans way n s w buffer top false = act plans (Some (Start way n)) s w ≡ Halts (Ended (Trapped BadUnit s.frame.place)) w
 
+-- over these records alone the first one of the statement is lacking
+abbrev pub LacksStart : Way → ℕ → Fields → List Word → ℕ → List Record → Type 0
+LacksStart way n fs buffer top records =
+    (plans : List Fields) (cells : List Cell) (s : Core) (w : World) (hand : Hand) (written : List Record) → slice_get plans n ≡ Some fs → Faces plans (Start way n) buffer top cells (tape_at hand written records) s w → (ws : List Record) × TripsOver (act plans (Some (Start way n)) s w) s w EndOfInput ws
+
 -- a statement with these fields begins, whatever statement was before it
 abbrev pub IsStarted : {S : Type 0} → (S → Option (List ℕ)) → (S → ℕ) → S → S → Way → ℕ → Fields → flows.State → flows.State → List Word → ℕ → Result (ℕ × ℕ) Stop → Type 0
 IsStarted left faults i0 i1 way n fs old new buffer top (Ok r) =
-    (taken : List Record) × Reads left i0 i1 old.intake new.intake taken × (faults i1 ≡ faults i0)
+    (taken : List Record) × Reads left (LacksStart way n fs buffer top) i0 i1 old.intake new.intake taken × (faults i1 ≡ faults i0)
     × ((plans : List Fields) (cells : List Cell) (s : Core) (w : World) (hand : Hand) (unread written : List Record) → slice_get plans n ≡ Some fs → Faces plans (Start way n) buffer top cells (tape_at hand written (taken ++ unread)) s w → MovesTo (act plans (Some (Start way n)) s w) s w (pile_of buffer r.0) cells (tape_at (hand_of fs new.stand) written unread))
 IsStarted left faults i0 i1 way n fs old new buffer top (Err (stops.Trapped e)) =
-    Reads left i0 i1 old.intake new.intake [] × (faults i1 ≡ faults i0)
+    Reads left (LacksStart way n fs buffer top) i0 i1 old.intake new.intake [] × (faults i1 ≡ faults i0)
     × ((plans : List Fields) (cells : List Cell) (s : Core) (w : World) (hand : Hand) (unread written : List Record) → MayFollow new.intake unread → slice_get plans n ≡ Some fs → Faces plans (Start way n) buffer top cells (tape_at hand written unread) s w → TripsOver (act plans (Some (Start way n)) s w) s w e written)
 IsStarted left faults i0 i1 way n fs old new buffer top (Err stops.Input) =
-    Reads left i0 i1 old.intake new.intake [] × Rose (faults i0) (faults i1) × IsCut new.intake
+    Reads left (LacksStart way n fs buffer top) i0 i1 old.intake new.intake [] × Rose (faults i0) (faults i1) × IsCut new.intake
     × ((plans : List Fields) (cells : List Cell) (s : Core) (w : World) (hand : Hand) (written : List Record) → slice_get plans n ≡ Some fs → Faces plans (Start way n) buffer top cells (tape_at hand written []) s w → TripsOver (act plans (Some (Start way n)) s w) s w EndOfInput written)
 IsStarted left faults i0 i1 way n fs old new buffer top (Err stops.Output) = ⊥

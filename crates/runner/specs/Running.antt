@@ -2,6 +2,8 @@
 use Rattle.std.specs.Prelude.{◌≡◌, ℕ, suc, ◌+◌, ◌*◌, ◌-◌, ◌^◌, ◌<◌, ◌≤◌, Bool, true, false, List, length, Some, None, slice_get, nat_le, if◌then◌else◌}
 use Rattle.ground.specs.Arithmetic.{IsInRange}
 use Rattle.ground.specs.Content.{Whole}
+use Rattle.ground.specs.declared.place.Place.{Place}
+use Rattle.ground.specs.declared.trap.Trap.TheVariants.{EndOfInput}
 use Rattle.f66_tree.specs.World as w
 use Rattle.f66_tree.specs.World.{Record}
 use Rattle.stack_code.specs.declared.valid.Code.{Code}
@@ -93,6 +95,14 @@ pub record RunsTo (c : Program) (input : List Record) (steps : ℕ) (records : L
   pub count : ℕ
   pub runs : Runs c input steps (record { records = records; end = end; work = steps - left }) count
   pub executed : shown ≡ bounded count
+
+-- a run over these records alone ends where it asks for one more
+pub record Wants (c : Program) (steps : ℕ) (input : List Record) : Type 0 where
+  pub records : List Record
+  pub place : Place
+  pub work : ℕ
+  pub count : ℕ
+  pub runs : Runs c input steps (record { records = records; end = w.Ended (w.Trapped EndOfInput place); work = work }) count
 
 abbrev pub ran : End → ℕ → ℕ → Ran
 ran end left executed = record { end = end; left = left; executed = executed }

@@ -6,8 +6,8 @@ ghost use Rattle.f66_tree.specs.declared.editing.Way.TheVariants.{Reading, Writi
 ghost use Rattle.f66_tree.specs.Evaluation.{asked};
 ghost use Rattle.f66_tree.specs.Turns.{is_over};
 ghost use Rattle.f66_tree.specs.World.{Store as TheStore};
-ghost use Rattle.record_tape.specs.declared.tape.Break.TheVariants.{Trapped};
-ghost use Rattle.record_tape.specs.Reels.{content, IsSmall as IsSmallValue};
+ghost use Rattle.record_flow.specs.declared.flow.Break.TheVariants.{Trapped};
+ghost use Rattle.record_flow.specs.Values.{content, IsSmall as IsSmallValue};
 ghost use Rattle.stack_code.specs.StackMachine.{Spot, At, store as stored_at, edited};
 ghost use Rattle.runner.specs.Words.{Shows, Agrees, content_of};
 ghost use Rattle.runner.specs.Exchanges.{IsSpot, IsAsked, IsSet, Transfers, IsExchange};
@@ -18,8 +18,7 @@ use f66_tree::Way;
 use format_io::Plan;
 use ground::{Kind, Trap, Value};
 use ports::{Sink, Source};
-use record_flow::{Flow, Stop};
-use record_tape::Break;
+use record_flow::{Break, Flow, Stop};
 
 /// What a unit holds, where a value of a type is asked for.
 fn value_in(kind: Kind, cell: Cell) -> Result<Value, Trap>

@@ -6,7 +6,7 @@ ghost use Rattle.f66_tree.specs.Turns.{is_over};
 ghost use Rattle.f66_tree.specs.World.{Record};
 ghost use Rattle.format_io.specs.Letters.{IsLetter};
 ghost use Rattle.record_flow.specs.Flows.{tape};
-ghost use Rattle.record_tape.specs.Letters.{SendsLetters, GetsLetters};
+ghost use Rattle.record_flow.specs.Letters.{SendsLetters, GetsLetters};
 ghost use Rattle.stack_code.specs.StackMachine.{Spot, At};
 ghost use Rattle.runner.specs.Words.{Shows};
 ghost use Rattle.runner.specs.Blocks.{coded, letter_in as letter_of_unit, MovesUnits};
@@ -69,8 +69,8 @@ fn keep_all(block: &[u8], count: usize, units: &mut [Cell])
     }
 }
 
-/// The characters of the first of these units go out, as many as come with nothing between them and have room. How many. The
-/// block is what they go through.
+/// The characters of the first of these units go out by edits with nothing between them, as many as have room, where all of them
+/// are characters; else none. How many. The block is what they go through.
 fn put_units(units: &[Cell], plan: &Plan, flow: &mut Flow, block: &mut [u8]) -> usize
     requires few { length units.now ≤ length block.old }
     requires way { flow.old.stand.way ≡ Writing }
@@ -85,8 +85,8 @@ fn put_units(units: &[Cell], plan: &Plan, flow: &mut Flow, block: &mut [u8]) -> 
     flow.put_letters(plan, &block[..units.len()])
 }
 
-/// The next characters of the record come into the first of these units, as many as come with nothing between them. How
-/// many.
+/// The next characters of the record come into the first of these units by edits with nothing between them, where all of them
+/// are characters; else none. How many.
 fn take_units(units: &mut [Cell], plan: &Plan, flow: &mut Flow, block: &mut [u8]) -> usize
     requires few { length units.old ≤ length block.old }
     requires way { flow.old.stand.way ≡ Reading }

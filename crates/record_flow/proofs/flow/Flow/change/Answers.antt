@@ -2,7 +2,7 @@
 use Rattle.std.proofs.Common.{◌≡◌, sym, ◌∙◌, ap, subst}
 use Rattle.std.specs.Prelude.{OnOk}
 use Rattle.f66_tree.specs.declared.editing.Way.TheVariants.{Reading, Writing}
-use Rattle.record_tape.specs.Moves.{Changes}
+use Rattle.record_flow.specs.Moves.{Changes}
 use Rattle.record_flow.proofs.Fetching.{change_read, change_written, change_unput}
 use Rattle.record_flow.proofs.flow.Flow.change.Goals as goal
 

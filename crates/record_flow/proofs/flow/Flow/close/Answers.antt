@@ -1,6 +1,6 @@
 -- Turns that follow one another are a step.
 use Rattle.f66_tree.specs.Records.{closed}
-use Rattle.record_tape.specs.Moves.{to_close}
+use Rattle.record_flow.specs.Moves.{to_close}
 use Rattle.record_flow.proofs.Turns.{closing_keeps, closing_places}
 use Rattle.record_flow.proofs.Walking.{since_begun, since_more_by, step_done_by, step_stopped}
 use Rattle.record_flow.proofs.flow.Flow.close.Goals as goal

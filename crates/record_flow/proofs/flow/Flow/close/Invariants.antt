@@ -1,6 +1,6 @@
 -- What came and went since the step began.
 use Rattle.format_io.specs.Places.{hand_of}
-use Rattle.record_tape.specs.Moves.{to_close, left_of}
+use Rattle.record_flow.specs.Moves.{to_close, left_of}
 use Rattle.record_flow.proofs.Walking.{Since}
 use Rattle.record_flow.proofs.flow.Flow.close.Given as goal
 

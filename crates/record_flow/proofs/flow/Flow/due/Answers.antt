@@ -2,7 +2,7 @@
 use Rattle.std.proofs.Common.{refl, ◌∙◌}
 use Rattle.f66_tree.proofs.EditingLemmas.{records_stay}
 use Rattle.f66_tree.specs.Records.{due}
-use Rattle.record_tape.specs.Moves.{onward}
+use Rattle.record_flow.specs.Moves.{onward}
 use Rattle.record_flow.proofs.Walking.{since_begun, since_more_by, step_done_by, step_stopped}
 use Rattle.record_flow.proofs.flow.Flow.due.Goals as goal
 

@@ -1,7 +1,7 @@
 -- What came and went since the step began.
 use Rattle.std.proofs.Common.{◌≡◌}
 use Rattle.format_io.specs.Places.{hand_of}
-use Rattle.record_tape.specs.Moves.{onward, ahead}
+use Rattle.record_flow.specs.Moves.{onward, ahead}
 use Rattle.record_flow.proofs.Walking.{Since}
 use Rattle.record_flow.proofs.flow.Flow.due.Given as goal
 

@@ -3,11 +3,11 @@ use Rattle.std.proofs.Common.{◌≡◌, ◌<◌, subst, refl, Ok, Err, false, t
 use Rattle.std.specs.Prelude.{Some, None}
 use Rattle.f66_tree.specs.Turns.{last_turn}
 use Rattle.format_io.specs.Places.{hand_of}
-use Rattle.record_tape.specs.Moves.{to_close, left_of}
-use Rattle.record_tape.proofs.Ending.{over_is, unclosed_is}
+use Rattle.record_flow.specs.Moves.{to_close, left_of}
+use Rattle.record_flow.proofs.Ending.{over_is, unclosed_is}
 use Rattle.record_flow.specs.declared.flow.Stop.TheVariants.{Trapped}
 use Rattle.record_flow.specs.Flows.{State, files}
-use Rattle.record_flow.specs.Steps.{IsTurned}
+use Rattle.record_flow.specs.Steps.{LacksOnWalk, IsTurned}
 use Rattle.record_flow.proofs.Taking.{flows_nothing}
 use Rattle.record_flow.proofs.Turns.{end_stopped, end_on, end_nearer}
 use Rattle.record_flow.proofs.flow.Flow.last_turn.Goals as goal
@@ -17,7 +17,7 @@ returns-in-Err-clause-turn g c =
     let fs = c.args.plan.now in
     let new : State = record { intake = c.self.inside.intake; stand = c.finish.new.self } in
     subst (λ o. IsTurned g.S.Source.left g.K.Sink.puts g.S.Source.faults g.K.Sink.faults c.args.input.now c.args.input.now c.args.out.now c.args.out.now to_close fs o new (Err (Trapped c.in-Err.trap))) c.self.view_is (
-      flows_nothing g.S.Source.left g.K.Sink.puts g.met.K.Sink.nothing c.args.input.now c.args.out.now c.self.inside.intake,
+      flows_nothing g.S.Source.left g.K.Sink.puts (LacksOnWalk to_close fs c.self.inside.edit) g.met.K.Sink.nothing c.args.input.now c.args.out.now c.self.inside.intake,
       record { input = refl; out = refl },
       λ unread written m. unclosed_is (hand_of fs c.self.inside.edit) (files unread written) c.in-Err.trap c.in-Err.ensures.turn,
     )
@@ -30,7 +30,7 @@ returns-in-Ok-None-clause-turn g c =
     let new : State = record { intake = c.self.inside.intake; stand = c.finish.new.self } in
     let turned : last_turn h ≡ Ok (None, h1) = subst (λ t. last_turn h ≡ Ok (t, h1)) c.in-Ok-None.field-0-is c.in-Ok-None.ensures.turn in
     subst (λ o. IsTurned g.S.Source.left g.K.Sink.puts g.S.Source.faults g.K.Sink.faults c.args.input.now c.args.input.now c.args.out.now c.args.out.now to_close fs o new (Ok true)) c.self.view_is (
-      flows_nothing g.S.Source.left g.K.Sink.puts g.met.K.Sink.nothing c.args.input.now c.args.out.now c.self.inside.intake,
+      flows_nothing g.S.Source.left g.K.Sink.puts (LacksOnWalk to_close fs c.self.inside.edit) g.met.K.Sink.nothing c.args.input.now c.args.out.now c.self.inside.intake,
       record { input = refl; out = refl },
       λ unread written. over_is h h1 (files unread written) turned,
     )

@@ -5,7 +5,7 @@ use Rattle.f66_tree.specs.Fields.{NoField}
 use Rattle.f66_tree.specs.Turns.{is_over, started}
 use Rattle.f66_tree.specs.World.{Moves}
 use Rattle.record_flow.specs.Flows.{State}
-use Rattle.record_flow.specs.Steps.{IsOpened}
+use Rattle.record_flow.specs.Steps.{LacksFirst, IsOpened}
 use Rattle.record_flow.proofs.Taking.{reads_nothing}
 use Rattle.record_flow.proofs.Fetching.{opened_read}
 use Rattle.record_flow.proofs.flow.Flow.open.Goals as goal
@@ -26,4 +26,4 @@ returns-in-Writing-clause-step g c fs =
     let begun = c.start.ensures.hand fs ∙ ap (λ w. started w fs) is in
     subst (λ w. IsOpened g.S.Source.left g.S.Source.faults c.args.input.now c.args.input.now w fs c.args.self.now new (Ok tt)) (sym is)
     (subst (λ o. IsOpened g.S.Source.left g.S.Source.faults c.args.input.now c.args.input.now Writing fs o new (Ok tt)) c.self.view_is
-    ([], reads_nothing g.S.Source.left c.args.input.now c.self.inside.intake, refl, λ hand unread written. ap (λ h. Moves (record { unread = unread; written = written; hand = h })) (sym begun)))
+    ([], reads_nothing g.S.Source.left (LacksFirst Writing fs) c.args.input.now c.self.inside.intake, refl, λ hand unread written. ap (λ h. Moves (record { unread = unread; written = written; hand = h })) (sym begun)))

@@ -4,8 +4,8 @@ use mir.Val.{SFits}
 use Rattle.std.proofs.lemmas.Int.{to_z-of_z}
 use Rattle.ground.specs.declared.value.Value.TheVariants.{Int}
 use Rattle.f66_tree.specs.Records.{put}
-use Rattle.record_tape.specs.Reels.{content}
-use Rattle.record_tape.specs.Moves.{IsPut}
+use Rattle.record_flow.specs.Values.{content}
+use Rattle.record_flow.specs.Moves.{IsPut}
 use Rattle.record_flow.specs.Flows.{tape}
 use Rattle.record_flow.proofs.flow.Flow.put.Goals as goal
 

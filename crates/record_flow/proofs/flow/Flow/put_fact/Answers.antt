@@ -1,7 +1,7 @@
 -- A truth value that went out leaves the statement going.
 use Rattle.f66_tree.specs.Fields.{NoField}
 use Rattle.format_io.specs.Places.{hand_of}
-use Rattle.record_tape.proofs.Contents.{truth_out}
+use Rattle.record_flow.proofs.Contents.{truth_out}
 use Rattle.record_flow.proofs.flow.Flow.put_fact.Goals as goal
 
 pub returns-clause-going : goal.returns-clause-going

@@ -2,8 +2,8 @@
 use Rattle.std.proofs.Common.{◌∙◌, ap, subst, take}
 use Rattle.f66_tree.specs.Turns.{is_over}
 use Rattle.format_io.specs.Places.{hand_of}
-use Rattle.record_tape.specs.Letters.{SendsLetters}
-use Rattle.record_tape.proofs.Characters.{sends, puts_go}
+use Rattle.record_flow.specs.Letters.{SendsLetters}
+use Rattle.record_flow.proofs.Characters.{sends, puts_go}
 use Rattle.record_flow.specs.Flows.{files, tape}
 use Rattle.record_flow.proofs.flow.Flow.put_letters.Goals as goal
 

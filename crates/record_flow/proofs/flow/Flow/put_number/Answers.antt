@@ -8,7 +8,7 @@ use Rattle.f66_tree.specs.declared.editing.EditKind.TheVariants as edits
 use Rattle.format_io.specs.Places.{hand_of}
 use Rattle.format_io.specs.Answers.{due_of}
 use Rattle.record_flow.specs.Flows.{tape}
-use Rattle.record_tape.proofs.Contents.{whole_out, letter_out, whole_stays, put_broken}
+use Rattle.record_flow.proofs.Contents.{whole_out, letter_out, whole_stays, put_broken}
 use Rattle.record_flow.proofs.flow.Flow.put_number.Goals as goal
 
 pub returns-in_ok-put_int-in-Some-Whole-clause-going : goal.returns-in_ok-put_int-in-Some-Whole-clause-going

@@ -4,7 +4,7 @@ use Rattle.std.proofs.lemmas.Int.{to_z-of_z}
 use Rattle.ground.specs.Arithmetic.{IsInRange}
 use Rattle.f66_tree.specs.Fields.{NoField}
 use Rattle.format_io.specs.Places.{hand_of}
-use Rattle.record_tape.proofs.Contents.{whole_goes, whole_in_range, letter_goes, letter_in_range, truth_goes}
+use Rattle.record_flow.proofs.Contents.{whole_goes, whole_in_range, letter_goes, letter_in_range, truth_goes}
 use Rattle.record_flow.proofs.flow.Flow.take.Goals as goal
 
 pub returns-in_ok-n-in-Some-Whole-clause-going : goal.returns-in_ok-n-in-Some-Whole-clause-going

@@ -2,8 +2,8 @@
 use Rattle.std.proofs.Common.{◌∙◌, ap, subst}
 use Rattle.f66_tree.specs.Turns.{is_over}
 use Rattle.format_io.specs.Places.{hand_of}
-use Rattle.record_tape.specs.Letters.{GetsLetters}
-use Rattle.record_tape.proofs.Characters.{gets, takes_go}
+use Rattle.record_flow.specs.Letters.{GetsLetters}
+use Rattle.record_flow.proofs.Characters.{gets, takes_go}
 use Rattle.record_flow.specs.Flows.{files, tape}
 use Rattle.record_flow.proofs.flow.Flow.take_letters.Goals as goal
 

@@ -3,11 +3,11 @@ use Rattle.std.proofs.Common.{◌≡◌, ◌<◌, subst, refl, Ok, Err, false, t
 use Rattle.f66_tree.specs.declared.editing.Turn.TheVariants.{Ready, RecordDone}
 use Rattle.f66_tree.specs.Turns.{next_turn}
 use Rattle.format_io.specs.Places.{hand_of}
-use Rattle.record_tape.specs.Moves.{onward, ahead}
-use Rattle.record_tape.proofs.Turning.{ready_is, stopped_is, ready_goes, done_goes, change_goes}
+use Rattle.record_flow.specs.Moves.{onward, ahead}
+use Rattle.record_flow.proofs.Turning.{ready_is, stopped_is, ready_goes, done_goes, change_goes}
 use Rattle.record_flow.specs.declared.flow.Stop.TheVariants.{Trapped}
 use Rattle.record_flow.specs.Flows.{State, files}
-use Rattle.record_flow.specs.Steps.{IsTurned}
+use Rattle.record_flow.specs.Steps.{LacksOnWalk, IsTurned}
 use Rattle.record_flow.proofs.Taking.{flows_nothing}
 use Rattle.record_flow.proofs.Turns.{item_stopped, item_on, item_nearer}
 use Rattle.record_flow.proofs.flow.Flow.turn.Goals as goal
@@ -17,7 +17,7 @@ returns-in-Err-clause-turn g c =
     let fs = c.args.plan.now in
     let new : State = record { intake = c.self.inside.intake; stand = c.next_item.new.self } in
     subst (λ o. IsTurned g.S.Source.left g.K.Sink.puts g.S.Source.faults g.K.Sink.faults c.args.input.now c.args.input.now c.args.out.now c.args.out.now (onward c.args.kind) fs o new (Err (Trapped c.in-Err.trap))) c.self.view_is (
-      flows_nothing g.S.Source.left g.K.Sink.puts g.met.K.Sink.nothing c.args.input.now c.args.out.now c.self.inside.intake,
+      flows_nothing g.S.Source.left g.K.Sink.puts (LacksOnWalk (onward c.args.kind) fs c.self.inside.edit) g.met.K.Sink.nothing c.args.input.now c.args.out.now c.self.inside.intake,
       record { input = refl; out = refl },
       λ unread written m. stopped_is (hand_of fs c.self.inside.edit) c.args.kind (files unread written) c.in-Err.trap c.in-Err.ensures.turn,
     )
@@ -30,7 +30,7 @@ returns-in-Ok-Ready-clause-turn g c =
     let new : State = record { intake = c.self.inside.intake; stand = c.next_item.new.self } in
     let turned : next_turn h c.args.kind ≡ Ok (Ready c.in-Ok-Ready.field-0-0, h1) = subst (λ t. next_turn h c.args.kind ≡ Ok (t, h1)) c.in-Ok-Ready.field-0-is c.in-Ok-Ready.ensures.turn in
     subst (λ o. IsTurned g.S.Source.left g.K.Sink.puts g.S.Source.faults g.K.Sink.faults c.args.input.now c.args.input.now c.args.out.now c.args.out.now (onward c.args.kind) fs o new (Ok true)) c.self.view_is (
-      flows_nothing g.S.Source.left g.K.Sink.puts g.met.K.Sink.nothing c.args.input.now c.args.out.now c.self.inside.intake,
+      flows_nothing g.S.Source.left g.K.Sink.puts (LacksOnWalk (onward c.args.kind) fs c.self.inside.edit) g.met.K.Sink.nothing c.args.input.now c.args.out.now c.self.inside.intake,
       record { input = refl; out = refl },
       λ unread written. ready_is h h1 c.args.kind (files unread written) _ turned,
     )

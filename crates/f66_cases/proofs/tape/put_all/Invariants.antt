@@ -1,8 +1,0 @@
--- The statement writes, and is not over.
-use Rattle.std.proofs.Common.{◌≡◌, false}
-use Rattle.f66_tree.specs.declared.editing.Way.TheVariants.{Writing}
-use Rattle.f66_tree.specs.Turns.{is_over}
-use Rattle.f66_cases.proofs.tape.put_all.Given as goal
-
-abbrev pub invariant-loop-item : goal.invariant-loop-item
-invariant-loop-item l = (l.tape.stand.way ≡ Writing) × (is_over l.tape.stand.mark ≡ false)
