@@ -2,40 +2,68 @@
 #![tactic(auto)]
 
 use eft_top::{Status, eft};
-use ports::{FileLibrary, Sink, StreamSink, StreamSource};
+use ports::{FileLibrary, StreamSink, StreamSource};
+use std::io::{BufWriter, IsTerminal, Write};
 use std::process::ExitCode;
 use std::{env, io};
 
+// How many bytes of records go out at once where neither input nor output is a terminal, on which each goes out by itself.
+const BLOCK: usize = 65_536;
+
 fn main(rt: HostRuntime) -> ExitCode {
-    let mut diag = StreamSink::new(rt.stderr());
-    let words = match words(&rt) {
-        Ok(words) => words,
-        Err(error) if error.kind() == io::ErrorKind::OutOfMemory => {
-            let _ = diag.put(b"out of memory\n");
-            return ExitCode::from(Status::Memory.code());
-        }
-        // A word that isn't text fits no command.
-        Err(_) => Vec::new(rt.alloc()),
+    let mut told = Vec::new(rt.alloc());
+    let status = match run(&rt, &mut told) {
+        Ok(status) => status,
+        Err(_) => fixed(Status::Memory, b"out of memory\n", &mut told),
     };
-    let mut library = FileLibrary::new(&rt);
-    let mut input = StreamSource::new(rt.stdin());
-    let mut out = StreamSink::new(rt.stdout());
+    // The lines stand behind the records, also where both go to one place.
+    match rt.stderr().write_all(&told) {
+        Ok(()) => ExitCode::from(status.code()),
+        Err(_) => ExitCode::from(Status::OutputFault.code()),
+    }
+}
+
+// What the words ask for. Its records go to standard output, and the lines for standard error to a list; an error is want of memory.
+fn run(rt: &HostRuntime, told: &mut Vec<u8>) -> io::Result<Status> {
+    let words = words(rt)?;
+    let room = if rt.stdin().is_terminal() || rt.stdout().is_terminal() {
+        0
+    } else {
+        BLOCK
+    };
+    let mut records = BufWriter::with_capacity(rt.alloc(), room, rt.stdout())?;
     let status = eft(
         rt.alloc(),
         &words,
-        &mut library,
-        &mut input,
-        &mut out,
-        &mut diag,
+        &mut FileLibrary::new(rt),
+        &mut StreamSource::new(rt.stdin()),
+        &mut StreamSink::new(&mut records),
+        &mut StreamSink::new(&mut *told),
     );
-    ExitCode::from(status.code())
+    match records.flush() {
+        Ok(()) => Ok(status),
+        Err(_) => Ok(fixed(Status::OutputFault, b"output fault\n", told)),
+    }
 }
 
-// The words after the program's name.
+// A status with its line, in place of what was told.
+fn fixed(status: Status, line: &[u8], told: &mut Vec<u8>) -> Status {
+    told.clear();
+    let _ = told.extend_from_slice(line);
+    status
+}
+
+// The words after the program's name; none where one isn't text, since that fits no command.
 fn words(rt: &HostRuntime) -> io::Result<Vec<String>> {
     let mut words = Vec::new(rt.alloc());
-    for word in env::args(rt)?.skip(1) {
-        words.push(word)?;
+    match env::args(rt) {
+        Ok(all) => {
+            for word in all.skip(1) {
+                words.push(word)?;
+            }
+        }
+        Err(error) if error.kind() == io::ErrorKind::OutOfMemory => return Err(error),
+        Err(_) => {}
     }
     Ok(words)
 }
