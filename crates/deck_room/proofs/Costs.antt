@@ -5,9 +5,9 @@
 -- tokens, each of which pays for 500 bytes: a jump, a call without arguments, a name that is declared, the test of a case.
 use Rattle.std.specs.Prelude.{ℕ, ◌+◌, List, [], ◌∷◌, Option, Some, None}
 use Rattle.f66_tree.specs.Syntax.{Text, Header, MainUnit, SubUnit, FuncUnit, DataUnit, Formula, Int, Truth, Letter, Ref, Group, Pair, Formulas, NoFormula, AndFormula, Par, Declared, Area, Act, Goto, When, Invoke, Continue, Stop, Return, Typed, Dimension, Common, Line, Routine}
-use Rattle.rat_tree.specs.Syntax.{Command, Empty, Block, If, IfElse, While, For, Repeat, RepeatUntil, Do, Switch, Break, Next, Plain, Labelled, Commands, NoCommand, AndCommand, Clauses, NoClause, AndClause, RatRoutine}
-use Rattle.rat_tree.specs.Syntax as ratfor_tree
+use Rattle.rat_tree.specs.Syntax.{Command, Commands, Clauses, RatRoutine}
 use Rattle.rat_room.proofs.Weights.{total}
+use Rattle.rat_room.proofs.CodeWeights.{cases_weight, command_weight, commands_weight, clauses_weight}
 
 -- ---- statements of FORTRAN ----
 
@@ -77,45 +77,17 @@ unit_cost unit = header_cost unit.header + (total line_cost unit.lines + 10)
 
 -- ---- commands ----
 
-abbrev pub if_any : {A : Type 0} → (A → ℕ) → Option A → ℕ
-if_any f None = 0
-if_any f (Some x) = f x
-
--- a return, and the store of a function's value before it
-abbrev pub return_cost : Option Formula → ℕ
-return_cost None = 30
-return_cost (Some e) = 1490
-
 abbrev pub cases_cost : Formulas → ℕ
-cases_cost NoFormula = 0
-cases_cost (AndFormula e es) = 460 + worth e + cases_cost es
+cases_cost es = cases_weight act_cost es
 
-abbrev mutual
-  pub command_cost : Command → ℕ
-  command_cost (Empty p) = 0
-  command_cost (Block p ss) = commands_cost ss
-  command_cost (If p e c) = 1490 + command_cost c
-  command_cost (IfElse p e c d) = 1620 + (command_cost c + command_cost d)
-  command_cost (While p e c) = 1650 + command_cost c
-  command_cost (For p a e b c) = 1650 + (if_any act_cost a + (if_any act_cost b + command_cost c))
-  command_cost (Repeat p c) = 190 + command_cost c
-  command_cost (RepeatUntil p c e q) = 1550 + command_cost c
-  command_cost (Do p x a b d c) = 1520 + command_cost c
-  command_cost (Switch p e cs) = 1590 + clauses_cost cs
-  command_cost (Break p n) = 100
-  command_cost (Next p n) = 100
-  command_cost (ratfor_tree.Return p e) = return_cost e
-  command_cost (Plain l p a) = act_cost a
-  command_cost (Labelled l p c) = 30 + command_cost c
+abbrev pub command_cost : Command → ℕ
+command_cost c = command_weight act_cost c
 
-  pub commands_cost : Commands → ℕ
-  commands_cost NoCommand = 0
-  commands_cost (AndCommand c ss) = command_cost c + commands_cost ss
+abbrev pub commands_cost : Commands → ℕ
+commands_cost ss = commands_weight act_cost ss
 
-  -- of the tests of clauses, and of their statements
-  pub clauses_cost : Clauses → ℕ
-  clauses_cost NoClause = 0
-  clauses_cost (AndClause es fallback ss p cs) = 130 + (cases_cost es + (commands_cost ss + clauses_cost cs))
+abbrev pub clauses_cost : Clauses → ℕ
+clauses_cost cs = clauses_weight act_cost cs
 
 abbrev pub routine_cost : RatRoutine → ℕ
 routine_cost u = header_cost u.header + commands_cost u.body

@@ -17,20 +17,14 @@ use Rattle.rat_parse_values.specs.Values.{Val, program, tok}
 use Rattle.rat_parse_values.specs.Parts.{as_program}
 use Rattle.rat_parse.specs.Ratfor.{grammar}
 use Rattle.rat_room.proofs.Weights.{total}
-use Rattle.rat_room.proofs.TreeWeights.{Each, offered_by}
+use Rattle.rat_room.proofs.TreeWeights.{Each, offered_by, trees_hold}
 use Rattle.rat_room.proofs.PartWeights.{IsEven}
 use Rattle.rat_room.proofs.ProductionWeights.{keeps}
 use Rattle.deck_room.proofs.Costs.{routine_cost}
 use Rattle.deck_room.proofs.Payments.{paid, all_paid, pays}
 
-mutual
-  tree_even : (c : Tree Token Production) → IsEven (value_of grammar c)
-  tree_even (leaf t) = tt
-  tree_even (node p cs) = keeps p (values_of grammar cs []) (trees_even cs [] tt)
-
-  trees_even : (cs : Trees Token Production) (earlier : List Val) → Each IsEven earlier → Each IsEven (values_of grammar cs earlier)
-  trees_even none earlier e = e
-  trees_even (some c cs) earlier e = trees_even cs (value_of grammar c ∷ earlier) (tree_even c, e)
+all_even : (cs : Trees Token Production) → Each IsEven (values_of grammar cs [])
+all_even cs = trees_hold grammar IsEven (λ t. tt) keeps cs [] tt
 
 mutual
   tree_pays : (c : Tree Token Production) (x : Symbol ATerminal ANonterminal) (ts rest : List Token) → Derives grammar c x ts rest → paid x (value_of grammar c) + 500 * length rest ≤ 500 * length ts
@@ -40,7 +34,7 @@ mutual
   tree_pays (node p cs) x ts rest h =
       subst (λ y. paid y (value_of grammar (node p cs)) + 500 * length rest ≤ 500 * length ts) (sym h.1)
       (subst (λ n. paid (Nonterminal n) (value_of grammar (node p cs)) + 500 * length rest ≤ 500 * length ts) (offered_by grammar h.0 p ts h.2)
-      (omega (arith, pays p (values_of grammar cs []) (trees_even cs [] tt), trees_pay cs (symbols p) ts rest [] [] h.3)))
+      (omega (arith, pays p (values_of grammar cs []) (all_even cs), trees_pay cs (symbols p) ts rest [] [] h.3)))
 
   trees_pay : (cs : Trees Token Production) (xs : List (Symbol ATerminal ANonterminal)) (ts rest : List Token) (seen : List (Symbol ATerminal ANonterminal)) (earlier : List Val) → DerivesAll grammar cs xs ts rest →
       all_paid (piled (λ x. x) xs seen) (values_of grammar cs earlier) + 500 * length rest ≤ all_paid seen earlier + 500 * length ts
@@ -57,4 +51,4 @@ program_costs ts tree accepted =
     let found = (accepted.value (program tree)).1 refl in
     let parse : Parse grammar ts = found.0 in
     subst (λ v. total routine_cost (as_program v).routines ≤ 500 * length ts) found.1
-    (omega (arith, pays productions.Whole (values_of grammar parse.trees []) (trees_even parse.trees [] tt), trees_pay parse.trees (symbols productions.Whole) ts [] [] [] parse.derives))
+    (omega (arith, pays productions.Whole (values_of grammar parse.trees []) (all_even parse.trees), trees_pay parse.trees (symbols productions.Whole) ts [] [] [] parse.derives))

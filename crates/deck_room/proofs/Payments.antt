@@ -1,6 +1,6 @@
 -- What each production of Ratfor makes costs no more than its tokens pay for, each 500 bytes.
-use Rattle.std.proofs.Common.{◌≡◌, ◌≤◌, ℕ, ◌+◌, ◌*◌, arith, Bool, true, false, List, [], ◌∷◌, length, Option, Some, None, refl}
-use Rattle.std.specs.Prelude.{codes, if◌then◌else◌}
+use Rattle.std.proofs.Common.{◌≡◌, ◌≤◌, ℕ, ◌+◌, ◌*◌, arith, List, [], ◌∷◌, length, Option, Some, None, refl}
+use Rattle.std.specs.Prelude.{codes}
 use Rattle.ground.specs.declared.place.Place.{Place}
 use Rattle.grammar.specs.declared.language.Symbol.{Symbol}
 use Rattle.grammar.specs.declared.language.Symbol.TheVariants.{Terminal, Nonterminal}
@@ -9,6 +9,7 @@ use Rattle.f66_tree.specs.declared.expression.Operator.{Operator}
 use Rattle.f66_tree.specs.declared.declaration.TypeWord.{TypeWord}
 use Rattle.f66_tree.specs.Syntax.{Text, Header, FuncUnit, Formula, Pair, Plus, Minus, Read, Write, Par, Entries}
 use Rattle.f66_tree.specs.Views.{chained, listed}
+use Rattle.f66_tree.proofs.Tries.{if_both}
 use Rattle.rat_tree.specs.Syntax.{Command, Next, Break, Plain, Labelled, Commands, Clauses, NoClause, RatRoutine}
 use Rattle.rat_parse_table.specs.declared.table.Terminal.{Terminal as ATerminal}
 use Rattle.rat_parse_table.specs.declared.table.Nonterminal.{Nonterminal as ANonterminal}
@@ -25,11 +26,12 @@ use Rattle.rat_parse_expressions.specs.Phrases.{joined, signed, applied}
 use Rattle.rat_parse_plain.specs.Plain.{transfer}
 use Rattle.rat_parse_control.specs.Statements.{conditional, repetition, with_own_label, labelled_value, left, typed, typed_unit}
 use Rattle.rat_parse.specs.Build.{build}
-use Rattle.rat_room.proofs.Weights.{total}
+use Rattle.rat_room.proofs.Weights.{total, if_any}
 use Rattle.rat_room.proofs.TreeWeights.{Each}
 use Rattle.rat_room.proofs.NineParts.{part_at}
 use Rattle.rat_room.proofs.PartWeights.{IsEven}
-use Rattle.deck_room.proofs.Costs.{worth, call_cost, declared_worth, sizes_worth, block_worth, area_worth, act_cost, formals_cost, header_cost, if_any, return_cost, cases_cost, command_cost, commands_cost, clauses_cost, routine_cost}
+use Rattle.rat_room.proofs.CodeWeights.{guard_weight, return_weight}
+use Rattle.deck_room.proofs.Costs.{worth, call_cost, declared_worth, sizes_worth, block_worth, area_worth, act_cost, formals_cost, header_cost, cases_cost, command_cost, commands_cost, clauses_cost, routine_cost}
 
 -- ---- what a part costs ----
 
@@ -215,12 +217,8 @@ joined_worth f (j ∷ js) = omega (arith, joined_worth (Pair j.0 f j.1) js, wort
 joined_cost : (vs : List Val) → worth (joined (as_formula (at 1 vs)) (as_joins (at 0 vs))) ≤ worth (as_formula (at 1 vs)) + 500 * length (as_joins (at 0 vs))
 joined_cost vs = joined_worth (as_formula (at 1 vs)) (as_joins (at 0 vs))
 
-chosen_sign : (b : Bool) (f : Formula) → worth (if b then Minus f else Plus f) ≡ 1000
-chosen_sign true f = refl
-chosen_sign false f = refl
-
 signed_worth : (v : Val) (f : Formula) → worth (signed v f) ≡ 1000
-signed_worth v f = chosen_sign (is_minus (sign_in v)) f
+signed_worth v f = if_both (λ g. worth g ≡ 1000) (is_minus (sign_in v)) (Minus f) (Plus f) refl refl
 
 applied_worth : (x : Text) (v : Val) → worth (applied x v) ≤ 500 + if_listed v
 applied_worth x (val.expression (part.formulas fs)) = omega arith
@@ -244,6 +242,10 @@ given_most : (e : Option Formula) → if_given e ≤ 1500
 given_most None = omega arith
 given_most (Some e) = omega arith
 
+guard_most : (e : Option Formula) → if_any (guard_weight act_cost) e ≤ 1460
+guard_most None = omega arith
+guard_most (Some e) = omega arith
+
 block_most : (x : Option Text) → block_worth x ≤ 500
 block_most None = omega arith
 block_most (Some x) = omega arith
@@ -256,16 +258,12 @@ formals_costs : (xs : List Text) → formals_cost xs ≤ 1000 + if_some xs 1000
 formals_costs [] = omega arith
 formals_costs (x ∷ xs) = omega arith
 
-return_costs : (e : Option Formula) → return_cost e ≤ 500 + if_given e
+return_costs : (e : Option Formula) → return_weight act_cost e ≤ 500 + if_given e
 return_costs None = omega arith
 return_costs (Some e) = omega arith
 
-chosen_transfer : (b : Bool) (u : Par) (n : ℕ) (es : Entries) → act_cost (if b then Read u n es else Write u n es) ≡ 1460
-chosen_transfer true u n es = refl
-chosen_transfer false u n es = refl
-
 transfer_cost : (v : Val) (u : Par) (n : ℕ) (es : Entries) → act_cost (transfer v u n es) ≡ 1460
-transfer_cost v u n es = chosen_transfer (is_word (codes "READ") v) u n es
+transfer_cost v u n es = if_both (λ a. act_cost a ≡ 1460) (is_word (codes "READ") v) (Read u n es) (Write u n es) refl refl
 
 conditional_cost : (p : Place) (f : Formula) (c : Command) (v : Val) → command_cost (conditional p f c v) ≤ 1620 + (command_cost c + cost v)
 conditional_cost p f c (val.statement (part.command q d)) = omega arith
@@ -285,12 +283,8 @@ labelled_cost : (n : ℕ) (v : Val) → cost (labelled_value n v) ≤ 30 + cost 
 labelled_cost n (val.statement (part.command p c)) = marked_cost n p c
 labelled_cost n _ = omega arith
 
-chosen_leaving : (b : Bool) (p : Place) (n : ℕ) → command_cost (if b then Next p n else Break p n) ≡ 100
-chosen_leaving true p n = refl
-chosen_leaving false p n = refl
-
 left_cost : (v : Val) (p : Place) (n : ℕ) → command_cost (left v p n) ≡ 100
-left_cost v p n = chosen_leaving (is_word (codes "NEXT") v) p n
+left_cost v p n = if_both (λ c. command_cost c ≡ 100) (is_word (codes "NEXT") v) (Next p n) (Break p n) refl refl
 
 typed_cost : (t : TypeWord) (h : Header) → header_cost (typed t h) ≡ header_cost h
 typed_cost t (FuncUnit o x xs) = refl
@@ -318,7 +312,7 @@ pays productions.TypedBare vs e = omega (arith, declareds_cost (at 1 vs))
 pays productions.Braces vs e = omega (arith, statements_cost (at 1 vs))
 pays productions.IfStatement vs e = omega (arith, conditional_cost (place_in (at 3 vs)) (as_formula (at 2 vs)) (as_command (at 1 vs)) (at 0 vs), command_costs (at 1 vs))
 pays productions.WhileStatement vs e = omega (arith, command_costs (at 0 vs))
-pays productions.ForStatement vs e = omega (arith, command_costs (at 0 vs))
+pays productions.ForStatement vs e = omega (arith, guard_most (formula_part (at 4 vs)), command_costs (at 0 vs))
 pays productions.RepeatStatement vs e = omega (arith, repetition_cost (place_in (at 2 vs)) (as_command (at 1 vs)) (at 0 vs), command_costs (at 1 vs))
 pays productions.DoStatement vs e = omega (arith, command_costs (at 0 vs))
 pays productions.SwitchStatement vs e = omega (arith, clauses_costs (at 1 vs))

@@ -1,10 +1,11 @@
--- The bodies of an accepted program are small, so they have few labels and need few temporaries.
+-- The bodies of an accepted program are small, so they have few labels.
 use Rattle.std.proofs.Common.{◌≤◌, ℕ, zero, suc, arith, List, [], ◌∷◌, Option, Some, None}
 use Rattle.std.specs.Prelude.{⊤}
 use Rattle.std.specs.List.{slice_get}
 use Rattle.ground.specs.declared.token.Token.{Token}
 use Rattle.efl_tree.specs.Syntax.{EflProcedure, EflProgram}
 use Rattle.efl_typed.specs.Typing.{context_of, body_if, bodies_of}
+use Rattle.efl_lowered.specs.Lowering.{routes_of}
 use Rattle.efl_lowered.specs.Naming.{Naming}
 use Rattle.efl_naming.specs.Choice.{naming_of}
 use Rattle.efl_parse_table.specs.Limits.{meter}
@@ -13,10 +14,10 @@ use Rattle.efl_parse.specs.Efl.{grammar}
 use Rattle.grammar.specs.Limits.{IsAccepted}
 use Rattle.rat_room.proofs.TreeWeights.{Each}
 use Rattle.efl_limits.specs.Sizes.{stmts_size}
-use Rattle.efl_limits.specs.Laws.{ParsedHasFewLabels, ParsedNeedsFew}
-use Rattle.efl_limits.proofs.Needs as needs
+use Rattle.efl_limits.specs.Laws.{ParsedHasFewLabels}
 use Rattle.efl_limits.proofs.SourceLabels.{stmts_labels}
-use Rattle.efl_limits.proofs.StatementLabels as made
+use Rattle.efl_limits.proofs.RouteBytes.{label_bytes}
+use Rattle.efl_limits.proofs.StatementBytes as body
 use Rattle.efl_limits.proofs.ProcedureSizes.{IsFew, procedures_few}
 
 abbrev pub IfSome : {A : Type 0} → (A → Type 0) → Option A → Type 0
@@ -39,7 +40,10 @@ module _ (ts : List Token) (tree : EflProgram) (accepted : IsAccepted grammar me
 pub parsed_has_few_labels : ParsedHasFewLabels
 parsed_has_few_labels ts tree accepted n unit =
     let names : Naming = naming_of tree in
-    omega (arith, body_small ts tree accepted n, stmts_labels (bodies_of tree n), made.stmts_few names.home names.temp names.callee (names.label n) (names.callee n) (bodies_of tree n) [] 0)
-
-pub parsed_needs_few : ParsedNeedsFew
-parsed_needs_few ts tree accepted n = omega (arith, body_small ts tree accepted n, needs.stmts_few (bodies_of tree n) 0)
+    omega (
+      arith,
+      body_small ts tree accepted n,
+      stmts_labels (bodies_of tree n),
+      label_bytes (routes_of names tree n),
+      body.stmts_few names.home names.temp names.callee (names.label n) (names.callee n) (bodies_of tree n) [] 0,
+    )

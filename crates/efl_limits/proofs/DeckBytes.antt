@@ -21,11 +21,11 @@ use Rattle.efl_limits.proofs.UnitBytes.{unit_few}
 
 -- so many bytes at most, where the body is as large as it is in some context and some names are declared
 abbrev IsShort : (ℕ → EflProcedure → Routine) → (ℕ → ℕ) → (ℕ → EflProcedure → Context) → ℕ → EflProcedure → Type 0
-IsShort unit names at n u = unit_bytes (unit n u) ≤ 297 + (15 * length u.formals + (16 * names n + 537 * stmts_size (stmts_from 0 (at n u) u.body)))
+IsShort unit names at n u = unit_bytes (unit n u) ≤ 297 + (15 * length u.formals + (16 * names n + 539 * stmts_size (stmts_from 0 (at n u) u.body)))
 
 all_short : (unit : ℕ → EflProcedure → Routine) (names : ℕ → ℕ) (at : ℕ → EflProcedure → Context) {a b : Tokens} {us : List EflProcedure} (i : ℕ) → Several Procedure a b us →
     ((n : ℕ) (u : EflProcedure) → slice_get us n ≡ Some u → IsShort unit names at (i + n) u) →
-    most_bytes (map (λ x. unit x.0 x.1) (enumerate_from i us)) + 537 * length b ≤ 537 * length a + 16 * sum_by names (range_with_len i (length us))
+    most_bytes (map (λ x. unit x.0 x.1) (enumerate_from i us)) + 539 * length b ≤ 539 * length a + 16 * sum_by names (range_with_len i (length us))
 all_short unit names at i Several.none h = omega arith
 all_short unit names at {us = u ∷ us} i (Several.more q rest) h =
     let none : i + 0 ≡ i = omega arith in
@@ -37,12 +37,12 @@ module _ (tree : EflProgram) where
   unit_short : (n : ℕ) (u : EflProcedure) → slice_get tree.procedures n ≡ Some u → IsShort (unit_of (naming_of tree) tree) (names_at tree) (context_of tree) n u
   unit_short n u e =
       let same : bodies_of tree n ≡ stmts_from 0 (context_of tree n u) u.body = ap (λ o. body_if tree n o) e in
-      subst (λ ss. unit_bytes (unit_of (naming_of tree) tree n u) ≤ 297 + (15 * length u.formals + (16 * names_at tree n + 537 * stmts_size ss))) same (unit_few (naming_of tree) tree n u (omega arith))
+      subst (λ ss. unit_bytes (unit_of (naming_of tree) tree n u) ≤ 297 + (15 * length u.formals + (16 * names_at tree n + 539 * stmts_size ss))) same (unit_few (naming_of tree) tree n u (omega arith))
 
   from_first : (n : ℕ) (u : EflProcedure) → slice_get tree.procedures n ≡ Some u → IsShort (unit_of (naming_of tree) tree) (names_at tree) (context_of tree) (0 + n) u
   from_first n u e = (let none : n ≡ 0 + n = omega arith in subst (λ m. IsShort (unit_of (naming_of tree) tree) (names_at tree) (context_of tree) m u) none (unit_short n u e))
 
-deck_short : (ts : Tokens) (tree : EflProgram) → Program ts tree → most_bytes (units_of (naming_of tree) tree) ≤ 537 * length ts + 16 * sum_by (names_at tree) (range_with_len 0 (length tree.procedures))
+deck_short : (ts : Tokens) (tree : EflProgram) → Program ts tree → most_bytes (units_of (naming_of tree) tree) ≤ 539 * length ts + 16 * sum_by (names_at tree) (range_with_len 0 (length tree.procedures))
 deck_short ts tree (p.program us l last) = (let all = all_short (unit_of (naming_of tree) tree) (names_at tree) (context_of tree) 0 us (from_first tree) in omega (arith, all))
 
 pub grammar_is_short : GrammarIsShort

@@ -1,4 +1,4 @@
--- The statements of an expression have at most 505 bytes for each unit of its size, less 90.
+-- The statements of an expression have at most 507 bytes for each unit of its size, less 90.
 use Rattle.std.proofs.Common.{◌≡◌, ◌≤◌, ℕ, zero, suc, ◌+◌, ◌*◌, arith, Some, None, refl}
 use Rattle.ground.specs.declared.place.Place.{Place}
 use Rattle.ground.specs.declared.value.Kind.{Kind}
@@ -33,7 +33,7 @@ or_one_many (AndFormula e es) = omega arith
 -- ---- operators ----
 
 combined_bytes : (p : Place) (op : Op) (left : Formula) (right : Routes → Routes) (e t : Formula) (rest : Routes) (k : ℕ) → act_bytes (f66.Assign t left) ≡ 60 → act_bytes (f66.Assign t e) ≡ 60 →
-    ((r : Routes) → all_bytes (right r) ≤ k + all_bytes r) → all_bytes (combined p op left right e t rest) ≤ k + 240 + all_bytes rest
+    ((r : Routes) → all_bytes (right r) ≤ k + all_bytes r) → all_bytes (combined p op left right e t rest) ≤ k + 349 + all_bytes rest
 combined_bytes p (Plain op) left right e t rest k one two h = omega (arith, h (AndRoute (sets p t (f66.Pair op left e)) rest))
 combined_bytes p AndThen left right e t rest k one two h = omega (arith, one, two, h (only (sets p t e)))
 combined_bytes p OrElse left right e t rest k one two h = omega (arith, one, two, h (only (sets p t e)))
@@ -65,7 +65,7 @@ module _ (home : ℕ → Text) (temp : Kind → ℕ → Text) (callee : ℕ → 
   many_actuals (AndExpr e es) n = omega (arith, many_actuals es (n + made e))
 
   mutual
-    pub expr_bytes : (p : Place) (e : Expr) (n : ℕ) (rest : Routes) → all_bytes (routes home temp callee p e n rest) + 90 ≤ 505 * size e + all_bytes rest
+    pub expr_bytes : (p : Place) (e : Expr) (n : ℕ) (rest : Routes) → all_bytes (routes home temp callee p e n rest) + 90 ≤ 507 * size e + all_bytes rest
     expr_bytes p (Int z) n rest = omega arith
     expr_bytes p (Truth b) n rest = omega arith
     expr_bytes p (At x) n rest = omega arith
@@ -89,20 +89,20 @@ module _ (home : ℕ → Text) (temp : Kind → ℕ → Text) (callee : ℕ → 
         omega (
           arith,
           expr_bytes p a n (combined p op (value a n) right (value b (n + made a)) t rest),
-          combined_bytes p op (value a n) right (value b (n + made a)) t rest (505 * size b) (set_bytes t a n) (set_bytes t b (n + made a)) (λ r. omega (arith, expr_bytes p b (n + made a) r)),
+          combined_bytes p op (value a n) right (value b (n + made a)) t rest (507 * size b) (set_bytes t a n) (set_bytes t b (n + made a)) (λ r. omega (arith, expr_bytes p b (n + made a) r)),
         )
     expr_bytes p (Assign None x e) n rest = omega (arith, expr_bytes p e n (AndRoute (sets p (site_formula home temp callee x) (value e n)) rest), set_bytes (site_formula home temp callee x) e n)
     expr_bytes p (Assign (Some op) x e) n rest =
         let t = made_up home temp callee (kind_by op) (n + 1 + made e) in
         let left = made_up home temp callee (kind_of (sort_of x)) n in
         let last = AndRoute (sets p (site_formula home temp callee x) t) rest in
-        omega (arith, combined_bytes p op left (λ r. routes home temp callee p e (n + 1) r) (value e (n + 1)) t last (505 * size e) refl (set_bytes t e (n + 1)) (λ r. omega (arith, expr_bytes p e (n + 1) r)))
+        omega (arith, combined_bytes p op left (λ r. routes home temp callee p e (n + 1) r) (value e (n + 1)) t last (507 * size e) refl (set_bytes t e (n + 1)) (λ r. omega (arith, expr_bytes p e (n + 1) r)))
 
-    pub exprs_bytes : (p : Place) (es : Exprs) (n : ℕ) (rest : Routes) → all_bytes (all_routes home temp callee p es n rest) + 90 * count es ≤ 505 * sizes es + all_bytes rest
+    pub exprs_bytes : (p : Place) (es : Exprs) (n : ℕ) (rest : Routes) → all_bytes (all_routes home temp callee p es n rest) + 90 * count es ≤ 507 * sizes es + all_bytes rest
     exprs_bytes p NoExpr n rest = omega arith
     exprs_bytes p (AndExpr e es) n rest = omega (arith, expr_bytes p e n (all_routes home temp callee p es (n + made e) rest), exprs_bytes p es (n + made e) rest)
 
-    pub actuals_bytes : (p : Place) (es : Exprs) (n : ℕ) (rest : Routes) → all_bytes (actual_routes home temp callee p es n rest) + 90 * count es ≤ 505 * sizes es + all_bytes rest
+    pub actuals_bytes : (p : Place) (es : Exprs) (n : ℕ) (rest : Routes) → all_bytes (actual_routes home temp callee p es n rest) + 90 * count es ≤ 507 * sizes es + all_bytes rest
     actuals_bytes p NoExpr n rest = omega arith
     actuals_bytes p (AndExpr (At x) es) n rest = omega (arith, actuals_bytes p es n rest)
     actuals_bytes p (AndExpr e es) n rest = omega (arith, expr_bytes p e n (actual_routes home temp callee p es (n + made e) rest), actuals_bytes p es (n + made e) rest)

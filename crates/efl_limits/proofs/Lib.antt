@@ -1,8 +1,6 @@
 -- The lemmas of efl_limits.
 pub mod Needs
 pub mod SourceLabels
-pub mod ExpressionLabels
-pub mod StatementLabels
 pub mod Tokens
 pub mod ExpressionTokens
 pub mod DeclarationTokens

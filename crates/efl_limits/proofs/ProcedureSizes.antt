@@ -1,13 +1,11 @@
 -- The body of a procedure whose text passes no limit is no larger than 20,000, in whatever context.
-use Rattle.std.proofs.Common.{◌≡◌, ◌≤◌, ℕ, ◌+◌, arith, List, [], ◌∷◌, length, Option, None, refl, sym, ap, subst}
+use Rattle.std.proofs.Common.{◌≡◌, ◌≤◌, ℕ, ◌+◌, arith, List, [], ◌∷◌, length, Option, None, refl, sym, subst}
 use Rattle.ground.specs.declared.token.Token.{Token}
-use Rattle.grammar.specs.declared.language.Symbol.{Symbol}
 use Rattle.grammar.specs.declared.language.Symbol.TheVariants.{Nonterminal}
 use Rattle.grammar.specs.declared.language.Event.TheVariants.{Open}
-use Rattle.grammar.specs.Grammar.{Tree, Trees, leaf, node, none, some, Offers, Derives, DerivesAll, values_of}
+use Rattle.grammar.specs.Grammar.{Trees, node, Offers, DerivesAll, values_of}
 use Rattle.grammar.specs.Limits.{history_all, first_passing, IsAccepted}
 use Rattle.efl_tree.specs.Syntax.{Text, EflType, EflProcedure, EflProgram}
-use Rattle.efl_parse_table.specs.declared.table.Terminal.{Terminal as ATerminal}
 use Rattle.efl_parse_table.specs.declared.table.Nonterminal.{Nonterminal as ANonterminal}
 use Rattle.efl_parse_table.specs.declared.table.Nonterminal.TheVariants as nonterminals
 use Rattle.efl_parse_table.specs.declared.table.Production.{Production}
@@ -27,7 +25,7 @@ use Rattle.efl_grammar.specs.Laws.{Found}
 use Rattle.efl_grammar.proofs.ProcedureRead.{procedure_read}
 use Rattle.efl_typed.specs.Typing.{Context, context_in, stmts_from}
 use Rattle.efl_types.specs.Signatures.{result_of}
-use Rattle.rat_room.proofs.TreeWeights.{tokens, tokens_all, Each, offered_by}
+use Rattle.rat_room.proofs.TreeWeights.{trees_take, Each, offered_by}
 use Rattle.efl_limits.specs.Sizes.{stmts_size}
 use Rattle.efl_limits.proofs.Tokens.{Before, one, word, name, lines, stop, each_listed, perhaps, several}
 use Rattle.efl_limits.proofs.DeclarationTokens.{type_taken, outer}
@@ -63,17 +61,6 @@ nowhere = context_in [] [] (record { blocks = []; implied = []; units = []; resu
 pub two_tokens : {a b : Tokens} {u : EflProcedure} → Procedure a b u → Before 2 a b
 two_tokens q = omega (arith, procedure_size q 0 nowhere)
 
--- ---- a tree takes its tokens off the front ----
-
-mutual
-  tree_takes : (c : Tree Token Production) (x : Symbol ATerminal ANonterminal) (ts rest : List Token) → Derives grammar c x ts rest → length ts ≡ tokens c + length rest
-  tree_takes (leaf t) x ts rest h = (let e = ap (λ us. length us) h.1 in omega (arith, e))
-  tree_takes (node q cs) x ts rest h = trees_take cs (symbols q) ts rest h.3
-
-  pub trees_take : (cs : Trees Token Production) (xs : List (Symbol ATerminal ANonterminal)) (ts rest : List Token) → DerivesAll grammar cs xs ts rest → length ts ≡ tokens_all cs + length rest
-  trees_take none xs ts rest h = (let e = ap (λ us. length us) h.1 in omega (arith, e))
-  trees_take (some c cs) xs ts rest h = omega (arith, tree_takes c h.0 ts h.2 h.4, trees_take cs h.1 h.2 rest h.5)
-
 -- ---- procedures ----
 
 abbrev pub IsFew : EflProcedure → Type 0
@@ -91,7 +78,7 @@ few_text cs ts rest past h quiet n offers =
     let same = offered_by grammar n productions.OneProcedure ts offers in
     let here : Offers grammar nonterminals.ProcedureText productions.OneProcedure ts = subst (λ m. Offers grammar m productions.OneProcedure ts) (sym same) offers in
     let read = procedure_read ts rest _ (found cs ts rest h here) in
-    λ i c. omega (arith, procedure_size read i c, trees_take cs (symbols productions.OneProcedure) ts rest h, procedure_few cs ts rest past h quiet)
+    λ i c. omega (arith, procedure_size read i c, trees_take grammar cs (symbols productions.OneProcedure) ts rest h, procedure_few cs ts rest past h quiet)
 
 -- those of an accepted text
 pub procedures_few : (ts : List Token) (tree : EflProgram) → IsAccepted grammar meter ts (program tree) → Each IsFew tree.procedures

@@ -16,7 +16,8 @@ use Rattle.efl_limits.proofs.PartTokens.{counted, procedures}
 use Rattle.efl_limits.proofs.Tokens.{one, lines}
 use Rattle.efl_limits.proofs.Storage.{variables_few}
 use Rattle.efl_limits.proofs.ProcedureSizes.{two_tokens}
-use Rattle.efl_limits.proofs.Bodies.{parsed_needs_few}
+use Rattle.efl_limits.proofs.Bodies.{body_small}
+use Rattle.efl_limits.proofs.Needs.{stmts_few}
 
 -- the names of a program are no more than half of its tokens
 pub program_counts : (ts : Tokens) (tree : EflProgram) → Program ts tree → 2 * counted (program_parts tree) + length tree.procedures ≤ length ts
@@ -50,7 +51,7 @@ three a b c f g h = cc
 pub parsed_is_small : ParsedIsSmall
 parsed_is_small ts tree few is accepted =
     let counts = program_counts ts tree is in
-    let needs = parsed_needs_few ts tree accepted in
+    let needs : (n : ℕ) → all_need (bodies_of tree n) 0 ≤ 20000 = λ n. omega (arith, body_small ts tree accepted n, stmts_few (bodies_of tree n) 0) in
     three _ _ _ (at_most (length (program_variables tree)) 100000 (omega (arith, counts, variables_few tree, few)))
     (at_most (length tree.procedures) 100000 (procedures_at_most ts tree is few))
     (all_pass (λ n. nat_lt (all_need (bodies_of tree n) 0) 50000) (λ n. below (all_need (bodies_of tree n) 0) (needs n)) (range_with_len 0 (length tree.procedures)))

@@ -1,4 +1,4 @@
--- The statements of a body have at most 505 bytes for each unit of its size.
+-- The statements of a body have at most 507 bytes for each unit of its size, which also stand for three labels that are made.
 use Rattle.std.proofs.Common.{◌≡◌, ◌≤◌, ℕ, ◌+◌, ◌*◌, arith, ℤ, pos, refl, true, false, List, [], ◌∷◌, length, Option, Some, None}
 use Rattle.ground.specs.declared.place.Place.{Place}
 use Rattle.ground.specs.declared.value.Kind.{Kind}
@@ -21,14 +21,14 @@ use Rattle.efl_limits.proofs.RouteBytes.{route_bytes, all_bytes}
 abbrev chosen : Clauses → ℕ
 chosen NoClause = 0
 chosen (AndClause [] fallback ss p cs) = chosen cs
-chosen (AndClause (z ∷ zs) fallback ss p cs) = 300 + (60 * length (z ∷ zs) + (505 * stmts_size ss + chosen cs))
+chosen (AndClause (z ∷ zs) fallback ss p cs) = 627 + (60 * length (z ∷ zs) + (507 * stmts_size ss + chosen cs))
 
 abbrev fallen : Clauses → ℕ
 fallen NoClause = 0
-fallen (AndClause zs true ss p cs) = 505 * stmts_size ss
+fallen (AndClause zs true ss p cs) = 507 * stmts_size ss
 fallen (AndClause zs false ss p cs) = fallen cs
 
-both_bytes : (cs : Clauses) → chosen cs + fallen cs ≤ 505 * clauses_size cs
+both_bytes : (cs : Clauses) → chosen cs + fallen cs ≤ 507 * clauses_size cs
 both_bytes NoClause = omega arith
 both_bytes (AndClause [] true ss p cs) = omega (arith, both_bytes cs)
 both_bytes (AndClause [] false ss p cs) = omega (arith, both_bytes cs)
@@ -41,30 +41,30 @@ module _ (home : ℕ → Text) (temp : Kind → ℕ → Text) (callee : ℕ → 
 
   -- ---- parts of statements ----
 
-  act_few : (p : Place) (a : Action) (n : ℕ) (rest : Routes) → all_bytes (act_routes home temp callee label own p a n rest) ≤ 505 * act_size a + all_bytes rest
+  act_few : (p : Place) (a : Action) (n : ℕ) (rest : Routes) → all_bytes (act_routes home temp callee label own p a n rest) ≤ 507 * act_size a + all_bytes rest
   act_few p (Evaluate e) n rest = omega (arith, expr_bytes home temp callee p e n rest)
   act_few p (Invoke v es) n rest =
       omega (arith, actuals_bytes home temp callee p es n (AndRoute (Plain p (f66.Invoke (callee v) (actuals home temp callee es n))) rest), many_actuals home temp callee es n)
 
-  any_few : (p : Place) (o : Option Action) (n : ℕ) (rest : Routes) → all_bytes (if_any home temp callee label own p o n rest) ≤ 505 * act_size_if o + all_bytes rest
+  any_few : (p : Place) (o : Option Action) (n : ℕ) (rest : Routes) → all_bytes (if_any home temp callee label own p o n rest) ≤ 507 * act_size_if o + all_bytes rest
   any_few p None n rest = omega arith
   any_few p (Some a) n rest = act_few p a n rest
 
   -- 60 bytes more are left for what tests an expression
-  test_few : (p : Place) (e : Expr) (n : ℕ) (r : Route) (rest : Routes) → route_bytes r ≡ 60 → all_bytes (routes home temp callee p e n (AndRoute r rest)) ≤ 505 * size e + all_bytes rest
+  test_few : (p : Place) (e : Expr) (n : ℕ) (r : Route) (rest : Routes) → route_bytes r ≡ 60 → all_bytes (routes home temp callee p e n (AndRoute r rest)) ≤ 507 * size e + all_bytes rest
   test_few p e n r rest same = omega (arith, same, expr_bytes home temp callee p e n (AndRoute r rest))
 
-  unless_few : (p : Place) (o : Option Expr) (n : ℕ) (rest : Routes) → all_bytes (unless_any home temp callee label own p o n rest) ≤ 505 * size_if o + all_bytes rest
+  unless_few : (p : Place) (o : Option Expr) (n : ℕ) (rest : Routes) → all_bytes (unless_any home temp callee label own p o n rest) ≤ 507 * size_if o + all_bytes rest
   unless_few p None n rest = omega arith
   unless_few p (Some e) n rest = test_few p e n (BreakIf p (f66.Not (value e n)) 0) rest refl
 
-  first_few : (p : Place) (o : Option Expr) (n : ℕ) (rest : Routes) → all_bytes (first_if_any home temp callee label own p o n rest) ≤ 505 * size_if o + all_bytes rest
+  first_few : (p : Place) (o : Option Expr) (n : ℕ) (rest : Routes) → all_bytes (first_if_any home temp callee label own p o n rest) ≤ 507 * size_if o + all_bytes rest
   first_few p None n rest = omega arith
   first_few p (Some e) n rest = omega (arith, expr_bytes home temp callee p e n rest)
 
   -- each value is put into a temporary, and written
   items_few : (p : Place) (items : List WriteItem) (n : ℕ) (rest : Routes) →
-      all_bytes (item_routes home temp callee label own p items n rest) + 15 * entries_of (entries home temp callee label own items n) ≤ 505 * items_size items + all_bytes rest
+      all_bytes (item_routes home temp callee label own p items n rest) + 15 * entries_of (entries home temp callee label own items n) ≤ 507 * items_size items + all_bytes rest
   items_few p [] n rest = omega arith
   items_few p (Value e d ∷ items) n rest =
       let t = f66.Ref (temp (kind_by d) (n + made e)) in
@@ -73,7 +73,7 @@ module _ (home : ℕ → Text) (temp : Kind → ℕ → Text) (callee : ℕ → 
   items_few p (Skip i ∷ items) n rest = items_few p items n rest
   items_few p (Chars t ∷ items) n rest = items_few p items n rest
 
-  store_few : (p : Place) (items : List ReadItem) (n : ℕ) → all_bytes (store_routes home temp callee label own p items n) + 15 * entries_of (read_entries home temp callee label own items n) ≤ 505 * taken_size items
+  store_few : (p : Place) (items : List ReadItem) (n : ℕ) → all_bytes (store_routes home temp callee label own p items n) + 15 * entries_of (read_entries home temp callee label own items n) ≤ 507 * taken_size items
   store_few p [] n = omega arith
   store_few p (Take x d ∷ items) n = omega (arith, store_few p items (n + 1))
   store_few p (Pass i ∷ items) n = store_few p items n
@@ -85,7 +85,7 @@ module _ (home : ℕ → Text) (temp : Kind → ℕ → Text) (callee : ℕ → 
   -- ---- statements ----
 
   mutual
-    stmt_few : (s : Stmt) (rs : List Around) (n : ℕ) → route_bytes (route home temp callee label own s rs n) ≤ 505 * stmt_size s
+    stmt_few : (s : Stmt) (rs : List Around) (n : ℕ) → route_bytes (route home temp callee label own s rs n) ≤ 507 * stmt_size s
     stmt_few (Empty p) rs n = omega arith
     stmt_few (efl.Block p ss) rs n = stmts_few ss rs n
     stmt_few (Act p a) rs n = omega (arith, act_few p a n NoRoute)
@@ -154,7 +154,7 @@ module _ (home : ℕ → Text) (temp : Kind → ℕ → Text) (callee : ℕ → 
         omega (arith, first_few p u n last, store_few p items m)
     stmt_few (efl.Labelled l p s) rs n = omega (arith, stmt_few s rs n)
 
-    pub stmts_few : (ss : Stmts) (rs : List Around) (n : ℕ) → all_bytes (all_route home temp callee label own ss rs n) ≤ 505 * stmts_size ss
+    pub stmts_few : (ss : Stmts) (rs : List Around) (n : ℕ) → all_bytes (all_route home temp callee label own ss rs n) ≤ 507 * stmts_size ss
     stmts_few NoStmt rs n = omega arith
     stmts_few (AndStmt s ss) rs n = omega (arith, stmt_few s rs n, stmts_few ss rs n)
 

@@ -102,7 +102,7 @@ module _ (names : Naming) (p : EflProgram) (n : ℕ) (u : EflProcedure) where
       by_main true = omega arith
       by_main false = by_result (result_of u.result)
 
-  pub unit_few : names.room n ≤ all_need (bodies_of p n) 0 → unit_bytes (unit_of names p n u) ≤ 297 + (15 * length u.formals + (16 * names_at p n + 537 * stmts_size (bodies_of p n)))
+  pub unit_few : names.room n ≤ all_need (bodies_of p n) 0 → unit_bytes (unit_of names p n u) ≤ 297 + (15 * length u.formals + (16 * names_at p n + 539 * stmts_size (bodies_of p n)))
   unit_few room =
       let last : List Line = ending (is_none u.name) u.finish in
       let code : List Line = all_code (names.made n) (routes_of names p n) 0 [] last in

@@ -1,11 +1,9 @@
 -- The laws of what the limits of EFL's parser bound.
-use Rattle.std.specs.Prelude.{◌≡◌, ◌≤◌, ℕ, true, List, length}
+use Rattle.std.specs.Prelude.{◌≡◌, ◌≤◌, true, List, length}
 use Rattle.ground.specs.declared.token.Token.{Token}
 use Rattle.grammar.specs.Limits.{IsAccepted}
 use Rattle.efl_tree.specs.Syntax.{EflProgram}
-use Rattle.efl_typed.specs.Typing.{bodies_of}
 use Rattle.efl_lowered.specs.Lowering.{units_of}
-use Rattle.efl_lowered.specs.Needs.{all_need}
 use Rattle.efl_naming.specs.Choice.{naming_of, is_small}
 use Rattle.plain_decks.specs.Bytes.{most_bytes}
 use Rattle.efl_plain.specs.Few.{HasFewLabels}
@@ -18,10 +16,6 @@ use Rattle.efl_parse.specs.Efl.{grammar}
 -- the units of a program that is accepted have few labels
 abbrev pub ParsedHasFewLabels : Type 0
 ParsedHasFewLabels = (ts : List Token) (tree : EflProgram) → IsAccepted grammar meter ts (program tree) → HasFewLabels tree
-
--- a procedure of a program that is accepted needs no more temporaries at once than a procedure may have tokens
-abbrev pub ParsedNeedsFew : Type 0
-ParsedNeedsFew = (ts : List Token) (tree : EflProgram) → IsAccepted grammar meter ts (program tree) → (n : ℕ) → all_need (bodies_of tree n) 0 ≤ 20000
 
 -- a program of no more tokens than a text may have has few variables, procedures and temporaries
 abbrev pub ParsedIsSmall : Type 0

@@ -1,14 +1,9 @@
 // The laws of the parser's limits. The functions do nothing: their contracts are the laws.
-ghost use Rattle.efl_limits.specs.Laws.{GrammarHasLittleStorage, GrammarIsShort, ParsedHasFewLabels, ParsedHasFewProcedures, ParsedIsSmall, ParsedNeedsFew};
+ghost use Rattle.efl_limits.specs.Laws.{GrammarHasLittleStorage, GrammarIsShort, ParsedHasFewLabels, ParsedHasFewProcedures, ParsedIsSmall};
 
 /// The labels of each unit of a program that the parser accepts fit five digits.
 pub fn parsed_has_few_labels()
     ensures { ParsedHasFewLabels }
-{}
-
-/// Each unit of a program that the parser accepts needs 20,000 temporaries at most.
-pub fn parsed_needs_few()
-    ensures { ParsedNeedsFew }
 {}
 
 /// A program that the parser accepts, of no more tokens than a text may have, has names enough for its parts.

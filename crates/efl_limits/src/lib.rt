@@ -6,5 +6,5 @@ mod laws;
 
 pub use laws::{
     grammar_has_little_storage, grammar_is_short, parsed_has_few_labels, parsed_has_few_procedures,
-    parsed_is_small, parsed_needs_few,
+    parsed_is_small,
 };

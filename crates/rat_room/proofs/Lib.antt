@@ -1,14 +1,18 @@
 -- The lemmas of rat_room.
 pub mod Weights
 pub mod NineParts
+pub mod BeforeOthers
 pub mod PartWeights
 pub mod PhraseWeights
 pub mod TreeWeights
 pub mod ProductionWeights
+pub mod MeteredUnits
+pub mod TreeValues
 pub mod UnitTokens
 pub mod UnitTexts
 pub mod UnitCounts
 pub mod UnitRooms
+pub mod CodeWeights
 pub mod Lines
 pub mod LineWeights
 pub mod LineProductions

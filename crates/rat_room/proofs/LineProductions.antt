@@ -10,7 +10,9 @@ use Rattle.rat_parse_table.specs.declared.table.Production.{Production}
 use Rattle.rat_parse_table.specs.declared.table.Production.TheVariants as productions
 use Rattle.rat_parse_table.specs.Table.{symbols, nonterminal_of}
 use Rattle.rat_parse_values.specs.Values.{Val, at, tok}
-use Rattle.rat_parse_values.specs.Parts.{place_in, name_in, number_in, count_or_one, as_exprs, as_statements, as_clauses, as_formula, as_command, as_units}
+use Rattle.rat_parse_values.specs.Parts.{place_in, name_in, number_in, count_or_one, as_exprs, as_statements, as_clauses, as_formula, as_command, as_units, act_part, formula_part}
+use Rattle.rat_parse_expressions.specs.Phrases.{looped, lengthened, pended, begun}
+use Rattle.rat_parse_plain.specs.Plain.{counted}
 use Rattle.rat_parse_control.specs.Statements.{labelled_value}
 use Rattle.rat_parse.specs.Build.{build}
 use Rattle.rat_parse.specs.Ratfor.{grammar}
@@ -18,6 +20,7 @@ use Rattle.rat_room.proofs.Weights.{total}
 use Rattle.rat_room.proofs.TreeWeights.{Each, Pays}
 use Rattle.rat_room.proofs.NineParts.{WeighNine, part_at}
 use Rattle.rat_room.proofs.NineParts.{nine as parts_nine}
+use Rattle.rat_room.proofs.BeforeOthers.{looped_bare, lengthened_bare, pended_bare, begun_bare, counted_bare}
 use Rattle.rat_room.proofs.PartWeights.{IsEven}
 use Rattle.rat_room.proofs.ProductionWeights.{keeps}
 use Rattle.rat_room.proofs.LineWeights as sizes
@@ -51,24 +54,25 @@ sized productions.Marked vs e = omega (arith, nine vs, sizes.labelled_size (numb
 sized productions.Braces vs e = omega (arith, nine vs, sizes.statements_size (at 1 vs))
 sized productions.IfStatement vs e = omega (arith, nine vs, sizes.command_size (at 1 vs), sizes.conditional_size (place_in (at 3 vs)) (as_formula (at 2 vs)) (as_command (at 1 vs)) (at 0 vs))
 sized productions.WhileStatement vs e = omega (arith, nine vs, sizes.command_size (at 0 vs))
-sized productions.ForStatement vs e = omega (arith, nine vs, sizes.command_size (at 0 vs))
+sized productions.ForStatement vs e = omega (arith, nine vs, sizes.any_one (act_part (at 6 vs)), sizes.any_one (formula_part (at 4 vs)), sizes.any_one (act_part (at 2 vs)), sizes.command_size (at 0 vs))
 sized productions.RepeatStatement vs e = omega (arith, nine vs, sizes.command_size (at 1 vs), sizes.repetition_size (place_in (at 2 vs)) (as_command (at 1 vs)) (at 0 vs))
 sized productions.DoStatement vs e = omega (arith, nine vs, sizes.command_size (at 0 vs))
 sized productions.SwitchStatement vs e = omega (arith, nine vs, sizes.clauses_size (at 1 vs))
 sized productions.LeaveStatement vs e = omega (arith, nine vs, sizes.left_size (at 2 vs) (place_in (at 2 vs)) (count_or_one (at 1 vs)))
+sized productions.ReturnStatement vs e = omega (arith, nine vs, sizes.return_size (place_in (at 2 vs)) (formula_part (at 1 vs)))
 sized productions.MoreClauses vs e = omega (arith, nine vs, sizes.clauses_size (at 0 vs), sizes.with_clause_size (at 1 vs) (as_clauses (at 0 vs)) (part_at IsEven tt 1 vs e))
 sized productions.CaseClause vs e = omega (arith, nine vs, sizes.exprs_size (at 2 vs), sizes.chained_size (as_exprs (at 2 vs)), sizes.statements_size (at 0 vs))
 sized productions.DefaultClause vs e = omega (arith, nine vs, sizes.statements_size (at 0 vs))
 sized productions.SomeActuals vs e = omega (arith, nine vs, sizes.exprs_size (at 1 vs))
 sized productions.MoreActual vs e = omega (arith, nine vs, sizes.exprs_size (at 0 vs))
-sized productions.Loop vs e = omega (arith, nine vs, sizes.looped_size (at 2 vs) (at 0 vs))
-sized productions.LoopLoop vs e = omega (arith, nine vs, sizes.lengthened_size (at 2 vs) (at 0 vs))
-sized productions.LoopName vs e = omega (arith, nine vs, sizes.begun_size (name_in (at 1 vs)) (at 0 vs))
-sized productions.LoopElement vs e = omega (arith, nine vs, sizes.pended_size (Some (as_exprs (at 2 vs))) (at 0 vs))
-sized productions.LoopScalar vs e = omega (arith, nine vs, sizes.pended_size None (at 0 vs))
+sized productions.Loop vs e = omega (arith, nine vs, sizes.bare_size (looped (at 2 vs) (at 0 vs)) (looped_bare (at 2 vs) (at 0 vs)))
+sized productions.LoopLoop vs e = omega (arith, nine vs, sizes.bare_size (lengthened (at 2 vs) (at 0 vs)) (lengthened_bare (at 2 vs) (at 0 vs)))
+sized productions.LoopName vs e = omega (arith, nine vs, sizes.bare_size (begun (name_in (at 1 vs)) (at 0 vs)) (begun_bare (name_in (at 1 vs)) (at 0 vs)))
+sized productions.LoopElement vs e = omega (arith, nine vs, sizes.bare_size (pended (Some (as_exprs (at 2 vs))) (at 0 vs)) (pended_bare (Some (as_exprs (at 2 vs))) (at 0 vs)))
+sized productions.LoopScalar vs e = omega (arith, nine vs, sizes.bare_size (pended None (at 0 vs)) (pended_bare None (at 0 vs)))
 sized productions.Alias vs e = omega (arith, nine vs, sizes.exprs_size (at 1 vs))
 sized productions.MoreRef vs e = omega (arith, nine vs, sizes.exprs_size (at 0 vs))
-sized productions.NumberDatum vs e = omega (arith, nine vs, sizes.counted_size (at 1 vs) (at 0 vs))
+sized productions.NumberDatum vs e = omega (arith, nine vs, sizes.bare_size (counted (at 1 vs) (at 0 vs)) (counted_bare (at 1 vs) (at 0 vs)))
 sized productions.Subscripts vs e = omega (arith, nine vs, sizes.exprs_size (at 1 vs))
 sized productions.MoreExpr vs e = omega (arith, nine vs, sizes.exprs_size (at 0 vs))
 sized _ vs e = omega (arith, nine vs)

@@ -1,20 +1,20 @@
 -- How many statements of FORTRAN what a part gives becomes at most, and a list of expressions as many as it has.
-use Rattle.std.proofs.Common.{◌≡◌, ◌≤◌, ℕ, ◌+◌, arith, Bool, true, false, List, [], ◌∷◌, length, Option, Some, None, refl}
-use Rattle.std.specs.Prelude.{if◌then◌else◌, codes}
+use Rattle.std.proofs.Common.{◌≡◌, ◌≤◌, ℕ, ◌+◌, arith, List, [], ◌∷◌, length, Option, Some, None, refl}
+use Rattle.std.specs.Prelude.{codes}
 use Rattle.ground.specs.declared.place.Place.{Place}
-use Rattle.f66_tree.specs.Syntax.{Text, Formula}
+use Rattle.f66_tree.specs.Syntax.{Formula}
 use Rattle.f66_tree.specs.Views.{chained}
-use Rattle.rat_tree.specs.Syntax.{Command, Next, Break, Plain, Labelled, Commands, Clauses, NoClause, RatRoutine}
+use Rattle.f66_tree.proofs.Tries.{if_both}
+use Rattle.rat_tree.specs.Syntax.{Command, Next, Break, Return, Plain, Labelled, Commands, Clauses, NoClause, RatRoutine}
 use Rattle.rat_parse_values.specs.Kinds as part
 use Rattle.rat_parse_values.specs.Values.{Val}
 use Rattle.rat_parse_values.specs.Values as val
 use Rattle.rat_parse_values.specs.Parts.{as_exprs, as_statements, as_clauses, as_command, as_units, with_clause, with_routine, is_word}
-use Rattle.rat_parse_expressions.specs.Phrases.{looped, lengthened, pended, begun}
-use Rattle.rat_parse_plain.specs.Plain.{counted}
 use Rattle.rat_parse_control.specs.Statements.{conditional, repetition, with_own_label, labelled_value, left, typed_unit}
 use Rattle.rat_room.proofs.Lines.{expressions, lines_of, lines_in, lines_among}
 use Rattle.rat_room.proofs.PartWeights.{IsEven}
-use Rattle.rat_room.proofs.Weights.{total}
+use Rattle.rat_room.proofs.BeforeOthers.{IsBare}
+use Rattle.rat_room.proofs.Weights.{total, if_any}
 
 abbrev pub lines_of_units : List RatRoutine → ℕ
 lines_of_units us = total (λ u. lines_in u.body) us
@@ -66,26 +66,19 @@ with_routine_size _ us = omega arith
 
 -- ---- what is made of parts ----
 
-pub looped_size : (v w : Val) → size (looped v w) ≡ 0
-looped_size v (val.transfer (part.rest r)) = refl
-looped_size v _ = refl
+pub bare_size : (v : Val) → IsBare v → size v ≡ 0
+bare_size (val.expression x) h = absurd h
+bare_size (val.statement x) h = absurd h
+bare_size (val.unit x) h = absurd h
+bare_size _ h = refl
 
-pub lengthened_size : (v w : Val) → size (lengthened v w) ≡ 0
-lengthened_size v (val.transfer (part.rest r)) = refl
-lengthened_size v _ = refl
+pub any_one : {A : Type 0} (x : Option A) → if_any (λ a. 1) x ≤ 1
+any_one None = omega arith
+any_one (Some a) = omega arith
 
-pub pended_size : (args : Option (List Formula)) (v : Val) → size (pended args v) ≡ 0
-pended_size args (val.transfer (part.rest r)) = refl
-pended_size args _ = refl
-
-pub begun_size : (x : Text) (v : Val) → size (begun x v) ≡ 0
-begun_size x (val.parameter (part.range r)) = refl
-begun_size x (val.transfer (part.pending args r)) = refl
-begun_size x _ = refl
-
-pub counted_size : (n v : Val) → size (counted n v) ≡ 0
-counted_size n (val.expression (part.formula f)) = refl
-counted_size n _ = refl
+pub return_size : (p : Place) (e : Option Formula) → lines_of (Return p e) ≤ 2
+return_size p None = omega arith
+return_size p (Some e) = omega arith
 
 pub conditional_size : (p : Place) (f : Formula) (c : Command) (v : Val) → lines_of (conditional p f c v) ≤ 4 + (lines_of c + size v)
 conditional_size p f c (val.statement (part.command q d)) = omega arith
@@ -105,12 +98,8 @@ pub labelled_size : (n : ℕ) (v : Val) → size (labelled_value n v) ≤ 1 + si
 labelled_size n (val.statement (part.command p c)) = marked_size n p c
 labelled_size n _ = omega arith
 
-chosen_leaving : (b : Bool) (p : Place) (n : ℕ) → lines_of (if b then Next p n else Break p n) ≡ 1
-chosen_leaving true p n = refl
-chosen_leaving false p n = refl
-
 pub left_size : (v : Val) (p : Place) (n : ℕ) → lines_of (left v p n) ≡ 1
-left_size v p n = chosen_leaving (is_word (codes "NEXT") v) p n
+left_size v p n = if_both (λ c. lines_of c ≡ 1) (is_word (codes "NEXT") v) (Next p n) (Break p n) refl refl
 
 pub typed_unit_size : (w v : Val) (ss : Commands) → lines_in (typed_unit w v ss).body ≤ 1 + lines_in ss
 typed_unit_size w (val.unit (part.heading p h)) ss = omega arith

@@ -8,6 +8,7 @@ use Rattle.rat_parse_values.specs.Kinds as part
 use Rattle.rat_parse_values.specs.Values.{Val}
 use Rattle.rat_parse_values.specs.Values as val
 use Rattle.rat_parse_values.specs.Parts.{as_exprs, as_joins, as_names, as_pars, as_declareds, as_areas, as_groups, as_presets, as_entries, as_statements, as_clauses, with_declared, with_area, with_preset, with_entry, with_clause, as_formula, as_par, as_act, as_command, as_header, as_range, formula_part, act_part, step_or_one}
+use Rattle.rat_room.proofs.BeforeOthers.{HoldsBefore}
 use Rattle.rat_room.proofs.Weights.{total, if_any, of_formula, of_formulas, of_par, of_entry, of_entries, of_declared, of_area, of_preset, of_act, of_command, of_commands, of_clauses, of_header, of_range, weight}
 
 -- ---- lists ----
@@ -135,8 +136,7 @@ pub record PutsOne (d : Clauses → Clauses) : Type 0 where
   pub is : (all : Clauses) → d all ≡ AndClause cases fallback statements place all
 
 abbrev pub IsEven : Val → Type 0
-IsEven (val.statement (part.clause d)) = PutsOne d
-IsEven _ = Unit {0}
+IsEven v = HoldsBefore PutsOne (λ d. Unit {0}) v
 
 pub with_clause_weighs : (v : Val) (cs : Clauses) → IsEven v → of_clauses (with_clause v cs) ≤ weight v + of_clauses cs
 with_clause_weighs (val.statement (part.clause d)) cs even = let here = even.is cs in let alone = even.is NoClause in rw (here, alone) (omega arith)

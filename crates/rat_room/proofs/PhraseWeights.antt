@@ -1,10 +1,11 @@
 -- What the building functions make weighs no more than what they make it of.
-use Rattle.std.proofs.Common.{◌≡◌, ◌≤◌, ℕ, ◌+◌, arith, Bool, true, false, List, [], ◌∷◌, Option, Some, None, refl}
-use Rattle.std.specs.Prelude.{if◌then◌else◌, codes}
+use Rattle.std.proofs.Common.{◌≡◌, ◌≤◌, ℕ, ◌+◌, arith, List, [], ◌∷◌, Option, Some, None, refl}
+use Rattle.std.specs.Prelude.{codes}
 use Rattle.ground.specs.declared.place.Place.{Place}
 use Rattle.f66_tree.specs.declared.expression.Operator.{Operator}
 use Rattle.f66_tree.specs.declared.declaration.TypeWord.{TypeWord}
 use Rattle.f66_tree.specs.Syntax.{Text, Header, FuncUnit, Formula, Pair, Plus, Minus, Par, Entries, Read, Write}
+use Rattle.f66_tree.proofs.Tries.{if_both}
 use Rattle.rat_tree.specs.Syntax.{Command, Next, Break, Plain, Labelled, Commands}
 use Rattle.rat_parse_values.specs.Kinds as part
 use Rattle.rat_parse_values.specs.Values.{Val}
@@ -22,12 +23,8 @@ pub joined_weighs : (f : Formula) (js : List (Operator × Formula)) → of_formu
 joined_weighs f [] = omega arith
 joined_weighs f (j ∷ js) = omega (arith, joined_weighs (Pair j.0 f j.1) js)
 
-chosen_sign : (b : Bool) (f : Formula) → of_formula (if b then Minus f else Plus f) ≡ of_formula f
-chosen_sign true f = refl
-chosen_sign false f = refl
-
 pub signed_weighs : (v : Val) (f : Formula) → of_formula (signed v f) ≡ of_formula f
-signed_weighs v f = chosen_sign (is_minus (sign_in v)) f
+signed_weighs v f = if_both (λ g. of_formula g ≡ of_formula f) (is_minus (sign_in v)) (Minus f) (Plus f) refl refl
 
 pub applied_weighs : (x : Text) (v : Val) → of_formula (applied x v) ≤ 1 + weight v
 applied_weighs x (val.expression (part.formulas fs)) = omega (arith, chained_weighs fs)
@@ -56,12 +53,8 @@ begun_weighs x (val.parameter (part.range r)) = omega arith
 begun_weighs x (val.transfer (part.pending args r)) = omega (arith, applied_if_weighs x args)
 begun_weighs x _ = omega arith
 
-chosen_transfer : (b : Bool) (u : Par) (n : ℕ) (es : Entries) → of_act (if b then Read u n es else Write u n es) ≡ of_par u + of_entries es
-chosen_transfer true u n es = refl
-chosen_transfer false u n es = refl
-
 pub transfer_weighs : (v : Val) (u : Par) (n : ℕ) (es : Entries) → of_act (transfer v u n es) ≡ of_par u + of_entries es
-transfer_weighs v u n es = chosen_transfer (is_word (codes "READ") v) u n es
+transfer_weighs v u n es = if_both (λ a. of_act a ≡ of_par u + of_entries es) (is_word (codes "READ") v) (Read u n es) (Write u n es) refl refl
 
 pub counted_weighs : (n v : Val) → weight (counted n v) ≡ 0
 counted_weighs n (val.expression (part.formula f)) = refl
@@ -87,12 +80,8 @@ pub labelled_weighs : (n : ℕ) (v : Val) → weight (labelled_value n v) ≤ 1 
 labelled_weighs n (val.statement (part.command p c)) = marked_weighs n p c
 labelled_weighs n _ = omega arith
 
-chosen_leaving : (b : Bool) (p : Place) (n : ℕ) → of_command (if b then Next p n else Break p n) ≡ 0
-chosen_leaving true p n = refl
-chosen_leaving false p n = refl
-
 pub left_weighs : (v : Val) (p : Place) (n : ℕ) → of_command (left v p n) ≡ 0
-left_weighs v p n = chosen_leaving (is_word (codes "NEXT") v) p n
+left_weighs v p n = if_both (λ c. of_command c ≡ 0) (is_word (codes "NEXT") v) (Next p n) (Break p n) refl refl
 
 pub declares_weighs : (w v : Val) → of_command (declares w v) ≤ weight v
 declares_weighs w v = omega (arith, declareds_weigh v)

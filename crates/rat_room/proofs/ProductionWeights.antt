@@ -1,5 +1,5 @@
 -- What each production of Ratfor makes of its parts weighs no more than they do, with three for each of its terminals.
-use Rattle.std.proofs.Common.{◌≤◌, ℕ, ◌+◌, arith, true, false, List, ◌∷◌, Option, Some, None, refl}
+use Rattle.std.proofs.Common.{◌≤◌, ℕ, ◌+◌, arith, List, Some, None, refl}
 use Rattle.ground.specs.declared.token.Token.{Token}
 use Rattle.grammar.specs.declared.language.Symbol.{Symbol}
 use Rattle.grammar.specs.declared.language.Symbol.TheVariants.{Terminal, Nonterminal}
@@ -9,14 +9,11 @@ use Rattle.rat_parse_table.specs.declared.table.Nonterminal.TheVariants as nonte
 use Rattle.rat_parse_table.specs.declared.table.Production.{Production}
 use Rattle.rat_parse_table.specs.declared.table.Production.TheVariants as productions
 use Rattle.rat_parse_table.specs.Table.{symbols, nonterminal_of}
-use Rattle.rat_parse_values.specs.Kinds as part
-use Rattle.rat_parse_values.specs.Values.{Val, last_of, others, at, tok}
-use Rattle.rat_parse_values.specs.Values as val
+use Rattle.rat_parse_values.specs.Values.{Val, at, tok}
 use Rattle.rat_parse_values.specs.Parts.{place_in, name_in, number_in, count_or_one, integer_in, as_exprs, as_joins, as_declareds, as_areas, as_presets, as_entries, as_statements, as_clauses, as_formula, as_par, as_command}
-use Rattle.f66_tree.specs.Syntax.{Text, Formula, Int, NoFormula}
-use Rattle.f66_tree.specs.Views.{chained, listed}
+use Rattle.f66_tree.specs.Syntax.{Int}
+use Rattle.f66_tree.specs.Views.{listed}
 use Rattle.rat_parse_expressions.specs.Phrases as operators
-use Rattle.rat_parse_plain.specs.Plain.{counted}
 use Rattle.rat_parse_control.specs.Statements.{labelled_value}
 use Rattle.rat_parse.specs.Build.{build}
 use Rattle.rat_parse.specs.Ratfor.{grammar}
@@ -25,7 +22,8 @@ use Rattle.rat_room.proofs.TreeWeights.{Each, Pays}
 use Rattle.rat_room.proofs.NineParts.{WeighNine, part_at}
 use Rattle.rat_room.proofs.NineParts.{nine as parts_nine}
 use Rattle.rat_room.proofs.PartWeights as parts
-use Rattle.rat_room.proofs.PartWeights.{IsEven}
+use Rattle.rat_room.proofs.BeforeOthers.{keeps_each}
+use Rattle.rat_room.proofs.PartWeights.{PutsOne, IsEven}
 use Rattle.rat_room.proofs.PhraseWeights as made
 
 -- what a symbol pays: three for a terminal, and for a name or a number
@@ -37,9 +35,6 @@ credit (Nonterminal _) = 0
 
 nine : (vs : List Val) → WeighNine weight vs
 nine vs = parts_nine weight refl vs
-
-even_at : (n : ℕ) (vs : List Val) → Each IsEven vs → IsEven (at n vs)
-even_at n vs e = part_at IsEven tt n vs e
 
 -- operands with the operators behind the first
 joined : (vs : List Val) → of_formula (operators.joined (as_formula (at 1 vs)) (as_joins (at 0 vs))) ≤ weight (at 1 vs) + weight (at 0 vs)
@@ -74,7 +69,7 @@ weighs productions.LeaveStatement vs e = omega (arith, nine vs, made.left_weighs
 weighs productions.ReturnStatement vs e = omega (arith, nine vs, parts.formula_if_any_weighs (at 1 vs))
 weighs productions.PlainStatement vs e = omega (arith, nine vs, parts.act_weighs (at 1 vs))
 weighs productions.UntilTest vs e = omega (arith, nine vs, parts.formula_weighs (at 1 vs))
-weighs productions.MoreClauses vs e = omega (arith, nine vs, parts.clauses_weigh (at 0 vs), parts.with_clause_weighs (at 1 vs) (as_clauses (at 0 vs)) (even_at 1 vs e))
+weighs productions.MoreClauses vs e = omega (arith, nine vs, parts.clauses_weigh (at 0 vs), parts.with_clause_weighs (at 1 vs) (as_clauses (at 0 vs)) (part_at IsEven tt 1 vs e))
 weighs productions.CaseClause vs e =
     omega (arith, nine vs, parts.formula_weighs (at 3 vs), parts.exprs_weigh (at 2 vs), parts.chained_weighs (as_exprs (at 2 vs)), parts.statements_weigh (at 0 vs))
 weighs productions.DefaultClause vs e = omega (arith, nine vs, parts.statements_weigh (at 0 vs))
@@ -136,48 +131,8 @@ weighs _ vs e = omega (arith, nine vs)
 
 -- ---- clauses ----
 
-labelled_even : (n : ℕ) (v : Val) → IsEven v → IsEven (labelled_value n v)
-labelled_even n (val.statement (part.command p c)) h = tt
-labelled_even n _ h = h
-
-looped_even : (v w : Val) → IsEven (operators.looped v w)
-looped_even v (val.transfer (part.rest r)) = tt
-looped_even v _ = tt
-
-lengthened_even : (v w : Val) → IsEven (operators.lengthened v w)
-lengthened_even v (val.transfer (part.rest r)) = tt
-lengthened_even v _ = tt
-
-pended_even : (args : Option (List Formula)) (v : Val) → IsEven (operators.pended args v)
-pended_even args (val.transfer (part.rest r)) = tt
-pended_even args _ = tt
-
-begun_even : (x : Text) (v : Val) → IsEven (operators.begun x v)
-begun_even x (val.parameter (part.range r)) = tt
-begun_even x (val.transfer (part.pending args r)) = tt
-begun_even x _ = tt
-
-counted_even : (n v : Val) → IsEven (counted n v)
-counted_even n (val.expression (part.formula f)) = tt
-counted_even n _ = tt
-
 pub keeps : (p : Production) (vs : List Val) → Each IsEven vs → IsEven (build p vs)
-keeps productions.CaseClause vs e =
-    record { cases = chained (as_formula (at 3 vs) ∷ as_exprs (at 2 vs)); fallback = false; statements = as_statements (at 0 vs); place = place_in (at 4 vs); is = λ all. refl }
-keeps productions.DefaultClause vs e = record { cases = NoFormula; fallback = true; statements = as_statements (at 0 vs); place = place_in (at 2 vs); is = λ all. refl }
-keeps productions.Marked vs e = labelled_even (number_in (at 1 vs)) (at 0 vs) (even_at 0 vs e)
-keeps productions.TwoWords vs e = even_at 1 vs e
-keeps productions.Condition vs e = even_at 1 vs e
-keeps productions.GoToWords vs e = even_at 1 vs e
-keeps productions.LoopRange vs e = even_at 1 vs e
-keeps productions.CountedGroup vs e = even_at 1 vs e
-keeps productions.Loop vs e = looped_even (at 2 vs) (at 0 vs)
-keeps productions.LoopLoop vs e = lengthened_even (at 2 vs) (at 0 vs)
-keeps productions.LoopName vs e = begun_even (name_in (at 1 vs)) (at 0 vs)
-keeps productions.LoopElement vs e = pended_even (Some (as_exprs (at 2 vs))) (at 0 vs)
-keeps productions.LoopScalar vs e = pended_even None (at 0 vs)
-keeps productions.NumberDatum vs e = counted_even (at 1 vs) (at 0 vs)
-keeps _ vs e = assumption (even_at 0 vs e)
+keeps = keeps_each PutsOne (λ d. Unit {0}) (λ es fallback ss p. record { cases = es; fallback = fallback; statements = ss; place = p; is = λ all. refl }) (λ n s. tt) (λ n fs. tt)
 
 -- ---- each production and each token ----
 

@@ -1,32 +1,18 @@
 -- All units of a text together become at most four statements for each of its tokens, and two more each.
-use Rattle.std.proofs.Common.{◌≡◌, ◌≤◌, ◌+◌, ◌*◌, arith, List, [], length, refl, ap, subst}
+use Rattle.std.proofs.Common.{◌≡◌, ◌≤◌, ◌+◌, ◌*◌, arith, List, [], length, refl, subst}
 use Rattle.ground.specs.declared.token.Token.{Token}
-use Rattle.grammar.specs.declared.language.Symbol.{Symbol}
-use Rattle.grammar.specs.Grammar.{Tree, Trees, leaf, node, none, some, Parse, Derives, DerivesAll}
+use Rattle.grammar.specs.Grammar.{Parse}
 use Rattle.grammar.specs.Limits.{IsAccepted}
 use Rattle.rat_tree.specs.Syntax.{RatProgram}
-use Rattle.rat_parse_table.specs.declared.table.Terminal.{Terminal as ATerminal}
-use Rattle.rat_parse_table.specs.declared.table.Nonterminal.{Nonterminal as ANonterminal}
-use Rattle.rat_parse_table.specs.declared.table.Production.{Production}
 use Rattle.rat_parse_table.specs.declared.table.Production.TheVariants as productions
 use Rattle.rat_parse_table.specs.Table.{symbols}
 use Rattle.rat_parse_table.specs.Limits.{meter}
 use Rattle.rat_parse_values.specs.Values.{program}
 use Rattle.rat_parse.specs.Ratfor.{grammar}
-use Rattle.rat_room.proofs.TreeWeights.{tokens, tokens_all, paid_all, node_balance, balance_all, all_free, all_more}
+use Rattle.rat_room.proofs.TreeWeights.{tokens_all, trees_take, paid_all, node_balance, balance_all, all_free, all_more}
 use Rattle.rat_room.proofs.PartWeights.{IsEven}
 use Rattle.rat_room.proofs.LineWeights.{size, lines_of_units}
 use Rattle.rat_room.proofs.LineProductions.{line_credit, line_pays, line_token}
-
--- a tree takes its tokens off the front
-mutual
-  tree_takes : (c : Tree Token Production) (x : Symbol ATerminal ANonterminal) (ts rest : List Token) → Derives grammar c x ts rest → length ts ≡ tokens c + length rest
-  tree_takes (leaf t) x ts rest h = (let e = ap (λ us. length us) h.1 in omega (arith, e))
-  tree_takes (node p cs) x ts rest h = trees_take cs (symbols p) ts rest h.3
-
-  trees_take : (cs : Trees Token Production) (xs : List (Symbol ATerminal ANonterminal)) (ts rest : List Token) → DerivesAll grammar cs xs ts rest → length ts ≡ tokens_all cs + length rest
-  trees_take none xs ts rest h = (let e = ap (λ us. length us) h.1 in omega (arith, e))
-  trees_take (some c cs) xs ts rest h = omega (arith, tree_takes c h.0 ts h.2 h.4, trees_take cs h.1 h.2 rest h.5)
 
 pub text_lines : (ts : List Token) (tree : RatProgram) → IsAccepted grammar meter ts (program tree) → lines_of_units tree.routines ≤ 4 * length ts
 text_lines ts tree accepted =
@@ -37,5 +23,5 @@ text_lines ts tree accepted =
     let whole = node_balance grammar 4 size line_credit IsEven line_token line_pays productions.Whole cs all in
     let paid = whole.weighs in
     let made : size (program tree) ≤ paid_all 4 cs = subst (λ v. size v ≤ paid_all 4 cs) found.1 (omega (arith, paid)) in
-    let many : length ts ≡ tokens_all cs + 0 = trees_take cs (symbols productions.Whole) ts [] parse.derives in
+    let many : length ts ≡ tokens_all cs + 0 = trees_take grammar cs (symbols productions.Whole) ts [] parse.derives in
     omega (arith, made, many, all_free cs, all_more 0 cs, all_more 1 cs, all_more 2 cs, all_more 3 cs)

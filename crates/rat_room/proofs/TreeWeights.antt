@@ -1,5 +1,5 @@
 -- A tree weighs at most so much for each of its tokens, where each production's parts and its own terminals pay for what it makes.
-use Rattle.std.proofs.Common.{◌≡◌, ◌≤◌, ℕ, ◌+◌, arith, List, [], ◌∷◌, refl, sym, subst}
+use Rattle.std.proofs.Common.{◌≡◌, ◌≤◌, ℕ, ◌+◌, arith, List, [], ◌∷◌, length, refl, sym, ap, subst}
 use Rattle.ground.specs.declared.token.Token.{Token}
 use Rattle.grammar.specs.declared.language.Symbol.{Symbol}
 use Rattle.grammar.specs.declared.language.Symbol.TheVariants.{Terminal, Nonterminal}
@@ -15,6 +15,17 @@ abbrev mutual
   pub tokens_all : {P : Type 0} → Trees Token P → ℕ
   tokens_all none = 0
   tokens_all (some c cs) = tokens c + tokens_all cs
+
+-- a tree takes its tokens off the front
+module _ {T N P V : Type 0} (g : Grammar Token T N P V) where
+  mutual
+    tree_takes : (c : Tree Token P) (x : Symbol T N) (ts rest : List Token) → Derives g c x ts rest → length ts ≡ tokens c + length rest
+    tree_takes (leaf t) x ts rest h = (let e = ap (λ us. length us) h.1 in omega (arith, e))
+    tree_takes (node p cs) x ts rest h = trees_take cs (g.symbols p) ts rest h.3
+
+    pub trees_take : (cs : Trees Token P) (xs : List (Symbol T N)) (ts rest : List Token) → DerivesAll g cs xs ts rest → length ts ≡ tokens_all cs + length rest
+    trees_take none xs ts rest h = (let e = ap (λ us. length us) h.1 in omega (arith, e))
+    trees_take (some c cs) xs ts rest h = omega (arith, tree_takes c h.0 ts h.2 h.4, trees_take cs h.1 h.2 rest h.5)
 
 -- so much for each of them
 abbrev mutual
@@ -53,6 +64,17 @@ Each Q (x ∷ xs) = Q x × Each Q xs
 pub offered_by : {T N P V : Type 0} (g : Grammar Token T N P V) (n : N) (p : P) (ts : List Token) → Offers g n p ts → g.nonterminal_of p ≡ n
 offered_by g n p [] h = absurd h
 offered_by g n p (t ∷ ts) h = h.0
+
+-- what holds of each token, and of what each production makes of parts of which it holds, holds of each tree
+module _ {T N P V : Type 0} (g : Grammar Token T N P V) (Q : V → Type 0) (token : (t : Token) → Q (g.value t)) (keeps : (p : P) (vs : List V) → Each Q vs → Q (g.build p vs)) where
+  mutual
+    tree_holds : (c : Tree Token P) → Q (value_of g c)
+    tree_holds (leaf t) = token t
+    tree_holds (node p cs) = keeps p (values_of g cs []) (trees_hold cs [] tt)
+
+    pub trees_hold : (cs : Trees Token P) (earlier : List V) → Each Q earlier → Each Q (values_of g cs earlier)
+    trees_hold none earlier e = e
+    trees_hold (some c cs) earlier e = trees_hold cs (value_of g c ∷ earlier) (tree_holds c, e)
 
 module _ {T N P V : Type 0} (g : Grammar Token T N P V) (weight : V → ℕ) (credit : Symbol T N → ℕ) (Q : V → Type 0) where
   -- A production makes no more of its parts than they weigh with what its symbols pay, and leaves what its nonterminal pays.

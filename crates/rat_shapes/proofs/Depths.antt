@@ -1,5 +1,5 @@
 -- How deep the parentheses of what a part gives are: those of its expressions, and of its plain statements.
-use Rattle.std.specs.Prelude.{ℕ, suc, ◌+◌, max, List, Option, Some, None}
+use Rattle.std.specs.Prelude.{ℕ, suc, ◌+◌, max, List}
 use Rattle.grammar.specs.declared.language.Symbol.{Symbol}
 use Rattle.grammar.specs.declared.language.Symbol.TheVariants.{Terminal, Nonterminal}
 use Rattle.f66_tree.specs.Fields.{NoField}
@@ -15,11 +15,8 @@ use Rattle.rat_parse_values.specs.Kinds as part
 use Rattle.rat_parse_values.specs.Values.{Val}
 use Rattle.rat_parse_values.specs.Values as val
 use Rattle.rat_parse_values.specs.Parts.{as_exprs}
+use Rattle.rat_room.proofs.Weights.{if_any}
 use Rattle.deck_laws.specs.Nesting.{deepest, nesting, nesting_all, arguments_nesting, sizes_nesting, declared_nesting, entry_nesting, fields_nesting, area_nesting, group_nesting, preset_nesting, act_nesting}
-
-abbrev pub if_any : {A : Type 0} → (A → ℕ) → Option A → ℕ
-if_any f None = 0
-if_any f (Some x) = f x
 
 -- ---- commands ----
 

@@ -1,21 +1,23 @@
 -- What the building functions make is no deeper than what they make it of, but for parentheses of its own.
-use Rattle.std.proofs.Common.{◌≡◌, ◌≤◌, ℕ, suc, arith, Bool, true, false, List, [], ◌∷◌, Option, Some, None, refl}
-use Rattle.std.specs.Prelude.{max, codes, ◌==◌, if◌then◌else◌}
+use Rattle.std.proofs.Common.{◌≡◌, ◌≤◌, ℕ, suc, arith, List, [], ◌∷◌, Option, Some, None, refl}
+use Rattle.std.specs.Prelude.{max, codes}
 use Rattle.ground.specs.declared.place.Place.{Place}
 use Rattle.f66_tree.specs.declared.expression.Operator.{Operator}
-use Rattle.f66_tree.specs.declared.editing.EditKind.TheVariants as edits
-use Rattle.f66_tree.specs.Fields.{Fields, Single, Blanks, Takes}
+use Rattle.f66_tree.specs.Fields.{Fields}
 use Rattle.f66_tree.specs.Syntax.{Text, Formula, Pair, Plus, Minus, Par, Entries, Read, Write}
+use Rattle.f66_tree.proofs.Tries.{if_both}
 use Rattle.rat_tree.specs.Syntax.{Command, Next, Break, Plain, Labelled, Commands}
 use Rattle.rat_parse_values.specs.Kinds as part
 use Rattle.rat_parse_values.specs.Values.{Val}
 use Rattle.rat_parse_values.specs.Values as val
 use Rattle.rat_parse_values.specs.Parts.{is_word, is_minus, sign_in, name_in, with_entry}
-use Rattle.rat_parse_expressions.specs.Phrases.{joined, signed, applied, applied_if, looped, lengthened, pended, begun, width, worded, counted_field}
+use Rattle.rat_parse_expressions.specs.Phrases.{joined, signed, applied, applied_if, looped, lengthened, pended, begun, worded, counted_field}
 use Rattle.rat_parse_plain.specs.Plain.{counted, transfer}
 use Rattle.rat_parse_control.specs.Statements.{conditional, repetition, with_own_label, labelled_value, left, declares, typed_unit}
+use Rattle.rat_room.proofs.BeforeOthers.{word_holds}
+use Rattle.rat_room.proofs.Weights.{if_any}
 use Rattle.deck_laws.specs.Nesting.{deepest, nesting, entries_nesting, fields_nesting, act_nesting}
-use Rattle.rat_shapes.proofs.Depths.{if_any, depth_of, depth_in, subscripts_depth, depth, around_subscripts, around_fields}
+use Rattle.rat_shapes.proofs.Depths.{depth_of, depth_in, subscripts_depth, depth, around_subscripts, around_fields}
 use Rattle.rat_shapes.proofs.Parts.{chained_deep, listed_deep, with_entry_deep, declareds_deep}
 
 -- ---- expressions ----
@@ -24,12 +26,8 @@ pub joined_deep : (f : Formula) (js : List (Operator × Formula)) → nesting (j
 joined_deep f [] = omega arith
 joined_deep f (j ∷ js) = omega (arith, joined_deep (Pair j.0 f j.1) js)
 
-chosen_sign : (b : Bool) (f : Formula) → nesting (if b then Minus f else Plus f) ≡ nesting f
-chosen_sign true f = refl
-chosen_sign false f = refl
-
 pub signed_deep : (v : Val) (f : Formula) → nesting (signed v f) ≡ nesting f
-signed_deep v f = chosen_sign (is_minus (sign_in v)) f
+signed_deep v f = if_both (λ g. nesting g ≡ nesting f) (is_minus (sign_in v)) (Minus f) (Plus f) refl refl
 
 pub applied_deep : (x : Text) (v : Val) → nesting (applied x v) ≤ around_subscripts v
 applied_deep x (val.expression (part.formulas fs)) = omega (arith, chained_deep fs)
@@ -58,12 +56,8 @@ begun_deep x (val.parameter (part.range r)) = omega arith
 begun_deep x (val.transfer (part.pending args r)) = omega (arith, applied_if_deep x args)
 begun_deep x _ = omega arith
 
-chosen_transfer : (b : Bool) (u : Par) (n : ℕ) (es : Entries) → act_nesting (if b then Read u n es else Write u n es) ≡ max 1 (entries_nesting es)
-chosen_transfer true u n es = refl
-chosen_transfer false u n es = refl
-
 pub transfer_deep : (v : Val) (u : Par) (n : ℕ) (es : Entries) → act_nesting (transfer v u n es) ≡ max 1 (entries_nesting es)
-transfer_deep v u n es = chosen_transfer (is_word (codes "READ") v) u n es
+transfer_deep v u n es = if_both (λ a. act_nesting a ≡ max 1 (entries_nesting es)) (is_word (codes "READ") v) (Read u n es) (Write u n es) refl refl
 
 pub counted_deep : (n v : Val) → depth (counted n v) ≡ 0
 counted_deep n (val.expression (part.formula f)) = refl
@@ -71,16 +65,8 @@ counted_deep n _ = refl
 
 -- ---- formats ----
 
-chosen_field : (whole truth blanks : Bool) (n w : ℕ) (rest : Fields) →
-    fields_nesting ((if whole then Single n (Takes edits.Whole w) else (if truth then Single n (Takes edits.Truth w) else (if blanks then Single 1 (Blanks n) else Single n (Takes edits.Letter 1)))) rest) ≡ fields_nesting rest
-chosen_field true truth blanks n w rest = refl
-chosen_field false true blanks n w rest = refl
-chosen_field false false true n w rest = refl
-chosen_field false false false n w rest = refl
-
 pub worded_deep : (n : ℕ) (x : Text) (rest : Fields) → fields_nesting (worded n x rest) ≡ fields_nesting rest
-worded_deep n [] rest = refl
-worded_deep n (c ∷ ds) rest = chosen_field (c == 73) (c == 76) (c == 88) n (width ds) rest
+worded_deep = word_holds (λ d. (rest : Fields) → fields_nesting (d rest) ≡ fields_nesting rest) (λ n w rest. refl) (λ n w rest. refl) (λ n rest. refl) (λ n rest. refl)
 
 pub counted_field_deep : (n : ℕ) (v : Val) (rest : Fields) → fields_nesting (counted_field n v rest) ≡ max (around_fields v) (fields_nesting rest)
 counted_field_deep n (val.transfer (part.fields fs)) rest = refl
@@ -106,12 +92,8 @@ pub labelled_deep : (n : ℕ) (v : Val) → depth (labelled_value n v) ≡ depth
 labelled_deep n (val.statement (part.command p c)) = marked_deep n p c
 labelled_deep n _ = refl
 
-chosen_leaving : (b : Bool) (p : Place) (n : ℕ) → depth_of (if b then Next p n else Break p n) ≡ 0
-chosen_leaving true p n = refl
-chosen_leaving false p n = refl
-
 pub left_deep : (v : Val) (p : Place) (n : ℕ) → depth_of (left v p n) ≡ 0
-left_deep v p n = chosen_leaving (is_word (codes "NEXT") v) p n
+left_deep v p n = if_both (λ c. depth_of c ≡ 0) (is_word (codes "NEXT") v) (Next p n) (Break p n) refl refl
 
 pub declares_deep : (w v : Val) → depth_of (declares w v) ≤ depth v
 declares_deep w v = omega (arith, declareds_deep v)

@@ -11,7 +11,7 @@ use Rattle.grammar.specs.declared.language.Symbol.{Symbol}
 use Rattle.grammar.specs.declared.language.Symbol.TheVariants.{Terminal, Nonterminal}
 use Rattle.grammar.specs.declared.language.Event.TheVariants.{Open, Take, Close}
 use Rattle.grammar.specs.Grammar.{Tree, Trees, leaf, node, none, some, Derives, DerivesAll}
-use Rattle.grammar.specs.Limits.{history, history_all, taken, passing_at, reading, first_passing, more}
+use Rattle.grammar.specs.Limits.{history, history_all, reading, first_passing, more}
 use Rattle.rat_parse_table.specs.declared.counts.Counts.{Counts}
 use Rattle.rat_parse_table.specs.declared.table.Terminal.{Terminal as ATerminal}
 use Rattle.rat_parse_table.specs.declared.table.Terminal.TheVariants as terminals
@@ -23,7 +23,7 @@ use Rattle.rat_parse_table.specs.Table.{symbols, nonterminal_of}
 use Rattle.rat_parse_table.specs.Limits.{opened, closed, begun, nesting_with, passed, meter}
 use Rattle.rat_parse.specs.Ratfor.{grammar}
 use Rattle.rat_room.proofs.TreeWeights.{offered_by}
-use Rattle.rat_room.proofs.UnitTokens.{later_none, passing_none, all_quiet_before}
+use Rattle.rat_room.proofs.MeteredUnits.{none_passed_at, all_quiet_before}
 use Rattle.rat_room.proofs.UnitTexts.{Past}
 
 -- ---- what is open ----
@@ -86,8 +86,7 @@ low m h = at_most (nat_lt 100 m.nesting) refl (first_false (nat_lt 100 m.nesting
     at_most false e f = grind (arith, nat_tests)
 
 pub token_low : (t : ATerminal) (past : Past) → IsQuiet (Take t ∷ past) → nesting_with t (open_after past) ≤ 100
-token_low t past quiet =
-    low (reading meter (Take t ∷ past)) (passing_none (taken past) (passed (reading meter (Take t ∷ past))) (later_none (first_passing meter past) (passing_at (taken past) (passed (reading meter (Take t ∷ past)))) quiet))
+token_low t past quiet = low (reading meter (Take t ∷ past)) (none_passed_at meter t past quiet)
 
 token_kept : (t : ATerminal) (n : ℕ) → nesting_with t n ≤ 100 → n + opens (Terminal t) ≤ nesting_with t n + closes (Terminal t)
 token_kept terminals.Open n h = omega (arith, h)
@@ -130,7 +129,7 @@ first_low : (cs : Trees Token Production) (t : ATerminal) (xs : List (Symbol ATe
 first_low none t xs ts rest past h quiet = absurd (let e : Terminal t ∷ xs ≡ [] = h.0 in cc)
 first_low (some (leaf u) cs) t xs ts rest past h quiet =
     subst (λ k. nesting_with k (open_after past) ≤ 100) (sym (terminal_of t (grammar.terminal_of u) (head_of (Terminal t) h.0 xs h.1 h.3 ∙ h.4.0)))
-    (token_low (grammar.terminal_of u) past (all_quiet_before cs (Take (grammar.terminal_of u) ∷ past) quiet))
+    (token_low (grammar.terminal_of u) past (all_quiet_before grammar meter cs (Take (grammar.terminal_of u) ∷ past) quiet))
 first_low (some (node p ds) cs) t xs ts rest past h quiet = absurd (let e : Terminal t ≡ Nonterminal h.4.0 = head_of (Terminal t) h.0 xs h.1 h.3 ∙ h.4.1 in cc)
 
 starts_low : (p : Production) (cs : Trees Token Production) (ts rest : List Token) (past : Past) → DerivesAll grammar cs (symbols p) ts rest → IsQuiet (history_all grammar cs past) → deepens p * open_after past ≤ 100
@@ -169,4 +168,4 @@ mutual
   trees_kept (some c cs) xs ts rest past h quiet =
       let middle : Past = history grammar c past in
       subst (λ ys. open_after past + all_open ys ≤ open_after (history_all grammar cs middle) + all_close ys) (sym h.3)
-      (omega (arith, tree_kept c h.0 ts h.2 past h.4 (all_quiet_before cs middle quiet), trees_kept cs h.1 h.2 rest middle h.5 quiet))
+      (omega (arith, tree_kept c h.0 ts h.2 past h.4 (all_quiet_before grammar meter cs middle quiet), trees_kept cs h.1 h.2 rest middle h.5 quiet))

@@ -8,8 +8,9 @@ use Rattle.rat_parse_values.specs.Kinds as part
 use Rattle.rat_parse_values.specs.Values.{Val}
 use Rattle.rat_parse_values.specs.Values as val
 use Rattle.rat_parse_values.specs.Parts.{as_exprs, as_joins, as_pars, as_declareds, as_areas, as_groups, as_presets, as_entries, as_fields, as_statements, as_clauses, as_units, with_declared, with_area, with_preset, with_entry, with_routine, as_formula, as_act, as_command, formula_part, act_part}
+use Rattle.rat_room.proofs.Weights.{if_any}
 use Rattle.deck_laws.specs.Nesting.{deepest, nesting, nesting_all, arguments_nesting, sizes_nesting, declared_nesting, entry_nesting, entries_nesting, fields_nesting, area_nesting, group_nesting, preset_nesting, act_nesting}
-use Rattle.rat_shapes.proofs.Depths.{if_any, depth_of, depth_in, depth_among, depth_of_unit, subscripts_depth, depth, around_subscripts, around_fields}
+use Rattle.rat_shapes.proofs.Depths.{depth_of, depth_in, depth_among, depth_of_unit, subscripts_depth, depth, around_subscripts, around_fields}
 
 -- ---- lists ----
 

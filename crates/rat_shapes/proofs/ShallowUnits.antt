@@ -3,9 +3,10 @@ use Rattle.std.proofs.Common.{◌≤◌, arith, List, [], ◌∷◌, Option, Som
 use Rattle.std.specs.List.{AllByRecursion}
 use Rattle.f66_tree.specs.Syntax.{Formula, Formulas, NoFormula, AndFormula, Act}
 use Rattle.rat_tree.specs.Syntax.{Command, Empty, Block, If, IfElse, While, For, Repeat, RepeatUntil, Do, Switch, Break, Next, Return, Plain, Labelled, Commands, NoCommand, AndCommand, Clauses, NoClause, AndClause, RatRoutine}
+use Rattle.rat_room.proofs.Weights.{if_any}
 use Rattle.deck_laws.specs.Nesting.{deepest, nesting, nesting_all, act_nesting}
 use Rattle.rat_shapes.specs.Shapes.{AllBecome, IsLow, ParsedIsShallow}
-use Rattle.rat_shapes.proofs.Depths.{if_any, depth_of, depth_in, depth_among, depth_of_unit}
+use Rattle.rat_shapes.proofs.Depths.{depth_of, depth_in, depth_among, depth_of_unit}
 use Rattle.rat_shapes.proofs.Codes.{IfAny, AllFine, Holds, HoldIn, HoldAmong, AreGood, unit_good}
 use Rattle.rat_shapes.proofs.Trees.{program_deep}
 

@@ -20,8 +20,8 @@ use Rattle.rat_parse_values.specs.Values.{Val, program, tok}
 use Rattle.rat_parse_values.specs.Parts.{as_program}
 use Rattle.rat_parse.specs.Build.{build}
 use Rattle.rat_parse.specs.Ratfor.{grammar}
-use Rattle.rat_room.proofs.TreeWeights.{Each, offered_by}
-use Rattle.rat_room.proofs.UnitTokens.{all_quiet_before}
+use Rattle.rat_room.proofs.TreeWeights.{offered_by, trees_hold}
+use Rattle.rat_room.proofs.MeteredUnits.{all_quiet_before}
 use Rattle.rat_room.proofs.UnitTexts.{Past}
 use Rattle.deck_laws.specs.Nesting.{deepest}
 use Rattle.rat_shapes.proofs.Depths.{depth_of_unit, depth_at}
@@ -34,19 +34,10 @@ token_deep : (k : ATerminal) (t : Token) (n : ℕ) → nesting_with k n ≤ 100 
 token_deep terminals.Open t n h = omega (arith, h)
 token_deep _ t n h = omega arith
 
-mutual
-  tree_splits : (c : Tree Token Production) → IsSplit (value_of grammar c)
-  tree_splits (leaf t) = tt
-  tree_splits (node p cs) = keeps p (values_of grammar cs []) (trees_split cs [] tt)
-
-  trees_split : (cs : Trees Token Production) (earlier : List Val) → Each IsSplit earlier → Each IsSplit (values_of grammar cs earlier)
-  trees_split none earlier e = e
-  trees_split (some c cs) earlier e = trees_split cs (value_of grammar c ∷ earlier) (tree_splits c, e)
-
 -- less is left for what is deeper
 node_deep : (p : Production) (cs : Trees Token Production) (before n : ℕ) → before + deepens p ≤ n → Within n (piled (λ x. x) (symbols p) []) (values_of grammar cs []) →
     depth_at (Nonterminal (nonterminal_of p)) (build p (values_of grammar cs [])) ≤ 100 - before
-node_deep p cs before n more parts = omega (arith, more, made_deep p (values_of grammar cs []) n (trees_split cs [] tt) parts)
+node_deep p cs before n more parts = omega (arith, more, made_deep p (values_of grammar cs []) n (trees_hold grammar IsSplit (λ t. tt) keeps cs [] tt) parts)
 
 mutual
   tree_deep : (c : Tree Token Production) (x : Symbol ATerminal ANonterminal) (ts rest : List Token) (past : Past) → Derives grammar c x ts rest → IsQuiet (history grammar c past) →
@@ -66,7 +57,7 @@ mutual
   trees_deep none xs ts rest past n seen earlier h quiet kept parts = subst (λ ys. Within n (piled (λ x. x) ys seen) earlier) (sym h.0) parts
   trees_deep (some c cs) xs ts rest past n seen earlier h quiet kept parts =
       let middle : Past = history grammar c past in
-      let here : IsQuiet middle = all_quiet_before cs middle quiet in
+      let here : IsQuiet middle = all_quiet_before grammar meter cs middle quiet in
       subst (λ ys. Within n (piled (λ x. x) ys seen) (values_of grammar cs (value_of grammar c ∷ earlier))) (sym h.3)
       (trees_deep cs h.1 h.2 rest middle n (h.0 ∷ seen) (value_of grammar c ∷ earlier) h.5 quiet (omega (arith, kept, tree_kept c h.0 ts h.2 past h.4 here)) (omega (arith, kept, tree_deep c h.0 ts h.2 past h.4 here), parts))
 

@@ -1,11 +1,11 @@
 -- What each production of Ratfor makes of whole parts is whole: a computed GO TO has a label, and in a format only I, L, A and groups
 -- have counts, and A has a width of one.
-use Rattle.std.proofs.Common.{ℕ, arith, Bool, true, false, List, [], ◌∷◌, Option, Some, None, refl}
-use Rattle.std.specs.Prelude.{codes, ◌==◌, if◌then◌else◌}
+use Rattle.std.proofs.Common.{ℕ, arith, List, ◌∷◌, Option, Some, None, refl}
+use Rattle.std.specs.Prelude.{codes}
 use Rattle.ground.specs.declared.place.Place.{Place}
-use Rattle.f66_tree.specs.declared.editing.EditKind.TheVariants as edits
-use Rattle.f66_tree.specs.Fields.{Fields, Single, Takes, Blanks}
-use Rattle.f66_tree.specs.Syntax.{Text, Formula, Formulas, NoFormula, AndFormula, Read, Write, Par, Entries}
+use Rattle.f66_tree.specs.Fields.{Fields}
+use Rattle.f66_tree.specs.Syntax.{Text, Formula, Formulas, NoFormula, AndFormula, Read, Write}
+use Rattle.f66_tree.proofs.Tries.{if_both}
 use Rattle.rat_tree.specs.Syntax.{Command, Next, Break, Plain, Labelled, Commands, Clauses, RatRoutine}
 use Rattle.rat_parse_table.specs.declared.table.Production.{Production}
 use Rattle.rat_parse_table.specs.declared.table.Production.TheVariants as productions
@@ -20,6 +20,7 @@ use Rattle.rat_parse_control.specs.Statements.{conditional, repetition, with_own
 use Rattle.rat_parse.specs.Build.{build}
 use Rattle.rat_room.proofs.TreeWeights.{Each}
 use Rattle.rat_room.proofs.NineParts.{part_at}
+use Rattle.rat_room.proofs.BeforeOthers.{IsBare, looped_bare, lengthened_bare, pended_bare, begun_bare, counted_bare, word_holds}
 use Rattle.deck_laws.specs.Whole.{AreWholeFields, IsWhole}
 use Rattle.rat_shapes.proofs.Codes.{IfAny, AllFine, Holds, HoldIn, HoldAmong}
 
@@ -100,45 +101,20 @@ with_routine_whole _ us h all = all
 
 -- ---- what is made of parts ----
 
-chosen_field : (whole truth blanks : Bool) (n w : ℕ) (rest : Fields) → AreWholeFields rest →
-    AreWholeFields ((if whole then Single n (Takes edits.Whole w) else (if truth then Single n (Takes edits.Truth w) else (if blanks then Single 1 (Blanks n) else Single n (Takes edits.Letter 1)))) rest)
-chosen_field true truth blanks n w rest all = (tt, all)
-chosen_field false true blanks n w rest all = (tt, all)
-chosen_field false false true n w rest all = (refl, all)
-chosen_field false false false n w rest all = (refl, all)
-
 worded_whole : (n : ℕ) (x : Text) (rest : Fields) → AreWholeFields rest → AreWholeFields (operators.worded n x rest)
-worded_whole n [] rest all = (refl, all)
-worded_whole n (c ∷ ds) rest all = chosen_field (c == 73) (c == 76) (c == 88) n (operators.width ds) rest all
+worded_whole =
+    word_holds (λ d. (rest : Fields) → AreWholeFields rest → AreWholeFields (d rest)) (λ n w rest all. (tt, all)) (λ n w rest all. (tt, all)) (λ n rest all. (refl, all)) (λ n rest all. (refl, all))
 
 counted_field_whole : (n : ℕ) (v : Val) → IsWholePart v → (rest : Fields) → AreWholeFields rest → AreWholeFields (operators.counted_field n v rest)
 counted_field_whole n (val.transfer (part.fields fs)) h rest all = (h, all)
 counted_field_whole n v h rest all = worded_whole n (name_in v) rest all
 
-looped_whole : (v w : Val) → IsWholePart (operators.looped v w)
-looped_whole v (val.transfer (part.rest r)) = tt
-looped_whole v _ = tt
-
-lengthened_whole : (v w : Val) → IsWholePart (operators.lengthened v w)
-lengthened_whole v (val.transfer (part.rest r)) = tt
-lengthened_whole v _ = tt
-
-pended_whole : (args : Option (List Formula)) (v : Val) → IsWholePart (operators.pended args v)
-pended_whole args (val.transfer (part.rest r)) = tt
-pended_whole args _ = tt
-
-begun_whole : (x : Text) (v : Val) → IsWholePart (operators.begun x v)
-begun_whole x (val.parameter (part.range r)) = tt
-begun_whole x (val.transfer (part.pending args r)) = tt
-begun_whole x _ = tt
-
-datum_whole : (n v : Val) → IsWholePart (counted n v)
-datum_whole n (val.expression (part.formula f)) = tt
-datum_whole n _ = tt
-
-chosen_transfer : (b : Bool) (u : Par) (n : ℕ) (es : Entries) → IsWhole (if b then Read u n es else Write u n es)
-chosen_transfer true u n es = tt
-chosen_transfer false u n es = tt
+bare_whole : (v : Val) → IsBare v → IsWholePart v
+bare_whole (val.transfer (part.field d)) h = absurd h
+bare_whole (val.transfer (part.fields fs)) h = absurd h
+bare_whole (val.statement x) h = absurd h
+bare_whole (val.unit x) h = absurd h
+bare_whole _ h = tt
 
 conditional_whole : (p : Place) (f : Formula) (c : Command) (v : Val) → IsWholeCommand c → IsWholePart v → IsWholeCommand (conditional p f c v)
 conditional_whole p f c (val.statement (part.command q d)) h g = (tt, h, g)
@@ -157,10 +133,6 @@ marked_whole n p _ h = h
 labelled_whole : (n : ℕ) (v : Val) → IsWholePart v → IsWholePart (labelled_value n v)
 labelled_whole n (val.statement (part.command p c)) h = marked_whole n p c h
 labelled_whole n _ h = h
-
-chosen_leaving : (b : Bool) (p : Place) (n : ℕ) → IsWholeCommand (if b then Next p n else Break p n)
-chosen_leaving true p n = tt
-chosen_leaving false p n = tt
 
 typed_unit_whole : (w v : Val) (ss : Commands) → AreWholeCommands ss → AreWholeCommands (typed_unit w v ss).body
 typed_unit_whole w (val.unit (part.heading p h)) ss all = all
@@ -194,7 +166,8 @@ keeps productions.ForStatement vs e = (act_part_whole (at 6 vs) (whole_at 6 vs e
 keeps productions.RepeatStatement vs e = repetition_whole (place_in (at 2 vs)) (as_command (at 1 vs)) (at 0 vs) (command_whole (at 1 vs) (whole_at 1 vs e))
 keeps productions.DoStatement vs e = command_whole (at 0 vs) (whole_at 0 vs e)
 keeps productions.SwitchStatement vs e = (tt, clauses_whole (at 1 vs) (whole_at 1 vs e))
-keeps productions.LeaveStatement vs e = chosen_leaving (is_word (codes "NEXT") (at 2 vs)) (place_in (at 2 vs)) (count_or_one (at 1 vs))
+keeps productions.LeaveStatement vs e =
+    if_both IsWholeCommand (is_word (codes "NEXT") (at 2 vs)) (Next (place_in (at 2 vs)) (count_or_one (at 1 vs))) (Break (place_in (at 2 vs)) (count_or_one (at 1 vs))) tt tt
 keeps productions.ReturnStatement vs e = formula_any (formula_part (at 1 vs))
 keeps productions.PlainStatement vs e = act_whole (at 1 vs) (whole_at 1 vs e)
 keeps productions.Condition vs e = whole_at 1 vs e
@@ -202,18 +175,19 @@ keeps productions.MoreClauses vs e = with_clause_whole (at 1 vs) (as_clauses (at
 keeps productions.CaseClause vs e = λ all h. (formulas_any (chained (as_formula (at 3 vs) ∷ as_exprs (at 2 vs))), statements_whole (at 0 vs) (whole_at 0 vs e), h)
 keeps productions.DefaultClause vs e = λ all h. (tt, statements_whole (at 0 vs) (whole_at 0 vs e), h)
 keeps productions.GoPlain vs e = act_whole (at 0 vs) (whole_at 0 vs e)
-keeps productions.TransferPlain vs e = chosen_transfer (is_word (codes "READ") (at 6 vs)) (as_par (at 4 vs)) (number_in (at 2 vs)) (listed (as_entries (at 0 vs)))
+keeps productions.TransferPlain vs e =
+    if_both IsWhole (is_word (codes "READ") (at 6 vs)) (Read (as_par (at 4 vs)) (number_in (at 2 vs)) (listed (as_entries (at 0 vs)))) (Write (as_par (at 4 vs)) (number_in (at 2 vs)) (listed (as_entries (at 0 vs)))) tt tt
 keeps productions.FormatPlain vs e = fields_whole (at 1 vs) (whole_at 1 vs e)
 keeps productions.TwoWords vs e = whole_at 1 vs e
 keeps productions.GoToWords vs e = whole_at 1 vs e
 keeps productions.ComputedTarget vs e = omega arith
 keeps productions.LoopRange vs e = whole_at 1 vs e
-keeps productions.Loop vs e = looped_whole (at 2 vs) (at 0 vs)
-keeps productions.LoopLoop vs e = lengthened_whole (at 2 vs) (at 0 vs)
-keeps productions.LoopName vs e = begun_whole (name_in (at 1 vs)) (at 0 vs)
-keeps productions.LoopElement vs e = pended_whole (Some (as_exprs (at 2 vs))) (at 0 vs)
-keeps productions.LoopScalar vs e = pended_whole None (at 0 vs)
-keeps productions.NumberDatum vs e = datum_whole (at 1 vs) (at 0 vs)
+keeps productions.Loop vs e = bare_whole (operators.looped (at 2 vs) (at 0 vs)) (looped_bare (at 2 vs) (at 0 vs))
+keeps productions.LoopLoop vs e = bare_whole (operators.lengthened (at 2 vs) (at 0 vs)) (lengthened_bare (at 2 vs) (at 0 vs))
+keeps productions.LoopName vs e = bare_whole (operators.begun (name_in (at 1 vs)) (at 0 vs)) (begun_bare (name_in (at 1 vs)) (at 0 vs))
+keeps productions.LoopElement vs e = bare_whole (operators.pended (Some (as_exprs (at 2 vs))) (at 0 vs)) (pended_bare (Some (as_exprs (at 2 vs))) (at 0 vs))
+keeps productions.LoopScalar vs e = bare_whole (operators.pended None (at 0 vs)) (pended_bare None (at 0 vs))
+keeps productions.NumberDatum vs e = bare_whole (counted (at 1 vs) (at 0 vs)) (counted_bare (at 1 vs) (at 0 vs))
 keeps productions.EditFirst vs e = with_field_whole (at 1 vs) (as_fields (at 0 vs)) (whole_at 1 vs e) (fields_whole (at 0 vs) (whole_at 0 vs e))
 keeps productions.SlashFirst vs e = (refl, fields_whole (at 0 vs) (whole_at 0 vs e))
 keeps productions.EditSlash vs e = (refl, fields_whole (at 0 vs) (whole_at 0 vs e))
