@@ -18,7 +18,8 @@ use Rattle.rat_grammar.specs.Laws.{IsSome}
 use Rattle.efl_grammar.specs.Tokens.{name}
 use Rattle.efl_grammar.specs.Expressions as e
 use Rattle.efl_grammar.specs.Statements as s
-use Rattle.efl_grammar.proofs.Steps.{FoundPart, built, is_some, make, found_token, found_empty}
+use Rattle.rat_grammar.proofs.Derivations.{is_some}
+use Rattle.efl_grammar.proofs.Steps.{FoundPart, built, make, found_token, found_empty}
 use Rattle.efl_grammar.proofs.ExpressionsFound.{none, some, FoundPlace, named, found_name, place_part, found_place, found_expr, found_exprs, arguments, storing}
 
 -- an act, which begins with a name or a step

@@ -1,6 +1,19 @@
--- What each production reads.
+-- What each production reads, and so each derivation of the table.
+use Rattle.std.proofs.Common.{[], refl}
+use Rattle.grammar.specs.declared.language.Symbol.TheVariants.{Nonterminal}
+use Rattle.grammar.specs.Grammar.{IsProgram}
+use Rattle.efl_parse_table.specs.declared.table.Nonterminal.{Nonterminal as ANonterminal}
+use Rattle.efl_parse_table.specs.declared.table.Nonterminal.TheVariants as n
 use Rattle.efl_parse_table.specs.declared.table.Production.{Production}
 use Rattle.efl_parse_table.specs.declared.table.Production.TheVariants as p
+use Rattle.efl_parse_values.specs.Values.{Val}
+use Rattle.efl_parse.specs.Efl.{grammar}
+use Rattle.rat_grammar.specs.Tokens.{Tokens}
+use Rattle.rat_grammar.proofs.Derivations as derivations
+use Rattle.rat_grammar.proofs.Derivations.{Reads}
+use Rattle.efl_grammar.specs.Laws.{Found}
+use Rattle.efl_grammar.proofs.TokenLemmas.{Is, seen_is}
+use Rattle.efl_grammar.proofs.Readings.{reading}
 use Rattle.efl_grammar.proofs.Steps.{Step}
 use Rattle.efl_grammar.proofs.ExpressionsRead as expressions
 use Rattle.efl_grammar.proofs.DeclarationsRead as declarations
@@ -255,3 +268,9 @@ steps p.SomeNames = statements.some_names
 steps p.NoNames = statements.no_names
 steps p.MoreFormal = statements.more_formal
 steps p.NoMoreFormal = statements.no_more_formal
+
+pub part_read : {m : ANonterminal} {a b : Tokens} {v : Val} → Found (Nonterminal m) a b v → Reads (reading m) a b v
+part_read c = derivations.reads grammar reading Is seen_is steps (record { tree = c.tree; derives = c.derives; gives = c.gives })
+
+pub text_read : {ts : Tokens} {v : Val} → IsProgram grammar ts v → Reads (reading n.Program) ts [] v
+text_read = derivations.reads_whole grammar reading Is seen_is steps tt (λ k. refl)

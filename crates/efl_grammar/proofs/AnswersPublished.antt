@@ -1,40 +1,24 @@
 -- What is answered by the table's grammar is what is answered by the published one.
-use Rattle.std.proofs.Common.{◌≡◌, ◌∙◌, List, refl, sym}
+use Rattle.std.proofs.Common.{List, refl}
 use Rattle.std.specs.Prelude.{Result}
 use Rattle.ground.specs.declared.token.Token.{Token}
 use Rattle.ground.specs.declared.fault.Refusal.{Refusal}
-use Rattle.grammar.specs.Grammar.{IsProgram, EndsWith}
+use Rattle.grammar.specs.Grammar.{EndsWith}
 use Rattle.grammar.specs.Answers as table
 use Rattle.efl_tree.specs.declared.procedure.EflProgram as memory
-use Rattle.efl_tree.specs.Syntax.{EflProgram}
 use Rattle.efl_tree.specs.Views.{program_of}
-use Rattle.efl_parse_table.specs.declared.table.Nonterminal.TheVariants as n
 use Rattle.efl_parse_table.specs.Efl.{certificate}
 use Rattle.efl_parse_table.specs.Limits.{meter}
-use Rattle.efl_parse_values.specs.Values.{Val, program}
+use Rattle.efl_parse_values.specs.Values.{program}
 use Rattle.efl_parse.specs.Efl.{grammar, whole}
-use Rattle.efl_parse.proofs.OneTreeLemmas.{each_has_one}
 use Rattle.rat_grammar.specs.Tokens.{one}
 use Rattle.rat_grammar.specs.Relation.{EndsText}
-use Rattle.rat_grammar.proofs.Related.{HasSame, are_accepted, are_first}
+use Rattle.rat_grammar.proofs.Related.{are_accepted, are_first}
 use Rattle.rat_grammar.proofs.Related as related
 use Rattle.efl_grammar.specs.Programs.{Program}
 use Rattle.efl_grammar.specs.Answers.{Answers}
-use Rattle.efl_grammar.specs.Laws.{ProgramsArePublished, AnswersArePublished}
-use Rattle.efl_grammar.proofs.Readings.{reading}
-use Rattle.efl_grammar.proofs.Steps.{Reads, reads_whole}
-use Rattle.efl_grammar.proofs.AllSteps.{steps}
-use Rattle.efl_grammar.proofs.Published.{as_program, program_read, same_program}
-use Rattle.efl_grammar.proofs.ProgramsFound.{found_program}
-
-pub programs : ProgramsArePublished
-programs = record { read = program_read; found = λ ts r q. found_program q; one = λ ts r s q k. (each_has_one ts).tree r s (found_program q) (found_program k) }
-
-tree_of : (ts : List Token) (c : Val) → IsProgram grammar ts c → (r : EflProgram) × (program r ≡ c) × Program ts r
-tree_of ts c h = let r : Reads (reading n.Program) ts _ _ = reads_whole steps h.0 in (r.0, sym r.1 ∙ h.1, as_program ts r.0 r.2)
-
-same : HasSame Program grammar (λ r. program r)
-same = record { tree = tree_of; found = λ ts r q. found_program q; one = same_program }
+use Rattle.efl_grammar.specs.Laws.{AnswersArePublished}
+use Rattle.efl_grammar.proofs.Published.{same}
 
 pub are_published : AnswersArePublished
 are_published = record { accepted = are_accepted Program grammar meter (λ r. program r) same; faults = are_first Program grammar meter (λ r. program r) same }

@@ -8,7 +8,6 @@ use Rattle.efl_tree.specs.declared.declaration.EflBound.{EflBound}
 use Rattle.efl_tree.specs.declared.declaration.EflConst.{EflConst}
 use Rattle.efl_tree.specs.declared.declaration.EflConst.TheVariants as constants
 use Rattle.efl_tree.specs.Syntax.{Text, EflVar, EflType, EflGroups, EflPreset}
-use Rattle.grammar.specs.declared.language.Symbol.TheVariants.{Terminal}
 use Rattle.efl_parse_table.specs.declared.table.Terminal.TheVariants as t
 use Rattle.efl_parse_table.specs.declared.table.Nonterminal.TheVariants as n
 use Rattle.efl_parse_table.specs.declared.table.Production.TheVariants as p
@@ -20,12 +19,13 @@ use Rattle.rat_grammar.specs.Tokens.{Tokens, token, one, capitals, word, Lines, 
 use Rattle.rat_grammar.specs.Laws.{IsSome}
 use Rattle.efl_grammar.specs.Tokens.{name, Whole, natural}
 use Rattle.efl_grammar.specs.Declarations as d
-use Rattle.efl_grammar.specs.Laws.{Found}
-use Rattle.efl_grammar.proofs.Steps.{FoundPart, built, is_some, make, make_empty, found_token, found_empty, given}
+use Rattle.rat_grammar.proofs.LineLemmas.{stop_is_some}
+use Rattle.rat_grammar.proofs.Derivations.{is_some, given}
+use Rattle.efl_grammar.proofs.Steps.{FoundToken, FoundPart, FoundAs, built, make, make_empty, found_token, found_empty}
 use Rattle.efl_grammar.proofs.ExpressionsRead.{truth_is}
 use Rattle.efl_grammar.proofs.ExpressionsFound.{found_name, the_word, found_place, place_part}
 use Rattle.efl_grammar.proofs.DeclarationsRead.{type_is}
-use Rattle.efl_grammar.proofs.ListsFound.{FoundList, found_list}
+use Rattle.rat_grammar.proofs.ListsFound.{FoundList, found_list}
 
 -- ---- stops ----
 
@@ -38,12 +38,6 @@ found_stop (Stop.line one) = record { value = _; found = make p.EndingLine tt _ 
 found_stop (Stop.semicolon one) = record { value = _; found = make p.EndingSign tt _ _ _ (found_token t.Semicolon _ _ refl) }
 found_stop (Stop.brace one) = record { value = _; found = make_empty p.NoEnding refl _ refl }
 found_stop (Stop.end one) = record { value = _; found = make_empty p.NoEnding refl _ refl }
-
-pub stop_is_some : {a b : Tokens} → Stop a b → IsSome a
-stop_is_some (Stop.line one) = tt
-stop_is_some (Stop.semicolon one) = tt
-stop_is_some (Stop.brace one) = tt
-stop_is_some (Stop.end one) = tt
 
 -- ---- bounds and variables ----
 
@@ -72,14 +66,14 @@ no_more_bound : (a : Tokens) → IsSome a → FoundPart n.BoundMore a a (val.bou
 unfolding built
 no_more_bound a s = found_empty p.NoMoreBound refl (λ k. refl) s
 
-found_bounds : {a b : Tokens} {xs : List EflBound} → Listed d.Bound a b xs → IsSome b → FoundList (λ g h x. FoundPart n.Bound g h (val.bound x)) n.BoundMore (λ y. val.bounds y) a b xs
-found_bounds = found_list d.Bound (λ g h x. FoundPart n.Bound g h (val.bound x)) n.BoundMore (λ y. val.bounds y) found_bound more_bound no_more_bound
+found_bounds : {a b : Tokens} {xs : List EflBound} → Listed d.Bound a b xs → IsSome b → FoundList (FoundAs n.Bound (λ y. val.bound y)) (FoundAs n.BoundMore (λ y. val.bounds y)) a b xs
+found_bounds = found_list found_bound more_bound no_more_bound
 
 found_var : (a b : Tokens) (x : EflVar) → d.Var a b x → IsSome b → FoundPart n.Variable a b (val.var x)
 unfolding built
 found_var a b x (d.Var.name (name h)) s = make p.Variable tt _ _ _ (found_name _ _ _ h) _ _ (found_empty p.NoBounds refl (λ k. refl) s)
 found_var a b x (d.bounded (name {w = w} h) one bs one) s =
-    let all : FoundList _ _ _ _ _ _ = found_bounds bs tt in
+    let all : FoundList _ _ _ _ _ = found_bounds bs tt in
     given (ap (λ z. val.var (record { name = capitals w; bounds = z })) all.is)
     (make p.Variable tt _ _ _ (found_name _ _ _ h) _ _
     (make p.SomeBounds tt _ _ _ (found_token t.Open _ _ refl) _ _ all.found _ _ all.more _ _ (found_token t.Close _ _ refl)))
@@ -96,7 +90,7 @@ no_more_var a s = found_empty p.NoMoreVariable refl (λ k. refl) s
 pub found_vars : {a b : Tokens} {xs : List EflVar} → d.Vars a b xs → IsSome b → FoundPart n.Variables a b (val.vars xs)
 unfolding built
 found_vars vs s =
-    let all : FoundList _ _ _ _ _ _ = found_list d.Var (λ g h x. FoundPart n.Variable g h (val.var x)) n.VariableMore (λ y. val.vars y) found_var more_var no_more_var vs s in
+    let all : FoundList _ _ _ _ _ = found_list found_var more_var no_more_var vs s in
     given (ap (λ z. val.vars z) all.is) (make p.Variables tt _ _ _ all.found _ _ all.more)
 
 -- ---- types ----
@@ -154,7 +148,7 @@ minus_number : {a : Tokens} {q r : Place} {z : ℤ} →
 unfolding built
 minus_number = make p.SignedConstant tt _ _ _ (make p.MinusSign tt _ _ _ (found_token t.Minus _ _ refl)) _ _ (found_token t.Number _ _ refl)
 
-truth_constant : {a : Tokens} {w : Text} {q : Place} (v : Bool) → Found (Terminal t.Truth) (token (kinds.Word w) q ∷ a) a (tok (token (kinds.Word w) q)) → is_spelled (codes "TRUE") w ≡ v →
+truth_constant : {a : Tokens} {w : Text} {q : Place} (v : Bool) → FoundToken t.Truth (token (kinds.Word w) q ∷ a) a (tok (token (kinds.Word w) q)) → is_spelled (codes "TRUE") w ≡ v →
     FoundPart n.Unnumbered (token (kinds.Word w) q ∷ a) a (val.constant (constants.Truth v))
 unfolding built
 truth_constant v c h = given (ap (λ z. val.constant (constants.Truth z)) h) (make p.TruthConstant tt _ _ _ c)
@@ -193,7 +187,7 @@ unfolding built
 found_preset a b x (d.Preset.one q one c) s =
     make p.Preset tt _ _ _ (make p.WholePlace tt _ _ _ (place_part (found_place q tt))) _ _ (found_token t.Assign _ _ refl) _ _ (make p.OneValue tt _ _ _ (found_const c))
 found_preset a b x (d.Preset.several {s = u} q one one ms one) s =
-    let all : FoundList _ _ _ _ _ _ = found_list d.Many (λ g h y. FoundPart n.Many g h (val.datum y.0 y.1)) n.ManyMore (λ y. val.data_list y) found_many more_many no_more_many ms tt in
+    let all : FoundList _ _ _ _ _ = found_list found_many more_many no_more_many ms tt in
     given (ap (λ z. val.preset (record { place = u; values = z; listed = true })) all.is)
     (make p.Preset tt _ _ _ (make p.WholePlace tt _ _ _ (place_part (found_place q tt))) _ _ (found_token t.Assign _ _ refl) _ _
     (make p.ListedValues tt _ _ _ (found_token t.Open _ _ refl) _ _ all.found _ _ all.more _ _ (found_token t.Close _ _ refl)))

@@ -1,5 +1,5 @@
 -- What the table reads as a type or a declaration is one of the published grammar.
-use Rattle.std.proofs.Common.{◌≡◌, ◌∙◌, Bool, true, false, ℤ, List, [], ◌∷◌, None, Some, ◌⊎◌, inl, inr, refl, sym, subst, ap, if◌then◌else◌}
+use Rattle.std.proofs.Common.{◌≡◌, ◌∙◌, Bool, true, false, ℤ, List, [], ◌∷◌, None, Some, refl, sym, subst, ap, if◌then◌else◌}
 use Rattle.std.specs.Prelude.{codes}
 use Rattle.ground.specs.declared.place.Place.{Place}
 use Rattle.ground.specs.declared.token.Token.{Token}
@@ -19,13 +19,13 @@ use Rattle.efl_parse_values.specs.Values as val
 use Rattle.efl_parse_values.specs.Parts.{nowhere, name_in, letter_in, integer_in, is_true, upper_part, groups_part, constant_part, letter_part}
 use Rattle.efl_parse_expressions.specs.Declared.{signed, plain_type, bounded, letters, type_named, outlined, counted}
 use Rattle.rat_grammar.specs.Tokens.{Tokens, token, one, Number, Word, word, capitals, Listed, Lines, Stop, place_at}
-use Rattle.rat_grammar.proofs.TokenLemmas.{untrue, same}
 use Rattle.rat_grammar.proofs.LineLemmas.{joined_lines}
-use Rattle.rat_grammar.proofs.Readings.{Lined}
-use Rattle.rat_grammar.proofs.Taken.{exact, Either, first, second, sole, Choice, this, that, spelled}
+use Rattle.rat_grammar.proofs.Parts.{Lined}
+use Rattle.rat_grammar.proofs.Standing.{known, place_of, exact, sole, Either, first, second, word_of, spelled, Choice, this, that, choice}
+use Rattle.rat_grammar.proofs.ReservedWords.{untrue, same, is_other}
 use Rattle.efl_grammar.specs.Tokens.{Name, name, Natural, Whole, StopIfAny, ShapeStop}
 use Rattle.efl_grammar.specs.Declarations as d
-use Rattle.efl_grammar.proofs.TokenLemmas.{spelled_same, letter_by}
+use Rattle.efl_grammar.proofs.TokenLemmas.{Is, seen_is, letter_by}
 use Rattle.efl_grammar.proofs.Taken as taken
 use Rattle.efl_grammar.proofs.Steps.{Step, Allowed, built}
 use Rattle.efl_grammar.proofs.ExpressionsRead.{truth_is}
@@ -48,10 +48,9 @@ type_by long r x l = if r then Real long else (if x then Complex long else (if l
 pub type_is : (w x : Text) (q : Place) (long : Bool) → capitals w ≡ x →
     plain_type (tok (token (kinds.Word w) q)) long ≡ type_by long (same (codes "REAL") x) (same (codes "COMPLEX") x) (same (codes "LOGICAL") x)
 type_is w x q long h =
-    ap (λ r. type_by long r (is_spelled (codes "COMPLEX") w) (is_spelled (codes "LOGICAL") w)) (spelled_same (codes "REAL") w)
-    ∙ ap (λ r. type_by long (same (codes "REAL") (capitals w)) r (is_spelled (codes "LOGICAL") w)) (spelled_same (codes "COMPLEX") w)
-    ∙ ap (λ r. type_by long (same (codes "REAL") (capitals w)) (same (codes "COMPLEX") (capitals w)) r) (spelled_same (codes "LOGICAL") w)
-    ∙ ap (λ z. type_by long (same (codes "REAL") z) (same (codes "COMPLEX") z) (same (codes "LOGICAL") z)) h
+    ap (λ r. type_by long r (is_spelled (codes "COMPLEX") w) (is_spelled (codes "LOGICAL") w)) (is_other (codes "REAL") x w h)
+    ∙ ap (λ r. type_by long (same (codes "REAL") x) r (is_spelled (codes "LOGICAL") w)) (is_other (codes "COMPLEX") x w h)
+    ∙ ap (λ r. type_by long (same (codes "REAL") x) (same (codes "COMPLEX") x) r) (is_other (codes "LOGICAL") x w h)
 
 a_plain : {a b : Tokens} {y : Token} → Choice (codes "INTEGER") (codes "LOGICAL") a b y → d.BaseType a b (plain_type (tok y) false)
 a_plain (this (spelled {w = w} {p = q} {ts = ts} h)) =
@@ -114,18 +113,14 @@ shaped_variables w q r (Listed.last v) st = d.variables (d.shaped (d.structured 
 shaped_variables w q r (Listed.comma v s vs) st = d.variables (d.shaped (d.structured w q r)) (Listed.comma v s vs) st
 
 -- only a closing brace or the end of the text stands behind a stop that is left out
-ending_by : (k : Terminal) → allows p.NoEnding k ≡ true → (k ≡ t.CloseBrace) ⊎ (k ≡ t.TextEnd)
-ending_by t.CloseBrace h = inl refl
-ending_by t.TextEnd h = inr refl
-ending_by _ h = absurd (untrue h)
+ending_at : (k : Terminal) {y : Token} {ts : Tokens} → Is k y.kind → allows p.NoEnding k ≡ true → Stop (y ∷ ts) (y ∷ ts)
+ending_at t.CloseBrace q h = Stop.brace (sole (known q))
+ending_at t.TextEnd q h = Stop.end (sole (known q))
+ending_at _ q h = absurd (untrue h)
 
-ending_at : (y : Token) (ts : Tokens) → (seen y ≡ t.CloseBrace) ⊎ (seen y ≡ t.TextEnd) → Stop (y ∷ ts) (y ∷ ts)
-ending_at y ts (inl h) = Stop.brace (sole (taken.close_brace_sign (taken.taken {ts = ts} h)))
-ending_at y ts (inr h) = Stop.end (sole (taken.text_end (taken.taken {ts = ts} h)))
-
-no_ending_stop : (a : Tokens) → Allowed p.NoEnding a → Stop a a
-no_ending_stop [] h = absurd h
-no_ending_stop (y ∷ ts) h = ending_at y ts (ending_by (seen y) h)
+stop_here : (a : Tokens) → Allowed p.NoEnding a → Stop a a
+stop_here [] h = absurd h
+stop_here (y ∷ ts) h = ending_at (seen y) (seen_is y) h
 
 pub signed_integral : Step p.SignedIntegral
 unfolding built
@@ -137,15 +132,15 @@ plain_integral a h = λ y b r. (integer_in (tok y), refl, Whole.number (taken.nu
 
 pub ending_line : Step p.EndingLine
 unfolding built
-ending_line a h = λ y b r. (tok y, refl, Stop.line (sole (taken.line_end r)))
+ending_line a h = λ y b r. (tok y, refl, Stop.line (sole r))
 
 pub ending_sign : Step p.EndingSign
 unfolding built
-ending_sign a h = λ y b r. (tok y, refl, Stop.semicolon (sole (taken.semicolon r)))
+ending_sign a h = λ y b r. (tok y, refl, Stop.semicolon (sole r))
 
 pub no_ending : Step p.NoEnding
 unfolding built
-no_ending a h = (nothing, refl, no_ending_stop a h)
+no_ending a h = (nothing, refl, stop_here a h)
 
 pub some_ending : Step p.SomeEnding
 unfolding built
@@ -161,7 +156,7 @@ shape_ending a h = λ v b st. (v, refl, ShapeStop.shape_stop (no_name p.ShapeEnd
 
 pub star_bound : Step p.StarBound
 unfolding built
-star_bound a h = λ y b r. (record { low = None; high = None }, refl, d.star (sole (taken.star_sign r)))
+star_bound a h = λ y b r. (record { low = None; high = None }, refl, d.star (sole r))
 
 pub whole_bound : Step p.WholeBound
 unfolding built
@@ -169,7 +164,7 @@ whole_bound a h = λ z m c v b t. (bounded z (upper_part v), refl, t a z c)
 
 pub some_upper : Step p.SomeUpper
 unfolding built
-some_upper a h = λ y m r o b t. (val.upper o, refl, λ g z q. t g a z q (sole (taken.colon_sign r)))
+some_upper a h = λ y m r o b t. (val.upper o, refl, λ g z q. t g a z q (sole r))
 
 pub no_upper : Step p.NoUpper
 unfolding built
@@ -181,11 +176,11 @@ whole_upper a h = λ z b c. (Some z, refl, λ g k y q s. d.wholes q s c)
 
 pub star_upper : Step p.StarUpper
 unfolding built
-star_upper a h = λ y b r. (None, refl, λ g k z q s. d.whole_star q s (sole (taken.star_sign r)))
+star_upper a h = λ y b r. (None, refl, λ g k z q s. d.whole_star q s (sole r))
 
 pub more_bound : Step p.MoreBound
 unfolding built
-more_bound a h = λ y m r x k c xs b t. (x ∷ xs, refl, λ g z q. Listed.comma q (sole (taken.comma_sign r)) (t m x c))
+more_bound a h = λ y m r x k c xs b t. (x ∷ xs, refl, λ g z q. Listed.comma q (sole r) (t m x c))
 
 pub no_more_bound : Step p.NoMoreBound
 unfolding built
@@ -193,7 +188,7 @@ no_more_bound a h = ([], refl, λ g z q. Listed.last q)
 
 pub some_bounds : Step p.SomeBounds
 unfolding built
-some_bounds a h = λ y m r x k c xs j t z b s. (x ∷ xs, refl, λ g w q. d.bounded q (sole (taken.open_sign r)) (t m x c) (sole (taken.close_sign s)))
+some_bounds a h = λ y m r x k c xs j t z b s. (x ∷ xs, refl, λ g w q. d.bounded q (sole r) (t m x c) (sole s))
 
 pub no_bounds : Step p.NoBounds
 unfolding built
@@ -205,7 +200,7 @@ variable a h = λ y m r xs b t. (record { name = name_in (tok y); bounds = xs },
 
 pub more_variable : Step p.MoreVariable
 unfolding built
-more_variable a h = λ y m r x k c xs b t. (x ∷ xs, refl, λ g z q. Listed.comma q (sole (taken.comma_sign r)) (t m x c))
+more_variable a h = λ y m r x k c xs b t. (x ∷ xs, refl, λ g z q. Listed.comma q (sole r) (t m x c))
 
 pub no_more_variable : Step p.NoMoreVariable
 unfolding built
@@ -221,7 +216,7 @@ group a h = λ y m q vs k c v b st. ((y.1, vs, y.0), refl, (m, k, q.1, c, st, q.
 
 pub group_line : Step p.GroupLine
 unfolding built
-group_line a h = λ y m r gs b q. (gs, refl, lines_before_groups (Lines.line (sole (taken.line_end r)) Lines.none) q)
+group_line a h = λ y m r gs b q. (gs, refl, lines_before_groups (Lines.line (sole r) Lines.none) q)
 
 pub more_groups : Step p.MoreGroups
 unfolding built
@@ -233,7 +228,7 @@ no_group a h = (NoGroup, refl, (a, d.no_group, Lines.none))
 
 pub shape : Step p.Shape
 unfolding built
-shape a h = λ y m r gs k q z b s. (gs, refl, d.shape (sole (taken.open_brace_sign r)) q.1 q.2 (sole (taken.close_brace_sign s)))
+shape a h = λ y m r gs k q z b s. (gs, refl, d.shape (sole r) q.1 q.2 (sole s))
 
 pub basic_type : Step p.BasicType
 unfolding built
@@ -245,7 +240,7 @@ named_type a h = λ y b q. ((y.place, Named (name_in (tok y))), refl, (q.0, d.AT
 
 pub struct_type : Step p.StructType
 unfolding built
-struct_type a h = λ y m r z b t. ((y.place, z.1), refl, (taken.place_of r, t a (taken.struct_word r)))
+struct_type a h = λ y m r z b t. ((y.place, z.1), refl, (place_of r, t a (word_of r)))
 
 pub nameless_shape : Step p.NamelessShape
 unfolding built
@@ -265,15 +260,15 @@ no_shape a h = (nothing, refl, λ g h x w q. d.AType.named (d.NamedType.struct w
 
 pub plain_type_word : Step p.PlainType
 unfolding built
-plain_type_word a h = λ y b r. ((y.place, plain_type (tok y) false), refl, (taken.place_of r, a_plain (taken.plain_word r)))
+plain_type_word a h = λ y b r. ((y.place, plain_type (tok y) false), refl, (place_of r, a_plain (choice r)))
 
 pub floating_type_word : Step p.FloatingType
 unfolding built
-floating_type_word a h = λ y b r. ((y.place, plain_type (tok y) false), refl, (taken.place_of r, a_floating (taken.floating_word r)))
+floating_type_word a h = λ y b r. ((y.place, plain_type (tok y) false), refl, (place_of r, a_floating (choice r)))
 
 pub long_type : Step p.LongType
 unfolding built
-long_type a h = λ y m r z b s. ((y.place, plain_type (tok z) true), refl, (taken.place_of r, a_long (taken.long_word r) (taken.floating_word s)))
+long_type a h = λ y m r z b s. ((y.place, plain_type (tok z) true), refl, (place_of r, a_long (word_of r) (choice s)))
 
 pub number_constant : Step p.NumberConstant
 unfolding built
@@ -289,7 +284,7 @@ signed_constant a h = λ y m r z b c. (constants.Int (signed (tok y) (integer_in
 
 pub truth_constant : Step p.TruthConstant
 unfolding built
-truth_constant a h = λ y b r. (constants.Truth (is_true (tok y)), refl, a_truth (taken.truth r))
+truth_constant a h = λ y b r. (constants.Truth (is_true (tok y)), refl, a_truth (choice r))
 
 pub number_many : Step p.NumberMany
 unfolding built
@@ -301,7 +296,7 @@ other_many a h = λ c b q. ((1, c), refl, d.once q)
 
 pub repeated : Step p.Repeated
 unfolding built
-repeated a h = λ y m r c b q. (val.constant c, refl, λ g z k. d.repeated (Natural.natural (taken.number k)) (sole (taken.dollar_sign r)) q)
+repeated a h = λ y m r c b q. (val.constant c, refl, λ g z k. d.repeated (Natural.natural (taken.number k)) (sole r) q)
 
 pub once : Step p.Once
 unfolding built
@@ -309,7 +304,7 @@ once a h = (nothing, refl, λ g z k. d.once (d.Const.whole (Whole.number (taken.
 
 pub more_many : Step p.MoreMany
 unfolding built
-more_many a h = λ y m r x k c xs b t. (x ∷ xs, refl, λ g z q. Listed.comma q (sole (taken.comma_sign r)) (t m x c))
+more_many a h = λ y m r x k c xs b t. (x ∷ xs, refl, λ g z q. Listed.comma q (sole r) (t m x c))
 
 pub no_more_many : Step p.NoMoreMany
 unfolding built
@@ -321,15 +316,15 @@ one_value a h = λ c b q. ((false, (1, c) ∷ []), refl, λ g m s k w. d.Preset.
 
 pub listed_values : Step p.ListedValues
 unfolding built
-listed_values a h = λ y m r x k c xs j t z b s. ((true, x ∷ xs), refl, λ g i v q w. d.Preset.several q w (sole (taken.open_sign r)) (t m x c) (sole (taken.close_sign s)))
+listed_values a h = λ y m r x k c xs j t z b s. ((true, x ∷ xs), refl, λ g i v q w. d.Preset.several q w (sole r) (t m x c) (sole s))
 
 pub preset : Step p.Preset
 unfolding built
-preset a h = λ s m c y k r v b t. (record { place = s; values = v.1; listed = v.0 }, refl, t a m s c (sole (taken.assign_sign r)))
+preset a h = λ s m c y k r v b t. (record { place = s; values = v.1; listed = v.0 }, refl, t a m s c (sole r))
 
 pub more_preset : Step p.MorePreset
 unfolding built
-more_preset a h = λ y m r x k c xs b t. (x ∷ xs, refl, λ g z q. Listed.comma q (sole (taken.comma_sign r)) (t m x c))
+more_preset a h = λ y m r x k c xs b t. (x ∷ xs, refl, λ g z q. Listed.comma q (sole r) (t m x c))
 
 pub no_more_preset : Step p.NoMorePreset
 unfolding built
@@ -341,7 +336,7 @@ range a h = λ y m q v b t. (letters (letter_in (tok y)) (letter_part v), refl, 
 
 pub some_end : Step p.SomeEnd
 unfolding built
-some_end a h = λ y m r z b q. (tok z, refl, λ g x k. d.Range.both k (sole (taken.minus_sign r)) q.1.letter)
+some_end a h = λ y m r z b q. (tok z, refl, λ g x k. d.Range.both k (sole r) q.1.letter)
 
 pub no_end : Step p.NoEnd
 unfolding built
@@ -349,7 +344,7 @@ no_end a h = (nothing, refl, λ g x k. d.Range.one k)
 
 pub more_range : Step p.MoreRange
 unfolding built
-more_range a h = λ y m r x k c xs b t. (x ∷ xs, refl, λ g z q. Listed.comma q (sole (taken.comma_sign r)) (t m x c))
+more_range a h = λ y m r x k c xs b t. (x ∷ xs, refl, λ g z q. Listed.comma q (sole r) (t m x c))
 
 pub no_more_range : Step p.NoMoreRange
 unfolding built
@@ -361,11 +356,11 @@ base_declaration a h = λ y m q vs k c v b st. ((y.0, Variables None y.1 vs), re
 
 pub struct_declaration : Step p.StructDeclaration
 unfolding built
-struct_declaration a h = λ y m r k b t. ((y.place, k), refl, (taken.place_of r, t a (taken.struct_word r)))
+struct_declaration a h = λ y m r k b t. ((y.place, k), refl, (place_of r, t a (word_of r)))
 
 pub initial_declaration : Step p.InitialDeclaration
 unfolding built
-initial_declaration a h = λ y m r x k c xs j t v b st. ((y.place, Initial (x ∷ xs)), refl, (taken.place_of r, d.initial (taken.initial_word r) (t m x c) st))
+initial_declaration a h = λ y m r x k c xs j t v b st. ((y.place, Initial (x ∷ xs)), refl, (place_of r, d.initial (word_of r) (t m x c) st))
 
 pub shape_variables : Step p.ShapeVariables
 unfolding built
@@ -397,7 +392,7 @@ common_group a h = λ y b q. (val.group y.0 y.1 y.2, refl, λ g x c. d.OuterDecl
 
 pub common_list : Step p.CommonList
 unfolding built
-common_list a h = λ y m r gs k q z j s v b st. (val.groups gs, refl, λ g x c. d.common_list c (sole (taken.open_brace_sign r)) q.1 q.2 (sole (taken.close_brace_sign s)) st)
+common_list a h = λ y m r gs k q z j s v b st. (val.groups gs, refl, λ g x c. d.common_list c (sole r) q.1 q.2 (sole s) st)
 
 pub implicit_base : Step p.ImplicitBase
 unfolding built
@@ -409,7 +404,7 @@ implicit_name a h = λ y m q v b st. ((y.place, Named (name_in (tok y))), refl, 
 
 pub implicit_struct : Step p.ImplicitStruct
 unfolding built
-implicit_struct a h = λ y m r z b t. ((y.place, z.1), refl, λ g rs c. t g a rs c (taken.struct_word r))
+implicit_struct a h = λ y m r z b t. ((y.place, z.1), refl, λ g rs c. t g a rs c (word_of r))
 
 pub implicit_shape : Step p.ImplicitShape
 unfolding built

@@ -1,11 +1,7 @@
 -- Small texts and their trees.
-use Rattle.std.proofs.Common.{◌≡◌, ◌∙◌, Bool, false, refl, sym, ap}
+use Rattle.std.proofs.Common.{refl}
 use Rattle.std.specs.Prelude.{ℕ, pos, negsuc, true, [], ◌∷◌, Some, None, codes}
-use Rattle.ground.specs.declared.place.Place.{Place}
-use Rattle.ground.specs.declared.token.Token.{Token}
-use Rattle.ground.specs.declared.token.TokenKind.{TokenKind}
 use Rattle.ground.specs.declared.token.TokenKind.TheVariants as kinds
-use Rattle.ground.specs.declared.token.Sign.{Sign as ASign}
 use Rattle.ground.specs.declared.token.Sign.TheVariants as signs
 use Rattle.efl_tree.specs.declared.expression.EflOperator.TheVariants as operators
 use Rattle.efl_tree.specs.declared.declaration.EflConst.TheVariants as constants
@@ -13,32 +9,15 @@ use Rattle.efl_tree.specs.declared.statement.EflEdit.TheVariants as edits
 use Rattle.efl_tree.specs.declared.statement.LoopKind.TheVariants as loops
 use Rattle.efl_tree.specs.Syntax as efl
 use Rattle.efl_tree.specs.Syntax.{Text, EflExpr, EflPlace, Int, At, Call, Minus, Not, Pair, NoExpr, AndExpr, Path, NoStep, Member, Overlay, Named, NoGroup, AndGroup, EflKind, If, IfElse, NoStmt, AndStmt}
-use Rattle.rat_grammar.specs.Tokens.{Perhaps, Tokens, token, one, capitals, Word, word, Lines, Stop, Several, Listed, here as first, there as later}
+use Rattle.rat_grammar.specs.Tokens.{Perhaps, Tokens, one, word, Lines, Stop, Several, Listed, here as first, there as later}
 use Rattle.efl_grammar.specs.Tokens.{Name, name, Natural, Whole, StopIfAny, ShapeStop}
 use Rattle.efl_grammar.specs.Expressions as e
 use Rattle.efl_grammar.specs.Declarations as d
 use Rattle.efl_grammar.specs.Statements as s
 use Rattle.efl_grammar.specs.Programs as u
-use Rattle.rat_grammar.proofs.TokenLemmas.{untrue, same, same_self}
+use Rattle.rat_grammar.proofs.ExampleTokens.{here, at, w, sign, number, line, if_a, a_is, no_word}
 use Rattle.rat_grammar.proofs.LineLemmas.{no_line_at, follows_no}
-
-abbrev here : ℕ → Place
-here n = record { file = 0; line = n }
-
-abbrev at : ℕ → TokenKind → Token
-at n k = token k (here n)
-
-abbrev w : ℕ → Text → Token
-w n x = at n (kinds.Word x)
-
-abbrev sign : ℕ → ASign → Token
-sign n x = at n (kinds.Sign x)
-
-abbrev number : ℕ → ℕ → Token
-number n k = at n (kinds.Number (pos k))
-
-abbrev line : ℕ → Token
-line n = at n kinds.LineEnd
+use Rattle.efl_grammar.proofs.OuterFound.{line_no_name}
 
 -- ---- expressions ----
 
@@ -108,15 +87,8 @@ groups_a = AndGroup efl.Integer (record { name = codes "A"; bounds = [] } ∷ []
 a_shape : {ts : Tokens} → d.Shape (sign 1 signs.OpenBrace ∷ w 1 (codes "integer") ∷ w 1 (codes "a") ∷ sign 1 signs.CloseBrace ∷ ts) ts groups_a
 a_shape = d.shape one (d.group Lines.none (d.base (d.integer (word refl))) (Listed.last (d.Var.name (name refl))) (Stop.brace one) d.no_group) Lines.none one
 
-abbrev is_word : TokenKind → Bool
-is_word (kinds.Word x) = true
-is_word _ = false
-
-begins_with_word : {y : Token} {ts c : Tokens} {x : Text} → Name (y ∷ ts) c x → is_word y.kind ≡ true
-begins_with_word (name h) = refl
-
 no_name : {ts c : Tokens} {n : ℕ} {x : Text} → Name (line n ∷ ts) c x → ⊥
-no_name q = untrue (begins_with_word q)
+no_name q = line_no_name refl q
 
 -- struct s { integer a }
 structure : d.Declaration (shape_a (line 1 ∷ [])) [] (efl.Structure (codes "S") groups_a)
@@ -155,16 +127,6 @@ assigned st = s.act (e.stored a_place (first one) (expr_of (sum_of a_number))) s
 
 condition : {n : ℕ} {ts : Tokens} → e.Condition (sign n signs.Open ∷ w n (codes "a") ∷ sign n signs.Close ∷ ts) ts (At a)
 condition = e.condition one (expr_of (sum_of a_power)) one
-
--- another word
-no_word : {x : Text} {n : ℕ} {v : Text} {ts c : Tokens} → same x (capitals v) ≡ false → Word x (w n v ∷ ts) c → ⊥
-no_word {x} {v = v} g (word h) = untrue (sym g ∙ ap (same x) h ∙ same_self x)
-
-abbrev if_a : ℕ → Tokens → Tokens
-if_a n ts = w n (codes "if") ∷ sign n signs.Open ∷ w n (codes "a") ∷ sign n signs.Close ∷ ts
-
-abbrev a_is : ℕ → ℕ → Tokens → Tokens
-a_is n k ts = w n (codes "a") ∷ sign n signs.Assign ∷ number n k ∷ ts
 
 -- An else belongs to the nearest if, over the ends of lines:
 --   if (a)

@@ -6,28 +6,28 @@ use Rattle.ground.specs.declared.token.Token.{Token}
 use Rattle.ground.specs.declared.token.TokenKind.TheVariants as kinds
 use Rattle.ground.specs.declared.token.Sign.{Sign as ASign}
 use Rattle.ground.specs.declared.token.Sign.TheVariants as signs
-use Rattle.grammar.specs.declared.language.Symbol.TheVariants.{Terminal, Nonterminal}
 use Rattle.efl_tree.specs.declared.expression.EflOperator.{EflOperator}
 use Rattle.efl_tree.specs.declared.expression.EflOperator.TheVariants as operators
 use Rattle.efl_tree.specs.Syntax.{Text, EflExpr, Truth, At, Call, Pair, Assign, EflExprs, NoExpr, AndExpr, EflPlace, Path, EflSteps, NoStep}
-use Rattle.efl_parse_table.specs.declared.table.Terminal.{Terminal as ATerminal}
+use Rattle.efl_parse_table.specs.declared.table.Terminal.{Terminal}
 use Rattle.efl_parse_table.specs.declared.table.Terminal.TheVariants as t
 use Rattle.efl_parse_table.specs.declared.table.Nonterminal.TheVariants as n
 use Rattle.efl_parse_table.specs.declared.table.Production.TheVariants as p
 use Rattle.efl_parse_table.specs.Words.{reserved, terminal_in, is_spelled, is_letter, word_seen, seen, sign_terminal}
 use Rattle.efl_parse_values.specs.Kinds.{Joins, Tail, Reached, Stored}
-use Rattle.efl_parse_values.specs.Values.{tok, expr, exprs, joins, rest, path, steps}
+use Rattle.efl_parse_values.specs.Values.{Val, tok, expr, exprs, joins, rest, path, steps}
 use Rattle.efl_parse_values.specs.Parts.{sign_in, operator_of, bare}
 use Rattle.efl_parse_expressions.specs.Phrases.{joined, ended}
 use Rattle.rat_grammar.specs.Tokens.{Tokens, token, one, capitals, word, here, there}
 use Rattle.rat_grammar.specs.Laws.{IsSome}
-use Rattle.rat_grammar.proofs.TokenLemmas.{SignHere, stands, sign_here}
+use Rattle.rat_grammar.proofs.Parts.{Part}
+use Rattle.rat_grammar.proofs.Standing.{SignHere, stands, sign_here}
+use Rattle.rat_grammar.proofs.ReservedWords.{terminal_of}
 use Rattle.efl_grammar.specs.Tokens.{name}
 use Rattle.efl_grammar.specs.Expressions as e
-use Rattle.efl_grammar.specs.Laws.{Found}
-use Rattle.efl_grammar.proofs.TokenLemmas.{letter_by, terminal_named, word_seen_as}
-use Rattle.efl_grammar.proofs.Readings.{ASymbol}
-use Rattle.efl_grammar.proofs.Steps.{FoundPart, built, is_some, make, found_token, found_empty, given}
+use Rattle.efl_grammar.proofs.TokenLemmas.{letter_by, word_seen_as}
+use Rattle.rat_grammar.proofs.Derivations.{is_some, given}
+use Rattle.efl_grammar.proofs.Steps.{FoundToken, FoundPart, built, make, found_token, found_empty}
 use Rattle.efl_grammar.proofs.ExpressionsRead.{joined_append, joined_all, truth_is}
 
 -- ---- names and words ----
@@ -52,8 +52,8 @@ found_name (c ∷ []) q ts g = make p.LetterName tt _ _ _ (found_letter c q ts g
 found_name (c ∷ d ∷ ds) q ts g = make p.LongName tt _ _ _ (found_token t.Name _ _ (ap (λ o. word_seen o (c ∷ d ∷ ds)) g))
 
 -- a reserved word, where it stands
-pub the_word : (x : Text) (k : ATerminal) → terminal_named x ≡ Some k → {w : Text} {q : Place} {ts : Tokens} → capitals w ≡ x →
-    Found (Terminal k) (token (kinds.Word w) q ∷ ts) ts (tok (token (kinds.Word w) q))
+pub the_word : (x : Text) (k : Terminal) → terminal_of reserved x ≡ Some k → {w : Text} {q : Place} {ts : Tokens} → capitals w ≡ x →
+    FoundToken k (token (kinds.Word w) q ∷ ts) ts (tok (token (kinds.Word w) q))
 the_word x k e {w} h = found_token k _ _ (word_seen_as x k w h e)
 
 -- ---- tails that are empty ----
@@ -96,28 +96,28 @@ no_steps h = found_empty p.NoSteps refl (λ k. refl) h
 
 -- ---- operators ----
 
-pub record FoundOperator (x : ASymbol) (a b : Tokens) (o : EflOperator) : Type 0 where
+pub record FoundOperator (Found : Part Val) (a b : Tokens) (o : EflOperator) : Type 0 where
   pub token : Token
-  pub found : Found x a b (tok token)
+  pub found : Found a b (tok token)
   pub is : operator_of (sign_in (tok token)) ≡ o
 
 -- a sign that the table sees as this terminal stands for this operator
-abbrev IsFor : ATerminal → ASign → EflOperator → Type 0
+abbrev IsFor : Terminal → ASign → EflOperator → Type 0
 IsFor k s o = (sign_terminal s ≡ k) × (operator_of s ≡ o)
 
-operator_here : (k : ATerminal) {a b : Tokens} {o : EflOperator} → SignHere (IsFor k) a b o → FoundOperator (Terminal k) a b o
+operator_here : (k : Terminal) {a b : Tokens} {o : EflOperator} → SignHere (IsFor k) a b o → FoundOperator (FoundToken k) a b o
 operator_here k (stands one h) = record { token = _; found = found_token k _ _ h.0; is = h.1 }
 
-the_relation : {a b : Tokens} {o : EflOperator} → e.Relation a b o → FoundOperator (Terminal t.Relation) a b o
+the_relation : {a b : Tokens} {o : EflOperator} → e.Relation a b o → FoundOperator (FoundToken t.Relation) a b o
 the_relation r = operator_here t.Relation (sign_here (IsFor t.Relation) r ((refl, refl), ((refl, refl), ((refl, refl), ((refl, refl), ((refl, refl), ((refl, refl), tt)))))))
 
-the_and : {a b : Tokens} {o : EflOperator} → e.AndSign a b o → FoundOperator (Terminal t.And) a b o
+the_and : {a b : Tokens} {o : EflOperator} → e.AndSign a b o → FoundOperator (FoundToken t.And) a b o
 the_and r = operator_here t.And (sign_here (IsFor t.And) r ((refl, refl), ((refl, refl), tt)))
 
-the_or : {a b : Tokens} {o : EflOperator} → e.OrSign a b o → FoundOperator (Terminal t.Or) a b o
+the_or : {a b : Tokens} {o : EflOperator} → e.OrSign a b o → FoundOperator (FoundToken t.Or) a b o
 the_or r = operator_here t.Or (sign_here (IsFor t.Or) r ((refl, refl), ((refl, refl), tt)))
 
-the_adding : {a b : Tokens} {o : EflOperator} → e.AddSign a b o → FoundOperator (Nonterminal n.Adding) a b o
+the_adding : {a b : Tokens} {o : EflOperator} → e.AddSign a b o → FoundOperator (FoundPart n.Adding) a b o
 unfolding built
 the_adding (here one) = record { token = _; found = make p.PlusSign tt _ _ _ (found_token t.Plus _ _ refl); is = refl }
 the_adding (there (here one)) = record { token = _; found = make p.MinusSign tt _ _ _ (found_token t.Minus _ _ refl); is = refl }
@@ -199,7 +199,7 @@ call_operand {w = w} h = record {
       (make p.ExprOpen tt _ _ _ (found_token t.Open _ _ refl) _ _ (make p.ExprEmpty tt _ _ _ (found_token t.Close _ _ refl) _ _ m _ _ k)));
 }
 
-truth_operand : {a : Tokens} {w : Text} {q : Place} (v : Bool) → Found (Terminal t.Truth) (token (kinds.Word w) q ∷ a) a (tok (token (kinds.Word w) q)) → is_spelled (codes "TRUE") w ≡ v →
+truth_operand : {a : Tokens} {w : Text} {q : Place} (v : Bool) → FoundToken t.Truth (token (kinds.Word w) q ∷ a) a (tok (token (kinds.Word w) q)) → is_spelled (codes "TRUE") w ≡ v →
     FoundOperand (token (kinds.Word w) q ∷ a) a (Truth v)
 unfolding built
 truth_operand v c h = atom_operand (given (ap (λ z. expr (Truth z)) h) (make p.TruthAtom tt _ _ _ c))
@@ -294,21 +294,21 @@ times_tail {js = js} (here one) c k = given (ap (λ z. joins ((operators.Mul, z)
 times_tail {js = js} (there (here one)) c k = given (ap (λ z. joins ((operators.Div, z) ∷ js)) c.is) (make p.OverMore tt _ _ _ (found_token t.Slash _ _ refl) _ _ c.operand.prime _ _ c.tail _ _ k)
 times_tail (there (there h)) c k = elim h [ ]
 
-sum_tail : {a b c d : Tokens} {o : EflOperator} {x : EflExpr} {js : Joins} → FoundOperator (Nonterminal n.Adding) a b o → FoundTerm b c x → FoundPart n.SumTail c d (joins js) →
+sum_tail : {a b c d : Tokens} {o : EflOperator} {x : EflExpr} {js : Joins} → FoundOperator (FoundPart n.Adding) a b o → FoundTerm b c x → FoundPart n.SumTail c d (joins js) →
     FoundPart n.SumTail a d (joins ((o, x) ∷ js))
 unfolding built
 sum_tail s c k = given (joins_is s.is c.is) (make p.SumMore tt _ _ _ s.found _ _ c.unary.unary _ _ c.tail _ _ k)
 
-compared_tail : {a b c : Tokens} {o : EflOperator} {x : EflExpr} → FoundOperator (Terminal t.Relation) a b o → FoundSum b c x → FoundPart n.RelationTail a c (joins ((o, x) ∷ []))
+compared_tail : {a b c : Tokens} {o : EflOperator} {x : EflExpr} → FoundOperator (FoundToken t.Relation) a b o → FoundSum b c x → FoundPart n.RelationTail a c (joins ((o, x) ∷ []))
 unfolding built
 compared_tail s c = given (joins_is s.is (sum_is c)) (make p.Compared tt _ _ _ s.found _ _ c.term.unary.unary _ _ c.term.tail _ _ c.tail)
 
-and_tail : {a b c d : Tokens} {o : EflOperator} {x : EflExpr} {js : Joins} → FoundOperator (Terminal t.And) a b o → FoundNeg b c x → FoundPart n.AndTail c d (joins js) →
+and_tail : {a b c d : Tokens} {o : EflOperator} {x : EflExpr} {js : Joins} → FoundOperator (FoundToken t.And) a b o → FoundNeg b c x → FoundPart n.AndTail c d (joins js) →
     FoundPart n.AndTail a d (joins ((o, x) ∷ js))
 unfolding built
 and_tail {x = x} {js = js} s c k = given (joins_is s.is refl) (make p.AndMore tt _ _ _ s.found _ _ (neg_part c) _ _ k)
 
-or_tail : {a b c d : Tokens} {o : EflOperator} {x : EflExpr} {js : Joins} → FoundOperator (Terminal t.Or) a b o → FoundConj b c x → FoundPart n.OrTail c d (joins js) →
+or_tail : {a b c d : Tokens} {o : EflOperator} {x : EflExpr} {js : Joins} → FoundOperator (FoundToken t.Or) a b o → FoundConj b c x → FoundPart n.OrTail c d (joins js) →
     FoundPart n.OrTail a d (joins ((o, x) ∷ js))
 unfolding built
 or_tail s c k = given (joins_is s.is c.is) (make p.OrMore tt _ _ _ s.found _ _ (neg_part c.neg) _ _ c.tail _ _ k)

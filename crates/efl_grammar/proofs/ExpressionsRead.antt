@@ -12,10 +12,10 @@ use Rattle.efl_parse_values.specs.Values.{tok}
 use Rattle.efl_parse_values.specs.Parts.{name_in, integer_in, sign_in, is_true, operator_of, bare}
 use Rattle.efl_parse_expressions.specs.Phrases.{joined, joint, with_steps, with_arguments, completed, signed_expr, stepped}
 use Rattle.rat_grammar.specs.Tokens.{Tokens, token, one, capitals, word, here, there}
-use Rattle.rat_grammar.proofs.TokenLemmas.{same}
-use Rattle.rat_grammar.proofs.Taken.{Exact, exact, Either, first, second, sole, Choice, this, that, spelled}
+use Rattle.rat_grammar.proofs.Standing.{place_of, Exact, exact, exactly, sole, Either, first, second, either, spelled, Choice, this, that, choice}
+use Rattle.rat_grammar.proofs.ReservedWords.{same, is_other}
 use Rattle.efl_grammar.specs.Expressions as e
-use Rattle.efl_grammar.proofs.TokenLemmas.{spelled_same}
+use Rattle.efl_grammar.proofs.TokenLemmas.{AnAssign}
 use Rattle.efl_grammar.proofs.Taken as taken
 use Rattle.efl_grammar.proofs.Steps.{Step, built}
 
@@ -52,7 +52,7 @@ a_step (second exact) c = e.down one c
 
 -- whether a word is `true`
 pub truth_is : (w : List ℕ) (x : List ℕ) → capitals w ≡ x → same (codes "TRUE") x ≡ is_spelled (codes "TRUE") w
-truth_is w x h = ap (same (codes "TRUE")) (sym h) ∙ sym (spelled_same (codes "TRUE") w)
+truth_is w x h = sym (is_other (codes "TRUE") x w h)
 
 a_truth : {a b : Tokens} {y : Token} → Choice (codes "TRUE") (codes "FALSE") a b y → e.Operand a b (Truth (is_true (tok y)))
 a_truth (this (spelled {w = w} {p = q} {ts = ts} h)) = subst (λ v. e.Operand (token (kinds.Word w) q ∷ ts) ts (Truth v)) (truth_is w (codes "TRUE") h) (e.truth (word h))
@@ -84,7 +84,7 @@ negated_expr a h = λ f m c js k t ks b u. (joined (joined f js) ks, refl, e.dis
 
 pub expr_open : Step p.ExprOpen
 unfolding built
-expr_open a h = λ y m r q b t. (q, refl, λ g x k. t g a x k (sole (taken.open_sign r)))
+expr_open a h = λ y m r q b t. (q, refl, λ g x k. t g a x k (sole r))
 
 pub expr_place : Step p.ExprPlace
 unfolding built
@@ -96,12 +96,12 @@ expr_empty a h = λ y m r js k t ks b u. (
   bare (Called (js ++ ks)),
   refl,
   λ g h x q o. subst (λ f. e.Expr g b f) (sym (joined_append (Call x NoExpr) js ks))
-      (e.disj (u g (joined (Call x NoExpr) js) (e.power (t g (Call x NoExpr) (e.call q o (sole (taken.close_sign r))))))),
+      (e.disj (u g (joined (Call x NoExpr) js) (e.power (t g (Call x NoExpr) (e.call q o (sole r)))))),
 )
 
 pub expr_full : Step p.ExprFull
 unfolding built
-expr_full a h = λ es m c y k r ss j d z b t. (with_arguments es (with_steps ss (bare z)), refl, λ g h x q o. t g x es ss (e.path q (e.some_subs (e.subs o c (sole (taken.close_sign r)))) d))
+expr_full a h = λ es m c y k r ss j d z b t. (with_arguments es (with_steps ss (bare z)), refl, λ g h x q o. t g x es ss (e.path q (e.some_subs (e.subs o c (sole r))) d))
 
 pub expr_stored : Step p.ExprStored
 unfolding built
@@ -128,7 +128,7 @@ after_factor a h = λ js i t ks j s ls k r ms m c ns b o. (
 
 pub or_more : Step p.OrMore
 unfolding built
-or_more a h = λ y m r f k c js l t ks b u. (joint (tok y) (joined f js) ∷ ks, refl, λ s x q. u s (Pair (operator_of (sign_in (tok y))) x (joined f js)) (e.or q (taken.or_sign r) (t m f (e.neg c))))
+or_more a h = λ y m r f k c js l t ks b u. (joint (tok y) (joined f js) ∷ ks, refl, λ s x q. u s (Pair (operator_of (sign_in (tok y))) x (joined f js)) (e.or q (taken.operator e.OrSign r) (t m f (e.neg c))))
 
 pub or_done : Step p.OrDone
 unfolding built
@@ -136,7 +136,7 @@ or_done a h = ([], refl, λ s x g. g)
 
 pub and_more : Step p.AndMore
 unfolding built
-and_more a h = λ y m r f k c js b t. (joint (tok y) f ∷ js, refl, λ s x q. t s (Pair (operator_of (sign_in (tok y))) x f) (e.and q (taken.and_sign r) c))
+and_more a h = λ y m r f k c js b t. (joint (tok y) f ∷ js, refl, λ s x q. t s (Pair (operator_of (sign_in (tok y))) x f) (e.and q (taken.operator e.AndSign r) c))
 
 pub and_done : Step p.AndDone
 unfolding built
@@ -152,11 +152,11 @@ affirmed a h = λ f m c js k t ks l s ls b r. (joined (joined (joined f js) ks) 
 
 pub negated : Step p.Negated
 unfolding built
-negated a h = λ y m r f b c. (Not f, refl, e.not (sole (taken.not_sign r)) c)
+negated a h = λ y m r f b c. (Not f, refl, e.not (sole r) c)
 
 pub compared : Step p.Compared
 unfolding built
-compared a h = λ y m r f k c js l t ks b s. (joint (tok y) (joined (joined f js) ks) ∷ [], refl, λ g x q. e.compared q (taken.relation r) (s m (joined f js) (e.term (t m f (e.unary c)))))
+compared a h = λ y m r f k c js l t ks b s. (joint (tok y) (joined (joined f js) ks) ∷ [], refl, λ g x q. e.compared q (taken.operator e.Relation r) (s m (joined f js) (e.term (t m f (e.unary c)))))
 
 pub not_compared : Step p.NotCompared
 unfolding built
@@ -172,11 +172,11 @@ sum_done a h = ([], refl, λ s x g. g)
 
 pub times_more : Step p.TimesMore
 unfolding built
-times_more a h = λ y m r f k c js l t ks b s. (joint (tok y) (joined f js) ∷ ks, refl, λ g x q. s g (Pair (operator_of (sign_in (tok y))) x (joined f js)) (e.times q (star (taken.star_sign r)) (t m f c)))
+times_more a h = λ y m r f k c js l t ks b s. (joint (tok y) (joined f js) ∷ ks, refl, λ g x q. s g (Pair (operator_of (sign_in (tok y))) x (joined f js)) (e.times q (star (exactly r)) (t m f c)))
 
 pub over_more : Step p.OverMore
 unfolding built
-over_more a h = λ y m r f k c js l t ks b s. (joint (tok y) (joined f js) ∷ ks, refl, λ g x q. s g (Pair (operator_of (sign_in (tok y))) x (joined f js)) (e.times q (slash (taken.slash_sign r)) (t m f c)))
+over_more a h = λ y m r f k c js l t ks b s. (joint (tok y) (joined f js) ∷ ks, refl, λ g x q. s g (Pair (operator_of (sign_in (tok y))) x (joined f js)) (e.times q (slash (exactly r)) (t m f c)))
 
 pub term_done : Step p.TermDone
 unfolding built
@@ -184,7 +184,7 @@ term_done a h = ([], refl, λ s x g. g)
 
 pub raised : Step p.Raised
 unfolding built
-raised a h = λ y m r f k c js b t. (joint (tok y) (joined f js) ∷ [], refl, λ g x q. power_with q (taken.power_sign r) (t m f c))
+raised a h = λ y m r f k c js b t. (joint (tok y) (joined f js) ∷ [], refl, λ g x q. power_with q (exactly r) (t m f c))
 
 pub not_raised : Step p.NotRaised
 unfolding built
@@ -204,7 +204,7 @@ signed a h = λ y m r f b c. (signed_expr (tok y) f, refl, signed_unary r c)
 
 pub stepped_place : Step p.Stepped
 unfolding built
-stepped_place a h = λ y m r s b c. (stepped (tok y) s, refl, e.step (a_step (taken.stepper r) c))
+stepped_place a h = λ y m r s b c. (stepped (tok y) s, refl, e.step (a_step (either r) c))
 
 pub atom_prime : Step p.AtomPrime
 unfolding built
@@ -220,15 +220,15 @@ number_atom a h = λ y b r. (Int (integer_in (tok y)), refl, e.number (taken.num
 
 pub truth_atom : Step p.TruthAtom
 unfolding built
-truth_atom a h = λ y b r. (Truth (is_true (tok y)), refl, a_truth (taken.truth r))
+truth_atom a h = λ y b r. (Truth (is_true (tok y)), refl, a_truth (choice r))
 
 pub group_atom : Step p.GroupAtom
 unfolding built
-group_atom a h = λ y m r f k c z b s. (Group f, refl, e.group (sole (taken.open_sign r)) c (sole (taken.close_sign s)))
+group_atom a h = λ y m r f k c z b s. (Group f, refl, e.group (sole r) c (sole s))
 
 pub prime_open : Step p.PrimeOpen
 unfolding built
-prime_open a h = λ y m r q b t. (q, refl, λ g x k. t g a x k (sole (taken.open_sign r)))
+prime_open a h = λ y m r q b t. (q, refl, λ g x k. t g a x k (sole r))
 
 pub prime_place : Step p.PrimePlace
 unfolding built
@@ -236,11 +236,11 @@ prime_place a h = λ ss b c. (with_steps ss (bare (Reached [])), refl, λ g x q.
 
 pub prime_empty : Step p.PrimeEmpty
 unfolding built
-prime_empty a h = λ y b r. (bare (Called []), refl, λ g h x q o. e.call q o (sole (taken.close_sign r)))
+prime_empty a h = λ y b r. (bare (Called []), refl, λ g h x q o. e.call q o (sole r))
 
 pub prime_full : Step p.PrimeFull
 unfolding built
-prime_full a h = λ es m c y k r ss b d. (with_arguments es (with_steps ss (bare (Reached []))), refl, λ g h x q o. e.place (e.path q (e.some_subs (e.subs o c (sole (taken.close_sign r)))) d))
+prime_full a h = λ es m c y k r ss b d. (with_arguments es (with_steps ss (bare (Reached []))), refl, λ g h x q o. e.place (e.path q (e.some_subs (e.subs o c (sole r))) d))
 
 pub arguments : Step p.Arguments
 unfolding built
@@ -248,7 +248,7 @@ arguments a h = λ f m c es b t. (AndExpr f es, refl, t a f c)
 
 pub more_expr : Step p.MoreExpr
 unfolding built
-more_expr a h = λ y m r f k c es b t. (AndExpr f es, refl, λ g x q. e.comma q (sole (taken.comma_sign r)) (t m f c))
+more_expr a h = λ y m r f k c es b t. (AndExpr f es, refl, λ g x q. e.comma q (sole r) (t m f c))
 
 pub no_more_expr : Step p.NoMoreExpr
 unfolding built
@@ -260,7 +260,7 @@ place a h = λ y m r es k s ss b c. (Path (name_in (tok y)) es ss, refl, e.path 
 
 pub some_subscripts : Step p.SomeSubscripts
 unfolding built
-some_subscripts a h = λ y m r es k c z b s. (es, refl, e.some_subs (e.subs (sole (taken.open_sign r)) c (sole (taken.close_sign s))))
+some_subscripts a h = λ y m r es k c z b s. (es, refl, e.some_subs (e.subs (sole r) c (sole s)))
 
 pub no_subscripts : Step p.NoSubscripts
 unfolding built
@@ -268,11 +268,11 @@ no_subscripts a h = (NoExpr, refl, e.no_subs)
 
 pub member_step : Step p.MemberStep
 unfolding built
-member_step a h = λ y m r z k x es j s ss b c. (Member (name_in (tok z)) es ss, refl, e.member (sole (taken.point_sign r)) x.1 s c)
+member_step a h = λ y m r z k x es j s ss b c. (Member (name_in (tok z)) es ss, refl, e.member (sole r) x.1 s c)
 
 pub overlay_step : Step p.OverlayStep
 unfolding built
-overlay_step a h = λ y m r z k x ss b c. (Overlay (name_in (tok z)) ss, refl, e.overlay (sole (taken.arrow_sign r)) x.1 c)
+overlay_step a h = λ y m r z k x ss b c. (Overlay (name_in (tok z)) ss, refl, e.overlay (sole r) x.1 c)
 
 pub no_steps : Step p.NoSteps
 unfolding built
@@ -280,23 +280,23 @@ no_steps a h = (NoStep, refl, e.no_step)
 
 pub plain_storing : Step p.PlainStoring
 unfolding built
-plain_storing a h = λ y m r f b c. ((None, f), refl, (m, here (sole (taken.assign_sign r)), c))
+plain_storing a h = λ y m r f b c. ((None, f), refl, (m, here (sole r), c))
 
 pub operator_storing : Step p.OperatorStoring
 unfolding built
-operator_storing a h = λ y m r f b c. ((Some (operator_of (sign_in (tok y))), f), refl, (m, taken.operator_assign r, c))
+operator_storing a h = λ y m r f b c. ((Some (operator_of (sign_in (tok y))), f), refl, (m, taken.operator AnAssign r, c))
 
 pub plus_sign : Step p.PlusSign
 unfolding built
-plus_sign a h = λ y b r. (y, refl, first (taken.plus_sign r))
+plus_sign a h = λ y b r. (y, refl, first (exactly r))
 
 pub minus_sign : Step p.MinusSign
 unfolding built
-minus_sign a h = λ y b r. (y, refl, second (taken.minus_sign r))
+minus_sign a h = λ y b r. (y, refl, second (exactly r))
 
 pub long_name : Step p.LongName
 unfolding built
-long_name a h = λ y b r. (y, refl, (taken.place_of r, taken.long_name r))
+long_name a h = λ y b r. (y, refl, (place_of r, taken.long_name r))
 
 pub letter_name : Step p.LetterName
 unfolding built
@@ -304,16 +304,16 @@ letter_name a h = λ y b r. (y, refl, (r.0, r.1.name))
 
 pub plain_letter : Step p.PlainLetter
 unfolding built
-plain_letter a h = λ y b r. (y, refl, (taken.place_of r, taken.plain_letter r))
+plain_letter a h = λ y b r. (y, refl, (place_of r, taken.plain_letter r))
 
 pub width_letter : Step p.WidthLetter
 unfolding built
-width_letter a h = λ y b r. (y, refl, (taken.place_of r, taken.width_letter r))
+width_letter a h = λ y b r. (y, refl, (place_of r, taken.width_letter r))
 
 pub char_letter : Step p.CharLetter
 unfolding built
-char_letter a h = λ y b r. (y, refl, (taken.place_of r, taken.char_letter r))
+char_letter a h = λ y b r. (y, refl, (place_of r, taken.char_letter r))
 
 pub skip_letter : Step p.SkipLetter
 unfolding built
-skip_letter a h = λ y b r. (y, refl, (taken.place_of r, taken.skip_letter r))
+skip_letter a h = λ y b r. (y, refl, (place_of r, taken.skip_letter r))

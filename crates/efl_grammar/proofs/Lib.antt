@@ -10,7 +10,6 @@ mod StatementsRead
 mod AllSteps
 pub mod ProcedureRead
 mod ExpressionsFound
-mod ListsFound
 mod DeclarationsFound
 mod OuterFound
 mod ActsFound

@@ -22,15 +22,18 @@ use Rattle.efl_parse_expressions.specs.Declared.{outlined}
 use Rattle.efl_parse_statements.specs.Lists.{shared}
 use Rattle.rat_grammar.specs.Tokens.{Tokens, token, one, capitals, word, Stop, place_at, Listed}
 use Rattle.rat_grammar.specs.Laws.{IsSome}
-use Rattle.rat_grammar.proofs.TokenLemmas.{untrue}
-use Rattle.rat_grammar.proofs.Taken.{sole}
+use Rattle.rat_grammar.proofs.LineLemmas.{stop_is_some}
+use Rattle.rat_grammar.proofs.Standing.{known, sole}
+use Rattle.rat_grammar.proofs.ReservedWords.{untrue}
 use Rattle.efl_grammar.specs.Tokens.{Name, name, StopIfAny, ShapeStop}
 use Rattle.efl_grammar.specs.Declarations as d
+use Rattle.efl_grammar.proofs.TokenLemmas.{Is, seen_is}
 use Rattle.efl_grammar.proofs.Taken as taken
-use Rattle.efl_grammar.proofs.Steps.{FoundPart, Allowed, built, is_some, make, make_at, make_empty, found_token, found_empty, given}
+use Rattle.rat_grammar.proofs.Derivations.{is_some, given}
+use Rattle.efl_grammar.proofs.Steps.{FoundPart, Allowed, built, make, make_at, make_empty, found_token, found_empty}
 use Rattle.efl_grammar.proofs.ExpressionsFound.{found_letter, found_name, the_word}
-use Rattle.efl_grammar.proofs.DeclarationsFound.{FoundStop, found_stop, stop_is_some, found_vars, found_base, found_type, found_shape, found_groups, found_preset}
-use Rattle.efl_grammar.proofs.ListsFound.{FoundList, found_list}
+use Rattle.efl_grammar.proofs.DeclarationsFound.{FoundStop, found_stop, found_vars, found_base, found_type, found_shape, found_groups, found_preset}
+use Rattle.rat_grammar.proofs.ListsFound.{FoundList, found_list}
 
 -- ---- ranges of letters ----
 
@@ -83,18 +86,16 @@ no_more_preset a s = found_empty p.NoMorePreset refl (λ k. refl) s
 
 -- ---- stops that may be missing ----
 
-no_loose_by : (k : Terminal) → (k ≡ t.LineEnd → ⊥) → (k ≡ t.Semicolon → ⊥) → (k ≡ t.CloseBrace → ⊥) → (k ≡ t.TextEnd → ⊥) → allows p.NoLooseEnding k ≡ true
-no_loose_by t.LineEnd f g h k = absurd (f refl)
-no_loose_by t.Semicolon f g h k = absurd (g refl)
-no_loose_by t.CloseBrace f g h k = absurd (h refl)
-no_loose_by t.TextEnd f g h k = absurd (k refl)
-no_loose_by _ f g h k = refl
+no_loose_by : (k : Terminal) (y : Token) (ts : Tokens) → Is k y.kind → ((b : Tokens) → Stop (y ∷ ts) b → ⊥) → allows p.NoLooseEnding k ≡ true
+no_loose_by t.LineEnd y ts q h = absurd (h ts (Stop.line (sole (known q))))
+no_loose_by t.Semicolon y ts q h = absurd (h ts (Stop.semicolon (sole (known q))))
+no_loose_by t.CloseBrace y ts q h = absurd (h (y ∷ ts) (Stop.brace (sole (known {ts = ts} q))))
+no_loose_by t.TextEnd y ts q h = absurd (h (y ∷ ts) (Stop.end (sole (known {ts = ts} q))))
+no_loose_by _ y ts q h = refl
 
 allowed_no_loose : (a : Tokens) → IsSome a → ((b : Tokens) → Stop a b → ⊥) → Allowed p.NoLooseEnding a
 allowed_no_loose [] s h = s
-allowed_no_loose (y ∷ ts) s h =
-    no_loose_by (seen y) (λ g. h ts (Stop.line (sole (taken.line_end (taken.taken g))))) (λ g. h ts (Stop.semicolon (sole (taken.semicolon (taken.taken g)))))
-    (λ g. h (y ∷ ts) (Stop.brace (sole (taken.close_brace_sign (taken.taken {ts = ts} g))))) (λ g. h (y ∷ ts) (Stop.end (sole (taken.text_end (taken.taken {ts = ts} g)))))
+allowed_no_loose (y ∷ ts) s h = no_loose_by (seen y) y ts (seen_is y) h
 
 record FoundLoose (m : Nonterminal) (a b : Tokens) : Type 0 where
   value : Val
@@ -104,51 +105,30 @@ found_loose : {a b : Tokens} → StopIfAny a b → IsSome b → FoundLoose n.Loo
 found_loose (StopIfAny.stop st) s = let z : FoundStop _ _ = found_stop st in record { value = _; found = make p.SomeEnding tt _ _ _ z.found }
 found_loose {a} (StopIfAny.none h) s = record { value = _; found = make_empty p.NoLooseEnding refl a (allowed_no_loose a s h) }
 
-abbrev NoName : Terminal → Type 0
-NoName k = (k ≡ t.Name → ⊥) × (k ≡ t.Letter → ⊥) × (k ≡ t.WidthLetter → ⊥) × (k ≡ t.CharLetter → ⊥) × (k ≡ t.SkipLetter → ⊥)
+abbrev NoName : Tokens → Type 0
+NoName a = (c : Tokens) (x : Text) → Name a c x → ⊥
 
-shape_ending_by : (k : Terminal) → NoName k → allows p.ShapeEnding k ≡ true
-shape_ending_by t.Name h = absurd (h.0 refl)
-shape_ending_by t.Letter h = absurd (h.1 refl)
-shape_ending_by t.WidthLetter h = absurd (h.2 refl)
-shape_ending_by t.CharLetter h = absurd (h.3 refl)
-shape_ending_by t.SkipLetter h = absurd (h.4 refl)
-shape_ending_by _ h = refl
+no_name_by : (k : Terminal) (y : Token) (ts : Tokens) → Is k y.kind → NoName (y ∷ ts) → (allows p.ShapeEnding k ≡ true) × (allows p.ShapeAlone k ≡ true)
+no_name_by t.Name y ts q h = absurd (h ts (name_in (tok y)) (taken.long_name (known q)))
+no_name_by t.Letter y ts q h = absurd (h ts (name_in (tok y)) (taken.plain_letter (known q)).name)
+no_name_by t.WidthLetter y ts q h = absurd (h ts (name_in (tok y)) (taken.width_letter (known q)).name)
+no_name_by t.CharLetter y ts q h = absurd (h ts (name_in (tok y)) (taken.char_letter (known q)).name)
+no_name_by t.SkipLetter y ts q h = absurd (h ts (name_in (tok y)) (taken.skip_letter (known q)).name)
+no_name_by _ y ts q h = (refl, refl)
 
-shape_alone_by : (k : Terminal) → NoName k → allows p.ShapeAlone k ≡ true
-shape_alone_by t.Name h = absurd (h.0 refl)
-shape_alone_by t.Letter h = absurd (h.1 refl)
-shape_alone_by t.WidthLetter h = absurd (h.2 refl)
-shape_alone_by t.CharLetter h = absurd (h.3 refl)
-shape_alone_by t.SkipLetter h = absurd (h.4 refl)
-shape_alone_by _ h = refl
-
-no_name_seen : (y : Token) (ts : Tokens) → ((c : Tokens) (x : Text) → Name (y ∷ ts) c x → ⊥) → NoName (seen y)
-no_name_seen y ts h = (
-  λ g. h ts (name_in (tok y)) (taken.long_name (taken.taken g)),
-  λ g. h ts (name_in (tok y)) (taken.plain_letter (taken.taken g)).name,
-  λ g. h ts (name_in (tok y)) (taken.width_letter (taken.taken g)).name,
-  λ g. h ts (name_in (tok y)) (taken.char_letter (taken.taken g)).name,
-  λ g. h ts (name_in (tok y)) (taken.skip_letter (taken.taken g)).name,
-)
-
-allowed_shape_ending : (a : Tokens) → IsSome a → ((c : Tokens) (x : Text) → Name a c x → ⊥) → Allowed p.ShapeEnding a
-allowed_shape_ending [] s h = s
-allowed_shape_ending (y ∷ ts) s h = shape_ending_by (seen y) (no_name_seen y ts h)
-
-allowed_shape_alone : (a : Tokens) → IsSome a → ((c : Tokens) (x : Text) → Name a c x → ⊥) → Allowed p.ShapeAlone a
-allowed_shape_alone [] s h = s
-allowed_shape_alone (y ∷ ts) s h = shape_alone_by (seen y) (no_name_seen y ts h)
+allowed_shape : (a : Tokens) → IsSome a → NoName a → Allowed p.ShapeEnding a × Allowed p.ShapeAlone a
+allowed_shape [] s h = (s, s)
+allowed_shape (y ∷ ts) s h = no_name_by (seen y) y ts (seen_is y) h
 
 found_shape_stop : {a b : Tokens} → ShapeStop a b → IsSome b → FoundLoose n.ShapeEnding a b
 found_shape_stop {a} (ShapeStop.shape_stop h st) s =
     let z : FoundLoose _ _ _ = found_loose st s in
-    record { value = _; found = make_at p.ShapeEnding a (allowed_shape_ending a (is_some z.found) h) _ _ z.found }
+    record { value = _; found = make_at p.ShapeEnding a (allowed_shape a (is_some z.found) h).0 _ _ z.found }
 
 shape_alone : {a b : Tokens} → ShapeStop a b → IsSome b → FoundPart n.AfterShape a b (val.vars [])
 unfolding built
 shape_alone {a} (ShapeStop.shape_stop h st) s =
-    let z : FoundLoose _ _ _ = found_shape_stop (ShapeStop.shape_stop h st) s in make_at p.ShapeAlone a (allowed_shape_alone a (is_some z.found) h) _ _ z.found
+    let z : FoundLoose _ _ _ = found_shape_stop (ShapeStop.shape_stop h st) s in make_at p.ShapeAlone a (allowed_shape a (is_some z.found) h).1 _ _ z.found
 
 -- ---- declarations of a block ----
 
@@ -181,7 +161,7 @@ found_declaration (d.variables (d.shaped (d.structured (word {p = q} h) (name k)
     (make p.StructShape tt _ _ _ (found_shape g) _ _ (make p.ShapeAndVariables tt _ _ _ (found_vars vs (stop_is_some st)) _ _ z.found)))))
 found_declaration (d.initial (word {p = q} h) ps st) s =
     let z : FoundStop _ _ = found_stop st in
-    let all : FoundList _ _ _ _ _ _ = found_list d.Preset (λ g h y. FoundPart n.Preset g h (val.preset y)) n.PresetMore (λ y. val.presets y) found_preset more_preset no_more_preset ps (stop_is_some st) in
+    let all : FoundList _ _ _ _ _ = found_list found_preset more_preset no_more_preset ps (stop_is_some st) in
     declared (given (ap (λ v. val.declaration q (Initial v)) all.is)
     (make p.InitialDeclaration tt _ _ _ (the_word (codes "INITIAL") t.Initial refl h) _ _ all.found _ _ all.more _ _ z.found))
 found_declaration (d.structure (word h) (name k) g st) s =
@@ -217,7 +197,7 @@ a_common v (d.CommonName.common (word {p = q} h) one (name k) one) e rest c ds s
 an_implicit : {a b c : Tokens} {rs : List (ℕ × ℕ)} {q : Place} {k : EflType} → d.ImplicitRanges a b rs → FoundPart n.ImplicitType b c (val.typed q k) → FoundIn n.OuterList a c (Implicit rs k)
 unfolding built
 an_implicit {k = k} (d.ImplicitRanges.implicit (word {p = q} h) one rs one) rest c ds ss r =
-    let all : FoundList _ _ _ _ _ _ = found_list d.Range (λ g h y. FoundPart n.Range g h (val.range y)) n.RangeMore (λ y. val.ranges y) found_range more_range no_more_range rs tt in
+    let all : FoundList _ _ _ _ _ = found_list found_range more_range no_more_range rs tt in
     given (ap (λ z. val.lists (record { kind = Implicit z k; place = q } ∷ ds) ss) all.is)
     (make p.OuterImplicit tt _ _ _ (the_word (codes "IMPLICIT") t.Implicit refl h) _ _ (found_token t.Open _ _ refl) _ _ all.found _ _ all.more _ _ (found_token t.Close _ _ refl) _ _ rest _ _ r)
 
@@ -228,7 +208,7 @@ is_word _ = false
 begins_with_word : {y : Token} {ts c : Tokens} {x : Text} → Name (y ∷ ts) c x → is_word y.kind ≡ true
 begins_with_word (name h) = refl
 
-line_no_name : {k : TokenKind} {q : Place} {ts c : Tokens} {x : Text} → is_word k ≡ false → Name (token k q ∷ ts) c x → ⊥
+pub line_no_name : {k : TokenKind} {q : Place} {ts c : Tokens} {x : Text} → is_word k ≡ false → Name (token k q ∷ ts) c x → ⊥
 line_no_name h q = untrue (sym h ∙ begins_with_word q)
 
 stop_is_no_name : {a b : Tokens} → Stop a b → (c : Tokens) (x : Text) → Name a c x → ⊥

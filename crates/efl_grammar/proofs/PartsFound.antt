@@ -4,35 +4,33 @@ use Rattle.std.specs.Prelude.{codes}
 use Rattle.ground.specs.declared.place.Place.{Place}
 use Rattle.ground.specs.declared.token.TokenKind.TheVariants as kinds
 use Rattle.ground.specs.declared.token.Sign.TheVariants as signs
-use Rattle.grammar.specs.declared.language.Symbol.TheVariants.{Terminal}
 use Rattle.efl_tree.specs.declared.statement.LoopKind.{LoopKind}
 use Rattle.efl_tree.specs.declared.statement.EflEdit.{EflEdit}
 use Rattle.efl_tree.specs.declared.statement.EflEdit.TheVariants as edits
 use Rattle.efl_tree.specs.Syntax as efl
 use Rattle.efl_tree.specs.Syntax.{Text}
-use Rattle.efl_parse_table.specs.declared.table.Terminal.{Terminal as ATerminal}
+use Rattle.efl_parse_table.specs.declared.table.Terminal.{Terminal}
 use Rattle.efl_parse_table.specs.declared.table.Terminal.TheVariants as t
 use Rattle.efl_parse_table.specs.declared.table.Nonterminal.TheVariants as n
 use Rattle.efl_parse_table.specs.declared.table.Production.TheVariants as p
-use Rattle.efl_parse_table.specs.Words.{word_seen, word_terminal}
+use Rattle.efl_parse_table.specs.Words.{reserved, word_seen, word_terminal}
 use Rattle.efl_parse_values.specs.Values.{Val, tok, nothing}
 use Rattle.efl_parse_values.specs.Values as val
 use Rattle.efl_parse_values.specs.Parts.{first_letter}
 use Rattle.efl_parse_statements.specs.Statements.{loop_of}
 use Rattle.rat_grammar.specs.Tokens.{Perhaps, Tokens, token, one, capitals, word, Listed, Several}
 use Rattle.rat_grammar.specs.Laws.{IsSome}
-use Rattle.rat_grammar.proofs.TokenLemmas.{untrue}
+use Rattle.rat_grammar.proofs.ReservedWords.{untrue, is_other, terminal_of, terminal_by}
 use Rattle.efl_grammar.specs.Tokens.{natural, Whole}
 use Rattle.efl_grammar.specs.Statements as s
-use Rattle.efl_grammar.specs.Laws.{Found}
-use Rattle.efl_grammar.proofs.TokenLemmas.{terminal_named, free_by}
-use Rattle.efl_grammar.proofs.StatementsRead.{is_other, loop_is}
-use Rattle.efl_grammar.proofs.Steps.{FoundPart, built, make, found_token, found_empty, given}
+use Rattle.efl_grammar.proofs.StatementsRead.{loop_is}
+use Rattle.rat_grammar.proofs.Derivations.{given}
+use Rattle.efl_grammar.proofs.Steps.{FoundToken, FoundPart, FoundAs, built, make, found_token, found_empty}
 use Rattle.efl_grammar.proofs.ExpressionsFound.{the_word, found_expr, found_place, place_part}
 use Rattle.efl_grammar.proofs.DeclarationsFound.{found_integral}
 use Rattle.efl_grammar.proofs.OuterFound.{is_one}
 use Rattle.efl_grammar.proofs.ActsFound.{FoundSo}
-use Rattle.efl_grammar.proofs.ListsFound.{FoundList, found_list}
+use Rattle.rat_grammar.proofs.ListsFound.{FoundList, found_list}
 
 -- ---- leaving a loop ----
 
@@ -85,16 +83,16 @@ sep_is_some (s.Sep.semicolon one) = tt
 -- ---- the letters of edits ----
 
 -- what is seen of a word of this one letter in capitals
-abbrev letter_seen : ℕ → ATerminal
+abbrev letter_seen : ℕ → Terminal
 letter_seen x = if x == 73 || x == 76 then t.WidthLetter else (if x == 67 then t.CharLetter else (if x == 88 then t.SkipLetter else t.Letter))
 
-one_letter_seen : (w : Text) (x : ℕ) → capitals w ≡ x ∷ [] → terminal_named (x ∷ []) ≡ None → word_terminal w ≡ letter_seen x
+one_letter_seen : (w : Text) (x : ℕ) → capitals w ≡ x ∷ [] → terminal_of reserved (x ∷ []) ≡ None → word_terminal w ≡ letter_seen x
 one_letter_seen [] x h e = absurd (untrue (ap is_one h))
-one_letter_seen (c ∷ []) x h e = ap (λ o. word_seen o (c ∷ [])) (free_by (x ∷ []) (c ∷ []) h e) ∙ ap (λ z. letter_seen z) (ap first_letter h)
+one_letter_seen (c ∷ []) x h e = ap (λ o. word_seen o (c ∷ [])) (terminal_by reserved (x ∷ []) (c ∷ []) h e) ∙ ap (λ z. letter_seen z) (ap first_letter h)
 one_letter_seen (c ∷ d ∷ ds) x h e = absurd (untrue (ap is_one h))
 
-the_letter : (x : ℕ) (k : ATerminal) → terminal_named (x ∷ []) ≡ None → letter_seen x ≡ k → {w : Text} {q : Place} {ts : Tokens} → capitals w ≡ x ∷ [] →
-    Found (Terminal k) (token (kinds.Word w) q ∷ ts) ts (tok (token (kinds.Word w) q))
+the_letter : (x : ℕ) (k : Terminal) → terminal_of reserved (x ∷ []) ≡ None → letter_seen x ≡ k → {w : Text} {q : Place} {ts : Tokens} → capitals w ≡ x ∷ [] →
+    FoundToken k (token (kinds.Word w) q ∷ ts) ts (tok (token (kinds.Word w) q))
 the_letter x k e g {w} h = found_token k _ _ (one_letter_seen w x h e ∙ g)
 
 -- ---- records ----
@@ -149,5 +147,5 @@ unfolding built
 no_more_integral a g = found_empty p.NoMoreIntegral refl (λ k. refl) g
 
 pub found_integrals : {a b : Tokens} {zs : List ℤ} → Listed Whole a b zs → IsSome b →
-    FoundList (λ g h x. FoundPart n.Integral g h (val.integer x)) n.IntegralMore (λ y. val.integers y) a b zs
-found_integrals = found_list Whole (λ g h x. FoundPart n.Integral g h (val.integer x)) n.IntegralMore (λ y. val.integers y) (λ a b x q g. found_integral q) more_integral no_more_integral
+    FoundList (FoundAs n.Integral (λ y. val.integer y)) (FoundAs n.IntegralMore (λ y. val.integers y)) a b zs
+found_integrals = found_list (λ a b x q g. found_integral q) more_integral no_more_integral

@@ -5,25 +5,25 @@ use Rattle.ground.specs.declared.place.Place.{Place}
 use Rattle.ground.specs.declared.token.Token.{Token}
 use Rattle.ground.specs.declared.token.TokenKind.TheVariants as kinds
 use Rattle.ground.specs.declared.token.Sign.TheVariants as signs
-use Rattle.grammar.specs.declared.language.Symbol.TheVariants.{Terminal, Nonterminal}
-use Rattle.grammar.specs.Grammar.{leaf, some, none, IsProgram}
+use Rattle.grammar.specs.Grammar.{IsProgram}
 use Rattle.efl_tree.specs.Syntax.{Text, EflType, EflProcedure, EflProgram}
 use Rattle.efl_parse_table.specs.declared.table.Terminal.TheVariants as t
 use Rattle.efl_parse_table.specs.declared.table.Nonterminal.TheVariants as n
 use Rattle.efl_parse_table.specs.declared.table.Production.TheVariants as p
 use Rattle.efl_parse_values.specs.Values.{Val, tok}
 use Rattle.efl_parse_values.specs.Values as val
-use Rattle.efl_parse_values.specs.Parts.{name_in, as_procedures}
+use Rattle.efl_parse_values.specs.Parts.{name_in}
 use Rattle.efl_parse.specs.Efl.{grammar}
 use Rattle.rat_grammar.specs.Tokens.{Perhaps, Tokens, token, one, word, place_at, Listed, Several, Lines}
 use Rattle.rat_grammar.specs.Laws.{IsSome}
 use Rattle.efl_grammar.specs.Tokens.{Name, name}
 use Rattle.efl_grammar.specs.Programs as u
-use Rattle.efl_grammar.proofs.Steps.{FoundPart, built, make, found_token, found_empty, given}
-use Rattle.efl_grammar.proofs.StatementLemmas.{word_begins}
+use Rattle.rat_grammar.proofs.LineLemmas.{word_begins, stop_is_some}
+use Rattle.rat_grammar.proofs.Derivations.{given, before_lines, make_whole}
+use Rattle.efl_grammar.proofs.Steps.{FoundPart, FoundAs, built, make, found_token, found_empty}
 use Rattle.efl_grammar.proofs.ExpressionsFound.{found_name, the_word}
-use Rattle.efl_grammar.proofs.ListsFound.{FoundList, found_list}
-use Rattle.efl_grammar.proofs.DeclarationsFound.{FoundStop, found_stop, stop_is_some, found_type}
+use Rattle.rat_grammar.proofs.ListsFound.{FoundList, found_list}
+use Rattle.efl_grammar.proofs.DeclarationsFound.{FoundStop, found_stop, found_type}
 use Rattle.efl_grammar.proofs.StatementsFound.{found_content}
 
 -- ---- headers ----
@@ -48,7 +48,7 @@ no_more_formal a g = found_empty p.NoMoreFormal refl (λ k. refl) g
 some_names : {a b : Tokens} {xs : List Text} → Listed Name a b xs → IsSome b → FoundPart n.FormalNames a b (val.names xs)
 unfolding built
 some_names xs g =
-    let all : FoundList FoundName n.FormalMore (λ y. val.names y) _ _ _ = found_list Name FoundName n.FormalMore (λ y. val.names y) a_name more_formal no_more_formal xs g in
+    let all : FoundList FoundName (FoundAs n.FormalMore (λ y. val.names y)) _ _ _ = found_list a_name more_formal no_more_formal xs g in
     given (ap (λ z. val.names (z ∷ all.others)) all.found.is ∙ ap (λ z. val.names z) all.is) (make p.SomeNames tt _ _ _ all.found.found _ _ all.more)
 
 found_formals : {a b : Tokens} {xs : List Text} → u.Formals a b xs → IsSome b → FoundPart n.Formals a b (val.names xs)
@@ -89,8 +89,7 @@ found_procedure (u.procedure l h st ds ss r (word w) z) =
 
 procedures_lines : {a b c : Tokens} {v : Val} → Lines a b → FoundPart n.Procedures b c v → FoundPart n.Procedures a c v
 unfolding built
-procedures_lines Lines.none q = q
-procedures_lines (Lines.line one l) q = make p.BlankLine tt _ _ _ (found_token t.LineEnd _ _ refl) _ _ (procedures_lines l q)
+procedures_lines = before_lines (λ a b q v c. make p.BlankLine tt _ _ _ (found_token t.LineEnd _ _ refl) _ _ c)
 
 found_procedures : {a b e : Tokens} {xs : List EflProcedure} → Several u.Procedure a b xs → Lines b e → IsSome e → FoundPart n.Procedures a e (val.procedures xs)
 unfolding built
@@ -98,16 +97,6 @@ found_procedures Several.none l h = procedures_lines l (found_empty p.NoProcedur
 found_procedures (Several.more x xs) l h =
     let y : FoundProcedure _ _ _ = found_procedure x in procedures_lines y.lines (make p.MoreProcedures tt _ _ _ y.found _ _ (found_procedures xs l h))
 
-whole : {a : Tokens} {q : Place} {xs : List EflProcedure} → FoundPart n.Procedures a (token kinds.TextEnd q ∷ []) (val.procedures xs) →
-    IsProgram grammar a (val.program (record { procedures = xs; finish = q }))
-unfolding built
-whole {q = q} c = (
-  record {
-    trees = some c.tree (some (leaf (token kinds.TextEnd q)) none);
-    derives = (Nonterminal n.Procedures, Terminal t.TextEnd ∷ [], token kinds.TextEnd q ∷ [], refl, c.derives, (Terminal t.TextEnd, [], [], refl, (refl, refl), (refl, refl)));
-  },
-  ap (λ v. val.program (record { procedures = as_procedures v; finish = q })) c.gives,
-)
-
 pub found_program : {ts : Tokens} {r : EflProgram} → u.Program ts r → IsProgram grammar ts (val.program r)
-found_program (u.program xs l one) = whole (found_procedures xs l tt)
+unfolding built
+found_program (u.program xs l one) = make_whole grammar _ _ _ (found_procedures xs l tt) _ _ (found_token t.TextEnd _ _ refl) refl

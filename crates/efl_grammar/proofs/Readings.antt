@@ -1,4 +1,4 @@
--- What a nonterminal of the table gives, and what the published grammar says of it. A tail is what makes more of a part that stands before it.
+-- What a nonterminal of the table gives, and what the published grammar says of it.
 use Rattle.std.proofs.Common.{◌≡◌, Bool, ℕ, ℤ, List, Option, None, Some, [], ◌⊎◌, inl, inr}
 use Rattle.std.specs.Prelude.{codes}
 use Rattle.ground.specs.declared.place.Place.{Place}
@@ -9,11 +9,8 @@ use Rattle.efl_tree.specs.declared.expression.EflOperator.{EflOperator}
 use Rattle.efl_tree.specs.declared.declaration.EflBound.{EflBound}
 use Rattle.efl_tree.specs.declared.declaration.EflConst.{EflConst}
 use Rattle.efl_tree.specs.Syntax.{Text, EflExpr, EflExprs, AndExpr, EflPlace, Path, EflSteps, EflVar, EflType, EflGroups, EflPreset, EflDeclKind, Implicit, EflDecl, EflStmt, EflStmts, EflKind, EflCases, EflProcedure, EflProgram}
-use Rattle.grammar.specs.declared.language.Symbol.{Symbol}
-use Rattle.grammar.specs.declared.language.Symbol.TheVariants.{Terminal, Nonterminal}
-use Rattle.efl_parse_table.specs.declared.table.Terminal.{Terminal as ATerminal}
 use Rattle.efl_parse_table.specs.declared.table.Terminal.TheVariants as t
-use Rattle.efl_parse_table.specs.declared.table.Nonterminal.{Nonterminal as ANonterminal}
+use Rattle.efl_parse_table.specs.declared.table.Nonterminal.{Nonterminal}
 use Rattle.efl_parse_table.specs.declared.table.Nonterminal.TheVariants as n
 use Rattle.efl_parse_values.specs.Kinds as part
 use Rattle.efl_parse_values.specs.Values.{Val, tok}
@@ -23,8 +20,8 @@ use Rattle.efl_parse_expressions.specs.Phrases.{joined, completed, ended, with_a
 use Rattle.efl_parse_expressions.specs.Declared.{bounded, type_named, outlined, counted, letters}
 use Rattle.efl_parse_statements.specs.Lists.{shared}
 use Rattle.rat_grammar.specs.Tokens.{Tokens, Sign, Word, Stop, place_at, Lines, TextEnd, Several, Perhaps}
-use Rattle.rat_grammar.proofs.Readings.{Part, Tail, Placed, Lined, SaysNothing}
-use Rattle.rat_grammar.proofs.Taken.{Either}
+use Rattle.rat_grammar.proofs.Parts.{Reading, Part, open_reading, Tail, Placed, Lined, WordIfAny}
+use Rattle.rat_grammar.proofs.Standing.{Either}
 use Rattle.efl_grammar.specs.Tokens.{Name, Letter, Whole, StopIfAny, ShapeStop}
 use Rattle.efl_grammar.specs.Expressions as e
 use Rattle.efl_grammar.specs.Declarations as d
@@ -35,11 +32,6 @@ use Rattle.efl_tree.specs.Syntax as efl
 use Rattle.efl_parse_statements.specs.Statements.{loop_of, loop_named}
 use Rattle.efl_grammar.specs.Statements as s
 use Rattle.efl_grammar.specs.Programs as u
-
-pub record Reading : Type 1 where
-  pub Of : Type 0
-  pub view : Of → Val
-  pub Says : Tokens → Tokens → Of → Type 0
 
 -- more operands behind one
 abbrev pub Joins : Part EflExpr → Part EflExpr → Part part.Joins
@@ -52,23 +44,19 @@ Behind Whole a b r = (g : Tokens) (x : Text) → Name g a x → Whole g b (compl
 abbrev pub Within : Part EflExpr → Part part.Rest
 Within Whole a b r = (g h : Tokens) (x : Text) → Name g h x → Sign signs.Open h a → Whole g b (completed x r)
 
-abbrev pub expr_reading : Part EflExpr → Reading
+abbrev pub expr_reading : Part EflExpr → Reading Val
 expr_reading Says = record { Of = EflExpr; view = λ y. val.expr y; Says = Says }
 
-abbrev pub joins_reading : Part EflExpr → Part EflExpr → Reading
+abbrev pub joins_reading : Part EflExpr → Part EflExpr → Reading Val
 joins_reading First Whole = record { Of = part.Joins; view = λ y. val.joins y; Says = Joins First Whole }
 
-abbrev pub rest_reading : Part part.Rest → Reading
+abbrev pub rest_reading : Part part.Rest → Reading Val
 rest_reading Says = record { Of = part.Rest; view = λ y. val.rest y; Says = Says }
 
-abbrev pub token_reading : Part Token → Reading
+abbrev pub token_reading : Part Token → Reading Val
 token_reading Says = record { Of = Token; view = λ y. tok y; Says = Says }
 
--- a value that is read as what stands behind it asks
-abbrev pub open_reading : Part Val → Reading
-open_reading Says = record { Of = Val; view = λ y. y; Says = Says }
-
-abbrev pub type_reading : Part (Place × EflType) → Reading
+abbrev pub type_reading : Part (Place × EflType) → Reading Val
 type_reading Says = record { Of = Place × EflType; view = λ y. val.typed y.0 y.1; Says = Says }
 
 -- variables of a type, with the stop behind them and their place
@@ -104,10 +92,10 @@ Opened Kind a b (part.Declares vs ds ss) = (m k : Tokens) × d.Vars a m vs × St
 Opened Kind a b (part.Begins r ss) = (m k : Tokens) × Behind e.Act a m r × Stop m k × Lined s.Statements k b ss
 Opened Kind a b (part.Labels x ss) = (m k : Tokens) × Sign signs.Colon a m × Lined Item m k x × Lined s.Statements k b ss
 
-abbrev pub listing_reading : Part EflDeclKind → Reading
+abbrev pub listing_reading : Part EflDeclKind → Reading Val
 listing_reading Kind = record { Of = List EflDecl × EflStmts; view = λ y. val.lists y.0 y.1; Says = Listing Kind }
 
-abbrev pub opened_reading : Part EflDeclKind → Reading
+abbrev pub opened_reading : Part EflDeclKind → Reading Val
 opened_reading Kind = record { Of = part.Opening; view = λ y. val.opening y; Says = Opened Kind }
 
 abbrev pub perhaps : {A : Type 0} → (A → Val) → Option A → Val
@@ -115,18 +103,16 @@ perhaps view None = val.nothing
 perhaps view (Some x) = view x
 
 abbrev pub Else : Part (Option EflStmt)
-Else a b None = SaysNothing (codes "ELSE") a b
-Else a b (Some y) = (m k : Tokens) × Lines a m × Word (codes "ELSE") m k × Lined s.Statement k b y
+Else = WordIfAny (codes "ELSE") (λ m k b y. Lined s.Statement k b y)
 
 abbrev pub Until : Part (Option (Place × EflExpr))
-Until a b None = SaysNothing (codes "UNTIL") a b
-Until a b (Some y) = (m k j : Tokens) × Lines a m × Word (codes "UNTIL") m k × e.Condition k j y.1 × Stop j b × (y.0 ≡ place_at m)
+Until = WordIfAny (codes "UNTIL") (λ m k b y. (j : Tokens) × e.Condition k j y.1 × Stop j b × (y.0 ≡ place_at m))
 
 -- the place, type, name and formals of a header
 abbrev pub AHeader : Type 0
 AHeader = Place × Option EflType × Option Text × List Text
 
-abbrev pub reading : ANonterminal → Reading
+abbrev pub reading : Nonterminal → Reading Val
 reading n.Whole = expr_reading e.Expr
 reading n.Spot = record { Of = EflPlace; view = λ y. val.path y; Says = e.Place }
 reading n.Expr = expr_reading e.Expr
@@ -292,10 +278,3 @@ reading n.DeedRest = rest_reading (Behind e.Act)
 reading n.DeedInner = rest_reading (Within e.Act)
 reading n.DeedTail = rest_reading BehindSubs
 reading n.StepDeed = record { Of = Place × EflExpr; view = λ y. val.located y.0 y.1; Says = Placed e.Step }
-
-abbrev pub ASymbol : Type 0
-ASymbol = Symbol ATerminal ANonterminal
-
-abbrev pub symbol_reading : ASymbol → Reading
-symbol_reading (Terminal k) = token_reading (Taken k)
-symbol_reading (Nonterminal m) = reading m

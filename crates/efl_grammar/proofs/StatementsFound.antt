@@ -2,6 +2,7 @@
 use Rattle.std.proofs.Common.{◌≡◌, ◌∙◌, true, false, if◌then◌else◌, None, List, [], ◌∷◌, refl, ap}
 use Rattle.std.specs.Prelude.{codes}
 use Rattle.ground.specs.declared.place.Place.{Place}
+use Rattle.ground.specs.declared.token.Token.{Token}
 use Rattle.ground.specs.declared.token.TokenKind.TheVariants as kinds
 use Rattle.efl_tree.specs.Syntax as efl
 use Rattle.efl_tree.specs.Syntax.{Text, EflExpr, EflDecl, EflDeclKind, EflStmt, EflKind, EflStmts, NoStmt, AndStmt, EflCases}
@@ -18,23 +19,25 @@ use Rattle.efl_parse_values.specs.Values as val
 use Rattle.efl_parse_values.specs.Parts.{expr_part}
 use Rattle.efl_parse_expressions.specs.Phrases.{completed}
 use Rattle.efl_parse_statements.specs.Lists.{with_label, acted, begins, opened_by}
+use Rattle.efl_parse.specs.Efl.{grammar}
 use Rattle.rat_grammar.specs.Tokens.{Tokens, token, one, capitals, Word, word, place_at, Lines, Several}
 use Rattle.rat_grammar.specs.Plain.{one_word, two_words}
 use Rattle.rat_grammar.specs.Statements.{FollowsNo}
 use Rattle.rat_grammar.specs.Laws.{IsSome}
-use Rattle.rat_grammar.proofs.LineLemmas.{lines_left, no_line_at}
-use Rattle.rat_grammar.proofs.Readings.{Part}
-use Rattle.rat_grammar.proofs.Taken.{sole}
+use Rattle.rat_grammar.proofs.LineLemmas.{NoLine, lines_left, no_line_at, Begins, begins_at, Goes, word_goes, stop_is_some}
+use Rattle.rat_grammar.proofs.Parts.{Part}
+use Rattle.rat_grammar.proofs.Standing.{known, sole, word_of}
+use Rattle.rat_grammar.proofs.ReservedWords.{is_other}
 use Rattle.efl_grammar.specs.Tokens.{name}
 use Rattle.efl_grammar.specs.Declarations as d
 use Rattle.efl_grammar.specs.Statements as s
-use Rattle.efl_grammar.proofs.Taken as taken
-use Rattle.efl_grammar.proofs.Steps.{FoundPart, Allowed, built, is_some, make, make_empty, found_token, found_empty, given}
-use Rattle.efl_grammar.proofs.StatementLemmas.{Begins, Goes, labelled_begins, statements_go}
-use Rattle.efl_grammar.proofs.StatementsRead.{is_other}
+use Rattle.efl_grammar.proofs.TokenLemmas.{Is, seen_is}
+use Rattle.rat_grammar.proofs.Derivations.{is_some, given, before_lines, allowed_there}
+use Rattle.efl_grammar.proofs.Steps.{FoundPart, built, make, make_empty, found_token, found_empty}
+use Rattle.efl_grammar.proofs.StatementLemmas.{labelled_begins, statements_go}
 use Rattle.efl_grammar.proofs.ExpressionsFound.{the_word, found_name, found_expr}
-use Rattle.efl_grammar.proofs.ListsFound.{FoundList}
-use Rattle.efl_grammar.proofs.DeclarationsFound.{FoundStop, found_stop, stop_is_some}
+use Rattle.rat_grammar.proofs.ListsFound.{FoundList}
+use Rattle.efl_grammar.proofs.DeclarationsFound.{FoundStop, found_stop}
 use Rattle.efl_grammar.proofs.OuterFound.{FoundIn, found_inner, found_outer}
 use Rattle.efl_grammar.proofs.ActsFound.{FoundAct, begun, step, found_act, found_condition, FoundSo, found_part, found_whole, found_step_part, found_outcome, found_lines}
 use Rattle.efl_grammar.proofs.PartsFound.{found_leaving, FoundSep, found_sep, sep_is_some, found_write_items, found_read_items, found_integrals}
@@ -43,45 +46,31 @@ use Rattle.efl_grammar.proofs.PartsFound.{found_leaving, FoundSep, found_sep, se
 
 statement_lines : {a b c : Tokens} {v : Val} → Lines a b → FoundPart n.Statement b c v → FoundPart n.Statement a c v
 unfolding built
-statement_lines Lines.none q = q
-statement_lines (Lines.line one l) q = make p.StatementLine tt _ _ _ (found_token t.LineEnd _ _ refl) _ _ (statement_lines l q)
+statement_lines = before_lines (λ a b q v c. make p.StatementLine tt _ _ _ (found_token t.LineEnd _ _ refl) _ _ c)
 
 statements_lines : {a b c : Tokens} {v : Val} → Lines a b → FoundPart n.Statements b c v → FoundPart n.Statements a c v
 unfolding built
-statements_lines Lines.none q = q
-statements_lines (Lines.line one l) q = make p.StatementsLine tt _ _ _ (found_token t.LineEnd _ _ refl) _ _ (statements_lines l q)
+statements_lines = before_lines (λ a b q v c. make p.StatementsLine tt _ _ _ (found_token t.LineEnd _ _ refl) _ _ c)
 
 else_lines : {a b c : Tokens} {v : Val} → Lines a b → FoundPart n.ElsePart b c v → FoundPart n.ElsePart a c v
 unfolding built
-else_lines Lines.none q = q
-else_lines (Lines.line one l) q = make p.ElseLine tt _ _ _ (found_token t.LineEnd _ _ refl) _ _ (else_lines l q)
+else_lines = before_lines (λ a b q v c. make p.ElseLine tt _ _ _ (found_token t.LineEnd _ _ refl) _ _ c)
 
 until_lines : {a b c : Tokens} {v : Val} → Lines a b → FoundPart n.UntilPart b c v → FoundPart n.UntilPart a c v
 unfolding built
-until_lines Lines.none q = q
-until_lines (Lines.line one l) q = make p.UntilLine tt _ _ _ (found_token t.LineEnd _ _ refl) _ _ (until_lines l q)
+until_lines = before_lines (λ a b q v c. make p.UntilLine tt _ _ _ (found_token t.LineEnd _ _ refl) _ _ c)
 
 -- ---- where a part is left out ----
 
-no_else_by : (k : Terminal) → (k ≡ t.LineEnd → ⊥) → (k ≡ t.Else → ⊥) → allows p.NoElse k ≡ true
-no_else_by t.LineEnd h g = absurd (h refl)
-no_else_by t.Else h g = absurd (g refl)
-no_else_by _ h g = refl
+no_else_by : (k : Terminal) (y : Token) → Is k y.kind → (ts : Tokens) → NoLine (y ∷ ts) → ((c : Tokens) → Word (codes "ELSE") (y ∷ ts) c → ⊥) → allows p.NoElse k ≡ true
+no_else_by t.LineEnd y q ts h g = absurd (h ts (sole (known q)))
+no_else_by t.Else y q ts h g = absurd (g ts (word_of (known q)))
+no_else_by _ y q ts h g = refl
 
-no_until_by : (k : Terminal) → (k ≡ t.LineEnd → ⊥) → (k ≡ t.Until → ⊥) → allows p.NoUntil k ≡ true
-no_until_by t.LineEnd h g = absurd (h refl)
-no_until_by t.Until h g = absurd (g refl)
-no_until_by _ h g = refl
-
-allowed_no_else : (a : Tokens) → Begins a → ((c : Tokens) → Word (codes "ELSE") a c → ⊥) → Allowed p.NoElse a
-allowed_no_else [] g k = g.some
-allowed_no_else (y ∷ ts) g k =
-    no_else_by (seen y) (λ h. g.stands ts (sole (taken.line_end (taken.taken h)))) (λ h. k ts (taken.else_word (taken.taken h)))
-
-allowed_no_until : (a : Tokens) → Begins a → ((c : Tokens) → Word (codes "UNTIL") a c → ⊥) → Allowed p.NoUntil a
-allowed_no_until [] g k = g.some
-allowed_no_until (y ∷ ts) g k =
-    no_until_by (seen y) (λ h. g.stands ts (sole (taken.line_end (taken.taken h)))) (λ h. k ts (taken.until_word (taken.taken h)))
+no_until_by : (k : Terminal) (y : Token) → Is k y.kind → (ts : Tokens) → NoLine (y ∷ ts) → ((c : Tokens) → Word (codes "UNTIL") (y ∷ ts) c → ⊥) → allows p.NoUntil k ≡ true
+no_until_by t.LineEnd y q ts h g = absurd (h ts (sole (known q)))
+no_until_by t.Until y q ts h g = absurd (g ts (word_of (known q)))
+no_until_by _ y q ts h g = refl
 
 -- ---- bodies and statements ----
 
@@ -201,8 +190,7 @@ abbrev outer : Lister
 outer = record { of = n.OuterList; line = outer_line; done = outer_done; unnamed = outer_unnamed; named = outer_named }
 
 list_lines : (m : Lister) {a b c : Tokens} {v : Val} → Lines a b → FoundPart m.of b c v → FoundPart m.of a c v
-list_lines m Lines.none q = q
-list_lines m (Lines.line one l) q = m.line _ _ _ _ (list_lines m l q)
+list_lines m = before_lines m.line
 
 first_of_list : (m : Lister) {a b c : Tokens} {x : EflStmt} {ss : EflStmts} → FoundListed a b x → ((k : Tokens) → Lines b k → FoundPart n.Statements k c (val.stmts ss)) →
     FoundPart m.of a c (val.lists [] (AndStmt x ss))
@@ -234,17 +222,13 @@ if_alone : {b c d : Tokens} {w : Text} {q : Place} {f : EflExpr} {x : EflStmt} �
     FollowsNo (codes "ELSE") d → Goes d → FoundBody (token (kinds.Word w) q ∷ b) d (efl.If f x)
 unfolding built
 if_alone h c x g z = FoundBody.unnamed z.lines (make p.IfStatement tt _ _ _ (the_word (codes "IF") t.If refl h) _ _ c _ _ x.found _ _
-    (else_lines (lines_left x.more z.lines z.begins.stands) (make_empty p.NoElse refl z.next (allowed_no_else z.next z.begins (λ k w. g z.next k z.lines w)))))
+    (else_lines (lines_left x.more z.lines z.begins.stands) (make_empty p.NoElse refl z.next (allowed_there grammar p.NoElse (codes "ELSE") (λ y. no_else_by (seen y) y (seen_is y)) z.next z.begins (λ k w. g z.next k z.lines w)))))
 
 repeat_alone : {b d : Tokens} {w : Text} {q : Place} {x : EflStmt} → capitals w ≡ codes "REPEAT" → FoundStatement b d x → FollowsNo (codes "UNTIL") d → Goes d →
     FoundBody (token (kinds.Word w) q ∷ b) d (efl.Repeat x)
 unfolding built
 repeat_alone h x g z = FoundBody.unnamed z.lines (make p.RepeatStatement tt _ _ _ (the_word (codes "REPEAT") t.Repeat refl h) _ _ x.found _ _
-    (until_lines (lines_left x.more z.lines z.begins.stands) (make_empty p.NoUntil refl z.next (allowed_no_until z.next z.begins (λ k w. g z.next k z.lines w)))))
-
--- behind the lines stands this word
-word_goes : {x : Text} {a b c : Tokens} → Lines a b → Word x b c → Goes a
-word_goes l (word h) = record { next = _; lines = l; begins = record { stands = no_line_at _ _ refl; some = tt } }
+    (until_lines (lines_left x.more z.lines z.begins.stands) (make_empty p.NoUntil refl z.next (allowed_there grammar p.NoUntil (codes "UNTIL") (λ y. no_until_by (seen y) y (seen_is y)) z.next z.begins (λ k w. g z.next k z.lines w)))))
 
 -- ---- all statements ----
 
@@ -255,7 +239,7 @@ mutual
   found_body (s.empty one) g = FoundBody.unnamed Lines.none (make p.Empty tt _ _ _ (found_token t.Semicolon _ _ refl))
   found_body (s.block one ds ss l one) g =
       FoundBody.unnamed Lines.none (make p.Braces tt _ _ _ (found_token t.OpenBrace _ _ refl) _ _
-      (inner_declarations ds (found_list inner ss l (record { stands = no_line_at _ _ refl; some = tt }))) _ _ (found_token t.CloseBrace _ _ refl))
+      (inner_declarations ds (found_list inner ss l (begins_at _ _ refl))) _ _ (found_token t.CloseBrace _ _ refl))
   found_body (s.act q st) g = act_body (found_act q (stop_is_some st)) (found_stop st)
   found_body (s.if_ (word h) c q k) g = if_alone h (found_condition c) (found_statement q g) k g
   found_body (s.if_else (word h) c q l (word k) r) g =
@@ -290,7 +274,7 @@ mutual
       (make p.DoStatement tt _ _ _ (the_word (codes "DO") t.Do refl h) _ _ (found_name _ _ _ i) _ _ (found_token t.Assign _ _ refl) _ _ (make p.WholeExpr tt _ _ _ (found_expr c tt)) _ _
       (found_token t.Comma _ _ refl) _ _ (make p.WholeExpr tt _ _ _ (found_expr e (is_some v.found))) _ _ v.found _ _ x.found))
   found_body (s.switch (word h) c l one cs m one) g =
-      let r : FoundClauses _ _ _ = found_clauses cs m (record { stands = no_line_at _ _ refl; some = tt }) in
+      let r : FoundClauses _ _ _ = found_clauses cs m (begins_at _ _ refl) in
       FoundBody.unnamed Lines.none (make p.SwitchStatement tt _ _ _ (the_word (codes "SWITCH") t.Switch refl h) _ _ (found_condition c) _ _ (found_lines l tt) _ _
       (found_token t.OpenBrace _ _ refl) _ _ (found_lines r.lines (is_some r.found)) _ _ r.found _ _ (found_token t.CloseBrace _ _ refl))
   found_body (s.break_ {n = m} {k = k} (word {w = w} {p = q} h) c st) g =
@@ -345,12 +329,12 @@ mutual
   found_clauses s.no_clause l g = record { start = _; lines = l; begins = g; found = found_empty p.NoClause refl (λ k. refl) g.some }
   found_clauses (s.case {ss = ss} {cs = cs} k (word {p = q} w) zs one xs ds) l g =
       let r : FoundClauses _ _ _ = found_clauses ds l g in
-      let all : FoundList _ _ _ _ _ _ = found_integrals zs tt in
+      let all : FoundList _ _ _ _ _ = found_integrals zs tt in
       let ys : FoundPart n.Statements _ _ _ = found_statements xs r.lines r.begins _ Lines.none in
       record {
         start = _;
         lines = k;
-        begins = record { stands = no_line_at _ _ refl; some = tt };
+        begins = begins_at _ _ refl;
         found = given (ap (λ z. val.clauses (efl.AndCase z false ss q cs)) all.is) (make p.MoreClauses tt _ _ _
             (make p.CaseClause tt _ _ _ (the_word (codes "CASE") t.Case refl w) _ _ all.found _ _ all.more _ _ (found_token t.Colon _ _ refl) _ _ ys) _ _ r.found);
       }
@@ -360,7 +344,7 @@ mutual
       record {
         start = _;
         lines = k;
-        begins = record { stands = no_line_at _ _ refl; some = tt };
+        begins = begins_at _ _ refl;
         found = make p.MoreClauses tt _ _ _
             (make p.DefaultClause tt _ _ _ (the_word (codes "DEFAULT") t.Default refl w) _ _ (found_token t.Colon _ _ refl) _ _ ys) _ _ r.found;
       }

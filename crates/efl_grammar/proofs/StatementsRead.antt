@@ -10,13 +10,11 @@ use Rattle.efl_tree.specs.declared.statement.LoopKind.TheVariants as loops
 use Rattle.efl_tree.specs.declared.statement.EflEdit.TheVariants as edits
 use Rattle.efl_tree.specs.Syntax as efl
 use Rattle.efl_tree.specs.Syntax.{Text, EflExpr, EflType, EflVar, EflDecl, EflDeclKind, Named, Variables, Implicit, EflStmt, EflKind, EflStmts, NoStmt, AndStmt, EflCases, EflProcedure, EflProgram}
-use Rattle.efl_parse_table.specs.declared.table.Terminal.{Terminal}
 use Rattle.efl_parse_table.specs.declared.table.Terminal.TheVariants as t
 use Rattle.efl_parse_table.specs.declared.table.Nonterminal.TheVariants as n
-use Rattle.efl_parse_table.specs.declared.table.Production.{Production}
 use Rattle.efl_parse_table.specs.declared.table.Production.TheVariants as p
 use Rattle.efl_parse_table.specs.Table.{allows}
-use Rattle.efl_parse_table.specs.Words.{is_spelled, kind_terminal, seen}
+use Rattle.efl_parse_table.specs.Words.{is_spelled}
 use Rattle.efl_parse_values.specs.Kinds as part
 use Rattle.efl_parse_values.specs.Values.{Val, tok, nothing}
 use Rattle.efl_parse_values.specs.Values as val
@@ -24,28 +22,26 @@ use Rattle.efl_parse_values.specs.Parts.{name_in, text_in, integer_in, number_in
 use Rattle.efl_parse_expressions.specs.Phrases.{completed, with_steps, with_arguments, stepped}
 use Rattle.efl_parse_statements.specs.Lists.{with_label, acted, begun, begins, opened, shared}
 use Rattle.efl_parse_statements.specs.Statements.{conditional, repetition, left, loop_of, loop_named, width_edit}
+use Rattle.efl_parse.specs.Efl.{grammar}
 use Rattle.rat_grammar.specs.Tokens.{Perhaps, Tokens, token, Sign, Number, Word, word, capitals, Listed, Several, Lines, Stop, place_at}
 use Rattle.rat_grammar.specs.Plain.{GoTo}
-use Rattle.rat_grammar.proofs.TokenLemmas.{untrue, same}
-use Rattle.rat_grammar.proofs.LineLemmas.{joined_lines, kind_at, follows_no}
-use Rattle.rat_grammar.proofs.Readings.{Part, Lined, SaysNothing}
-use Rattle.rat_grammar.proofs.Taken.{sole, Choice, this, that, spelled}
+use Rattle.rat_grammar.proofs.LineLemmas.{joined_lines, follows_no}
+use Rattle.rat_grammar.proofs.Parts.{Part, Lined, present, missing, lines_before_word}
+use Rattle.rat_grammar.proofs.Standing.{place_of, sole, either, word_of, Spelled, spelled, spelling, Choice, this, that, choice}
+use Rattle.rat_grammar.proofs.ReservedWords.{same, is_other}
+use Rattle.rat_grammar.proofs.Derivations.{Reads, none_there}
 use Rattle.efl_grammar.specs.Tokens.{Name, Natural, Whole}
 use Rattle.efl_grammar.specs.Expressions as e
 use Rattle.efl_grammar.specs.Declarations as d
 use Rattle.efl_grammar.specs.Statements as s
 use Rattle.efl_grammar.specs.Programs as u
-use Rattle.efl_grammar.proofs.TokenLemmas.{spelled_same, word_seen_as}
+use Rattle.efl_grammar.proofs.TokenLemmas.{word_seen_as}
 use Rattle.efl_grammar.proofs.Readings.{Item, item, NamedRest, view_named, SaysNamed, Listing, Opened, perhaps, Else, Until, reading}
 use Rattle.efl_grammar.proofs.Taken as taken
-use Rattle.efl_grammar.proofs.Steps.{Step, Reads, Allowed, built}
+use Rattle.efl_grammar.proofs.Steps.{Step, built}
 use Rattle.efl_grammar.proofs.ExpressionsRead.{a_step}
 
 -- ---- words of several meanings ----
-
--- whether a word is another one
-pub is_other : (x y w : Text) → capitals w ≡ y → is_spelled x w ≡ same x y
-is_other x y w h = spelled_same x w ∙ ap (same x) h
 
 abbrev pub loop_by : Bool → Bool → Bool → Bool → LoopKind
 loop_by w f r z = if w then loops.While else (if f then loops.For else (if r then loops.Repeat else (if z then loops.Do else loops.Switch)))
@@ -58,15 +54,10 @@ loop_is w x q h =
     ∙ ap (λ v. loop_by (same (codes "WHILE") x) (same (codes "FOR") x) v (is_spelled (codes "DO") w)) (is_other (codes "REPEAT") x w h)
     ∙ ap (λ v. loop_by (same (codes "WHILE") x) (same (codes "FOR") x) (same (codes "REPEAT") x) v) (is_other (codes "DO") x w h)
 
-word_is_spelled : {x : Text} {y : Token} {a b c : Tokens} {k : Terminal} → taken.Taken k a b y → Word x a c → (w : Text) × (q : Place) × (y ≡ token (kinds.Word w) q) × (capitals w ≡ x)
-word_is_spelled (taken.taken h) (word {w = w} {p = q} g) = (w, q, refl, g)
-
 -- a loop's word
-a_kind : {a b : Tokens} {y : Token} (x : Text) (k : LoopKind) {j : Terminal} → loop_by (same (codes "WHILE") x) (same (codes "FOR") x) (same (codes "REPEAT") x) (same (codes "DO") x) ≡ k →
-    taken.Taken j a b y → Word x a b → s.Kind a b k → s.Kind a b (loop_named (tok y))
-a_kind {a} {b} x k h r w c =
-    let z : _ = word_is_spelled r w in
-    subst (λ v. s.Kind a b v) (sym (ap (λ v. loop_named (tok v)) z.2 ∙ loop_is z.0 x z.1 z.3 ∙ h)) c
+a_kind : {a b : Tokens} {y : Token} (x : Text) (k : LoopKind) → loop_by (same (codes "WHILE") x) (same (codes "FOR") x) (same (codes "REPEAT") x) (same (codes "DO") x) ≡ k →
+    Spelled x a b y → s.Kind a b k → s.Kind a b (loop_named (tok y))
+a_kind x k h (spelled {w = w} {p = q} {ts = ts} e) c = subst (λ v. s.Kind (token (kinds.Word w) q ∷ ts) ts v) (sym (loop_is w x q e ∙ h)) c
 
 an_edit : {a i j k b : Tokens} {y : Token} {z : ℤ} → Choice (codes "I") (codes "L") a i y → Sign signs.Open i j → Number j k z → Sign signs.Close k b → s.Edit a b (width_edit (tok y) z)
 an_edit {b = b} {z = z} (this (spelled {w = w} {p = q} {ts = ts} h)) o c r =
@@ -158,44 +149,20 @@ named_begins {m = m} {ss = ss} (inr x) q r = (part.Begins x ss, refl, (q.0, m, q
 
 -- ---- else and until ----
 
-else_lines : {a m : Tokens} (b : Tokens) (o : Option EflStmt) → Lines a m → Else m b o → Else a b o
-else_lines b None l q = (joined_lines l q.0, q.1, q.2)
-else_lines b (Some y) l q = (q.0, q.1, joined_lines l q.2, q.3, q.4)
-
-until_lines : {a m : Tokens} (b : Tokens) (o : Option (Place × EflExpr)) → Lines a m → Until m b o → Until a b o
-until_lines b None l q = (joined_lines l q.0, q.1, q.2)
-until_lines b (Some y) l q = (q.0, q.1, q.2, joined_lines l q.3, q.4, q.5, q.6, q.7)
-
-word_kind : {x : Text} {y : Token} {ts b : Tokens} → Word x (y ∷ ts) b → (w : Text) × (y.kind ≡ kinds.Word w) × (capitals w ≡ x)
-word_kind (word {w = w} h) = (w, refl, h)
-
-seen_word : (x : Text) (k : Terminal) {y : Token} {ts b : Tokens} → Word x (y ∷ ts) b → ((w : Text) → capitals w ≡ x → kind_terminal (kinds.Word w) ≡ k) → seen y ≡ k
-seen_word x k w only = let q : _ = word_kind w in ap kind_terminal q.1 ∙ only q.0 q.2
-
--- nothing of this stands where a part is left out
-none_there : (o : Production) (x : Text) (k : Terminal) (a : Tokens) → allows o t.LineEnd ≡ false → allows o k ≡ false → ((w : Text) → capitals w ≡ x → kind_terminal (kinds.Word w) ≡ k) →
-    Allowed o a → SaysNothing x a a
-none_there o x k [] h g only q = absurd q
-none_there o x k (y ∷ ts) h g only q = (
-  Lines.none,
-  λ b l. untrue (sym h ∙ sym (ap (λ j. allows o (kind_terminal j)) (kind_at l)) ∙ q),
-  λ b w. untrue (sym g ∙ sym (ap (allows o) (seen_word x k w only)) ∙ q),
-)
-
 -- a body, with the place of its first token
 placed : {a m b : Tokens} {k : EflKind} (q : Place) → q ≡ place_at a → s.Body a m k → Lines m b → Reads (reading n.Unnamed) a b (val.stmt (efl.Statement [] q k))
 placed {m = m} {k = k} q h c l = ((q, k), refl, (h, (m, c, l)))
 
 chosen : {a i j k b : Tokens} {f : EflExpr} {x : EflStmt} (q : Place) (o : Option EflStmt) → q ≡ place_at a → Word (codes "IF") a i → e.Condition i j f → Lined s.Statement j k x → Else k b o →
     Reads (reading n.Unnamed) a b (val.stmt (efl.Statement [] q (conditional f x (perhaps (λ y. val.stmt y) o))))
-chosen q None h w c r l = placed q h (s.if_ w c r.1 (follows_no (codes "ELSE") (joined_lines r.2 l.0) l.1 l.2)) (joined_lines r.2 l.0)
-chosen q (Some y) h w c r l = placed q h (s.if_else w c r.1 (joined_lines r.2 l.2) l.3 l.4.1) l.4.2
+chosen q o h w c r (missing l n g) = placed q h (s.if_ w c r.1 (follows_no (codes "ELSE") (joined_lines r.2 l) n g)) (joined_lines r.2 l)
+chosen q o h w c r (present l v k) = placed q h (s.if_else w c r.1 (joined_lines r.2 l) v k.1) k.2
 
 turned : {a i k b : Tokens} {x : EflStmt} (q : Place) (o : Option (Place × EflExpr)) → q ≡ place_at a → Word (codes "REPEAT") a i → Lined s.Statement i k x → Until k b o →
     Reads (reading n.Unnamed) a b (val.stmt (efl.Statement [] q (repetition x (perhaps (λ y. val.located y.0 y.1) o))))
-turned q None h w r l = placed q h (s.repeat w r.1 (follows_no (codes "UNTIL") (joined_lines r.2 l.0) l.1 l.2)) (joined_lines r.2 l.0)
-turned {a} {b = b} {x = x} q (Some y) h w r l =
-    placed q h (subst (λ z. s.Body a b (efl.RepeatUntil x y.1 z)) (sym l.7) (s.repeat_until w r.1 (joined_lines r.2 l.3) l.4 l.5 l.6)) Lines.none
+turned q o h w r (missing l n g) = placed q h (s.repeat w r.1 (follows_no (codes "UNTIL") (joined_lines r.2 l) n g)) (joined_lines r.2 l)
+turned {a} {b = b} {x = x} q o h w r (present {y = y} l v k) =
+    placed q h (subst (λ z. s.Body a b (efl.RepeatUntil x y.1 z)) (sym k.3) (s.repeat_until w r.1 (joined_lines r.2 l) v k.1 k.2)) Lines.none
 
 body_statement : {a m b : Tokens} {k : EflKind} (q : Place) → q ≡ place_at a → s.Body a m k → Lines m b → Lined s.Statement a b (efl.Statement [] q k)
 body_statement {a} {m} {k = k} q h c l = (m, subst (λ z. s.Statement a m (efl.Statement [] z k)) (sym h) (s.statement Lines.none c), l)
@@ -225,7 +192,7 @@ default_read {a} {ss = ss} q h w o xs c cs r = subst (λ z. s.Clauses a c (efl.A
 
 pub deed_open : Step p.DeedOpen
 unfolding built
-deed_open a h = λ y m r q b t. (q, refl, λ g x k. t g a x k (sole (taken.open_sign r)))
+deed_open a h = λ y m r q b t. (q, refl, λ g x k. t g a x k (sole r))
 
 pub deed_place : Step p.DeedPlace
 unfolding built
@@ -233,11 +200,11 @@ deed_place a h = λ ss m c y b q. (with_steps ss (bare (part.Stored y.0 y.1)), r
 
 pub deed_empty : Step p.DeedEmpty
 unfolding built
-deed_empty a h = λ y b r. (bare (part.Called []), refl, λ g h x q o. e.called q o (sole (taken.close_sign r)))
+deed_empty a h = λ y b r. (bare (part.Called []), refl, λ g h x q o. e.called q o (sole r))
 
 pub deed_full : Step p.DeedFull
 unfolding built
-deed_full a h = λ es m c y k r q b t. (with_arguments es q, refl, λ g h x z o. t g h x es z (e.subs o c (sole (taken.close_sign r))))
+deed_full a h = λ es m c y k r q b t. (with_arguments es q, refl, λ g h x z o. t g h x es z (e.subs o c (sole r)))
 
 pub deed_stored : Step p.DeedStored
 unfolding built
@@ -249,7 +216,7 @@ deed_called a h = (bare (part.Called []), refl, λ g h x es k o. e.called_with k
 
 pub step_deed : Step p.StepDeed
 unfolding built
-step_deed a h = λ y m r s b c. ((y.place, stepped (tok y) s), refl, (taken.place_of r, a_step (taken.stepper r) c))
+step_deed a h = λ y m r s b c. ((y.place, stepped (tok y) s), refl, (place_of r, a_step (either r) c))
 
 pub named_part : Step p.NamedPart
 unfolding built
@@ -265,11 +232,11 @@ no_part a h = (nothing, refl, Perhaps.none)
 
 pub comma_separator : Step p.CommaSeparator
 unfolding built
-comma_separator a h = λ y b r. (tok y, refl, s.Sep.comma (sole (taken.comma_sign r)))
+comma_separator a h = λ y b r. (tok y, refl, s.Sep.comma (sole r))
 
 pub sign_separator : Step p.SignSeparator
 unfolding built
-sign_separator a h = λ y b r. (tok y, refl, s.Sep.semicolon (sole (taken.semicolon r)))
+sign_separator a h = λ y b r. (tok y, refl, s.Sep.semicolon (sole r))
 
 pub some_whole : Step p.SomeWhole
 unfolding built
@@ -281,7 +248,7 @@ no_whole a h = (nothing, refl, Perhaps.none)
 
 pub some_step : Step p.SomeStep
 unfolding built
-some_step a h = λ y m r f b c. (val.expr f, refl, Perhaps.some (s.Comma.comma (sole (taken.comma_sign r)) c))
+some_step a h = λ y m r f b c. (val.expr f, refl, Perhaps.some (s.Comma.comma (sole r) c))
 
 pub no_step : Step p.NoStep
 unfolding built
@@ -289,7 +256,7 @@ no_step a h = (nothing, refl, Perhaps.none)
 
 pub one_line : Step p.OneLine
 unfolding built
-one_line a h = λ y m r v b l. (v, refl, Lines.line (sole (taken.line_end r)) l)
+one_line a h = λ y m r v b l. (v, refl, Lines.line (sole r) l)
 
 pub no_line : Step p.NoLine
 unfolding built
@@ -297,7 +264,7 @@ no_line a h = (nothing, refl, Lines.none)
 
 pub condition : Step p.Condition
 unfolding built
-condition a h = λ y m r f k c z b s. (f, refl, e.condition (sole (taken.open_sign r)) c (sole (taken.close_sign s)))
+condition a h = λ y m r f k c z b s. (f, refl, e.condition (sole r) c (sole s))
 
 pub some_outcome : Step p.SomeOutcome
 unfolding built
@@ -337,27 +304,27 @@ no_count a h = (nothing, refl, λ g k q. s.Leaving.kind q)
 
 pub while_kind : Step p.WhileKind
 unfolding built
-while_kind a h = λ y b r. (y, refl, a_kind (codes "WHILE") loops.While refl r (taken.while_word r) (s.Kind.while (taken.while_word r)))
+while_kind a h = λ y b r. (y, refl, a_kind (codes "WHILE") loops.While refl (spelling r) (s.Kind.while (word_of r)))
 
 pub for_kind : Step p.ForKind
 unfolding built
-for_kind a h = λ y b r. (y, refl, a_kind (codes "FOR") loops.For refl r (taken.for_word r) (s.Kind.for (taken.for_word r)))
+for_kind a h = λ y b r. (y, refl, a_kind (codes "FOR") loops.For refl (spelling r) (s.Kind.for (word_of r)))
 
 pub repeat_kind : Step p.RepeatKind
 unfolding built
-repeat_kind a h = λ y b r. (y, refl, a_kind (codes "REPEAT") loops.Repeat refl r (taken.repeat_word r) (s.Kind.repeat (taken.repeat_word r)))
+repeat_kind a h = λ y b r. (y, refl, a_kind (codes "REPEAT") loops.Repeat refl (spelling r) (s.Kind.repeat (word_of r)))
 
 pub do_kind : Step p.DoKind
 unfolding built
-do_kind a h = λ y b r. (y, refl, a_kind (codes "DO") loops.Do refl r (taken.do_word r) (s.Kind.do_ (taken.do_word r)))
+do_kind a h = λ y b r. (y, refl, a_kind (codes "DO") loops.Do refl (spelling r) (s.Kind.do_ (word_of r)))
 
 pub switch_kind : Step p.SwitchKind
 unfolding built
-switch_kind a h = λ y b r. (y, refl, a_kind (codes "SWITCH") loops.Switch refl r (taken.switch_word r) (s.Kind.switch (taken.switch_word r)))
+switch_kind a h = λ y b r. (y, refl, a_kind (codes "SWITCH") loops.Switch refl (spelling r) (s.Kind.switch (word_of r)))
 
 pub more_write : Step p.MoreWrite
 unfolding built
-more_write a h = λ y m r x k c xs b t. (x ∷ xs, refl, Several.more (s.Comma.comma (sole (taken.comma_sign r)) c) t)
+more_write a h = λ y m r x k c xs b t. (x ∷ xs, refl, Several.more (s.Comma.comma (sole r) c) t)
 
 pub no_more_write : Step p.NoMoreWrite
 unfolding built
@@ -365,11 +332,11 @@ no_more_write a h = ([], refl, Several.none)
 
 pub value_item : Step p.ValueItem
 unfolding built
-value_item a h = λ f m c y k r x b q. (efl.Value f x, refl, s.value c (sole (taken.colon_sign r)) q)
+value_item a h = λ f m c y k r x b q. (efl.Value f x, refl, s.value c (sole r) q)
 
 pub skip_write : Step p.SkipWrite
 unfolding built
-skip_write a h = λ y m r z k x o i c v j n w b q. (efl.WriteItem.Skip (integer_in (tok v)), refl, s.WriteItem.skip (s.Skip.skip (sole (taken.colon_sign r)) (taken.skip_word x) (sole (taken.open_sign c)) (taken.number n) (sole (taken.close_sign q))))
+skip_write a h = λ y m r z k x o i c v j n w b q. (efl.WriteItem.Skip (integer_in (tok v)), refl, s.WriteItem.skip (s.Skip.skip (sole r) (taken.skip_word x) (sole c) (taken.number n) (sole q)))
 
 pub chars_item : Step p.CharsItem
 unfolding built
@@ -377,7 +344,7 @@ chars_item a h = λ y b r. (efl.Chars (text_in (tok y)), refl, taken.quoted r)
 
 pub more_read : Step p.MoreRead
 unfolding built
-more_read a h = λ y m r x k c xs b t. (x ∷ xs, refl, Several.more (s.Comma.comma (sole (taken.comma_sign r)) c) t)
+more_read a h = λ y m r x k c xs b t. (x ∷ xs, refl, Several.more (s.Comma.comma (sole r) c) t)
 
 pub no_more_read : Step p.NoMoreRead
 unfolding built
@@ -385,15 +352,15 @@ no_more_read a h = ([], refl, Several.none)
 
 pub take_item : Step p.TakeItem
 unfolding built
-take_item a h = λ f m c y k r x b q. (efl.Take f x, refl, s.take c (sole (taken.colon_sign r)) q)
+take_item a h = λ f m c y k r x b q. (efl.Take f x, refl, s.take c (sole r) q)
 
 pub skip_read : Step p.SkipRead
 unfolding built
-skip_read a h = λ y m r z k x o i c v j n w b q. (efl.ReadItem.Skip (integer_in (tok v)), refl, s.ReadItem.skip (s.Skip.skip (sole (taken.colon_sign r)) (taken.skip_word x) (sole (taken.open_sign c)) (taken.number n) (sole (taken.close_sign q))))
+skip_read a h = λ y m r z k x o i c v j n w b q. (efl.ReadItem.Skip (integer_in (tok v)), refl, s.ReadItem.skip (s.Skip.skip (sole r) (taken.skip_word x) (sole c) (taken.number n) (sole q)))
 
 pub width_edit_item : Step p.WidthEdit
 unfolding built
-width_edit_item a h = λ y m r z k o v j n w b q. (width_edit (tok y) (integer_in (tok v)), refl, an_edit (taken.width_word r) (sole (taken.open_sign o)) (taken.number n) (sole (taken.close_sign q)))
+width_edit_item a h = λ y m r z k o v j n w b q. (width_edit (tok y) (integer_in (tok v)), refl, an_edit (taken.width_word r) (sole o) (taken.number n) (sole q))
 
 pub char_edit : Step p.CharEdit
 unfolding built
@@ -401,7 +368,7 @@ char_edit a h = λ y b r. (edits.Letter, refl, s.Edit.letter (taken.char_word r)
 
 pub statements_line : Step p.StatementsLine
 unfolding built
-statements_line a h = λ y m r xs b q. (xs, refl, lines_before_statements (Lines.line (sole (taken.line_end r)) Lines.none) q)
+statements_line a h = λ y m r xs b q. (xs, refl, lines_before_statements (Lines.line (sole r) Lines.none) q)
 
 pub statements_more : Step p.StatementsMore
 unfolding built
@@ -421,7 +388,7 @@ listed_other a h = λ y b q. (efl.Statement [] y.0 y.1, refl, body_item y.0 q.0 
 
 pub label_rest : Step p.LabelRest
 unfolding built
-label_rest a h = λ y m r x b q. (inl x, refl, (m, sole (taken.colon_sign r), q))
+label_rest a h = λ y m r x b q. (inl x, refl, (m, sole r, q))
 
 pub act_rest : Step p.ActRest
 unfolding built
@@ -429,7 +396,7 @@ act_rest a h = λ q m c v b st. (inr q, refl, (m, c, st))
 
 pub statement_line : Step p.StatementLine
 unfolding built
-statement_line a h = λ y m r x b q. (x, refl, (q.0, lines_before_statement (Lines.line (sole (taken.line_end r)) Lines.none) q.1, q.2))
+statement_line a h = λ y m r x b q. (x, refl, (q.0, lines_before_statement (Lines.line (sole r) Lines.none) q.1, q.2))
 
 pub statement_act : Step p.StatementAct
 unfolding built
@@ -441,11 +408,11 @@ statement_other a h = λ y b q. (efl.Statement [] y.0 y.1, refl, body_statement 
 
 pub empty : Step p.Empty
 unfolding built
-empty a h = λ y b r. placed y.place (taken.place_of r) (s.empty (sole (taken.semicolon r))) Lines.none
+empty a h = λ y b r. placed y.place (place_of r) (s.empty (sole r)) Lines.none
 
 pub braces : Step p.Braces
 unfolding built
-braces a h = λ y m r x k q z b c. placed y.place (taken.place_of r) (s.block (sole (taken.open_brace_sign r)) q.2 q.3 q.4 (sole (taken.close_brace_sign c))) Lines.none
+braces a h = λ y m r x k q z b c. placed y.place (place_of r) (s.block (sole r) q.2 q.3 q.4 (sole c)) Lines.none
 
 pub step_statement : Step p.StepStatement
 unfolding built
@@ -453,75 +420,75 @@ step_statement a h = λ y m q v b st. placed y.0 q.0 (s.act (e.stepped q.1) st) 
 
 pub if_statement : Step p.IfStatement
 unfolding built
-if_statement a h = λ y i r f j c x k q o b l. chosen y.place o (taken.place_of r) (taken.if_word r) c q l
+if_statement a h = λ y i r f j c x k q o b l. chosen y.place o (place_of r) (word_of r) c q l
 
 pub while_statement : Step p.WhileStatement
 unfolding built
-while_statement a h = λ y i r f j c x b q. placed y.place (taken.place_of r) (s.while (taken.while_word r) c q.1) q.2
+while_statement a h = λ y i r f j c x b q. placed y.place (place_of r) (s.while (word_of r) c q.1) q.2
 
 pub for_statement : Step p.ForStatement
 unfolding built
-for_statement a h = λ y i r z j o v1 k c v2 l d v3 m e1 v4 i1 g v5 i2 c1 x1 i3 d1 s1 b q. placed y.place (taken.place_of r) (s.for (taken.for_word r) (sole (taken.open_sign o)) c d e1 g c1 (sole (taken.close_sign d1)) q.1) q.2
+for_statement a h = λ y i r z j o v1 k c v2 l d v3 m e1 v4 i1 g v5 i2 c1 x1 i3 d1 s1 b q. placed y.place (place_of r) (s.for (word_of r) (sole o) c d e1 g c1 (sole d1) q.1) q.2
 
 pub repeat_statement : Step p.RepeatStatement
 unfolding built
-repeat_statement a h = λ y i r x k q o b l. turned y.place o (taken.place_of r) (taken.repeat_word r) q l
+repeat_statement a h = λ y i r x k q o b l. turned y.place o (place_of r) (word_of r) q l
 
 pub do_statement : Step p.DoStatement
 unfolding built
-do_statement a h = λ y i r x j c z k v f l g w m o f1 i1 g1 v1 i2 h1 x1 b q. placed y.place (taken.place_of r) (s.do_ (taken.do_word r) c.1 (sole (taken.assign_sign v)) g (sole (taken.comma_sign o)) g1 h1 q.1) q.2
+do_statement a h = λ y i r x j c z k v f l g w m o f1 i1 g1 v1 i2 h1 x1 b q. placed y.place (place_of r) (s.do_ (word_of r) c.1 (sole v) g (sole o) g1 h1 q.1) q.2
 
 pub switch_statement : Step p.SwitchStatement
 unfolding built
-switch_statement a h = λ y i r f j c v k l z m o w i1 l1 xs i2 q z1 b g. (let cs : _ = lines_before_clauses l1 q in placed y.place (taken.place_of r) (s.switch (taken.switch_word r) c l (sole (taken.open_brace_sign o)) cs.1 cs.2 (sole (taken.close_brace_sign g))) Lines.none)
+switch_statement a h = λ y i r f j c v k l z m o w i1 l1 xs i2 q z1 b g. (let cs : _ = lines_before_clauses l1 q in placed y.place (place_of r) (s.switch (word_of r) c l (sole o) cs.1 cs.2 (sole g)) Lines.none)
 
 pub leave_statement : Step p.LeaveStatement
 unfolding built
-leave_statement a h = λ y i r v j q w b st. placed y.place (taken.place_of r) (leaving_body (taken.leave_word r) q st) Lines.none
+leave_statement a h = λ y i r v j q w b st. placed y.place (place_of r) (leaving_body (choice r) q st) Lines.none
 
 pub return_statement : Step p.ReturnStatement
 unfolding built
-return_statement a h = λ y i r v j q w b st. placed y.place (taken.place_of r) (s.return_ (taken.return_word r) q st) Lines.none
+return_statement a h = λ y i r v j q w b st. placed y.place (place_of r) (s.return_ (word_of r) q st) Lines.none
 
 pub goto_statement : Step p.GotoStatement
 unfolding built
-goto_statement a h = λ y i r x j q w b st. placed y.place (taken.place_of r) (s.goto (GoTo.one_word (taken.goto_word r)) q.1 st) Lines.none
+goto_statement a h = λ y i r x j q w b st. placed y.place (place_of r) (s.goto (GoTo.one_word (word_of r)) q.1 st) Lines.none
 
 pub go_to_statement : Step p.GoToStatement
 unfolding built
-go_to_statement a h = λ y i r z k v x j q w b st. placed y.place (taken.place_of r) (s.goto (GoTo.two_words (taken.go_word r) (taken.to_word v)) q.1 st) Lines.none
+go_to_statement a h = λ y i r z k v x j q w b st. placed y.place (place_of r) (s.goto (GoTo.two_words (word_of r) (word_of v)) q.1 st) Lines.none
 
 pub write_statement : Step p.WriteStatement
 unfolding built
-write_statement a h = λ y i r z j o v k c xs l q w m x v1 b st. placed y.place (taken.place_of r) (s.write (taken.write_word r) (sole (taken.open_sign o)) c q (sole (taken.close_sign x)) st) Lines.none
+write_statement a h = λ y i r z j o v k c xs l q w m x v1 b st. placed y.place (place_of r) (s.write (word_of r) (sole o) c q (sole x) st) Lines.none
 
 pub read_statement : Step p.ReadStatement
 unfolding built
-read_statement a h = λ y i r z j o v k c xs l q w m x v1 b st. placed y.place (taken.place_of r) (s.read (taken.read_word r) (sole (taken.open_sign o)) c q (sole (taken.close_sign x)) st) Lines.none
+read_statement a h = λ y i r z j o v k c xs l q w m x v1 b st. placed y.place (place_of r) (s.read (word_of r) (sole o) c q (sole x) st) Lines.none
 
 pub else_line : Step p.ElseLine
 unfolding built
-else_line a h = λ y m r o b q. (o, refl, else_lines b o (Lines.line (sole (taken.line_end r)) Lines.none) q)
+else_line a h = λ y m r o b q. (o, refl, lines_before_word (Lines.line (sole r) Lines.none) q)
 
 pub else_body : Step p.ElseBody
 unfolding built
-else_body a h = λ y m r x b q. (Some x, refl, (a, m, Lines.none, taken.else_word r, q))
+else_body a h = λ y m r x b q. (Some x, refl, present Lines.none (word_of r) q)
 
 pub no_else : Step p.NoElse
 unfolding built
-no_else a h = (None, refl, none_there p.NoElse (codes "ELSE") t.Else a refl refl (λ w g. word_seen_as (codes "ELSE") t.Else w g refl) h)
+no_else a h = (None, refl, none_there grammar p.NoElse (codes "ELSE") (λ q. refl) (λ w q g. ap (allows p.NoElse) (word_seen_as (codes "ELSE") t.Else w g refl)) a h)
 
 pub until_line : Step p.UntilLine
 unfolding built
-until_line a h = λ y m r o b q. (o, refl, until_lines b o (Lines.line (sole (taken.line_end r)) Lines.none) q)
+until_line a h = λ y m r o b q. (o, refl, lines_before_word (Lines.line (sole r) Lines.none) q)
 
 pub until_test : Step p.UntilTest
 unfolding built
-until_test a h = λ y m r f k c v b st. (Some (y.place, f), refl, (a, m, k, Lines.none, taken.until_word r, c, st, taken.place_of r))
+until_test a h = λ y m r f k c v b st. (Some (y.place, f), refl, present Lines.none (word_of r) (k, c, st, place_of r))
 
 pub no_until : Step p.NoUntil
 unfolding built
-no_until a h = (None, refl, none_there p.NoUntil (codes "UNTIL") t.Until a refl refl (λ w g. word_seen_as (codes "UNTIL") t.Until w g refl) h)
+no_until a h = (None, refl, none_there grammar p.NoUntil (codes "UNTIL") (λ q. refl) (λ w q g. ap (allows p.NoUntil) (word_seen_as (codes "UNTIL") t.Until w g refl)) a h)
 
 pub more_clauses : Step p.MoreClauses
 unfolding built
@@ -533,15 +500,15 @@ no_clause a h = (efl.NoCase, refl, (a, s.no_clause, Lines.none))
 
 pub case_clause : Step p.CaseClause
 unfolding built
-case_clause a h = λ y m r z k c zs j t v l o ss b q. (efl.AndCase (z ∷ zs) false ss y.place, refl, (q.0, case_read y.place (taken.place_of r) (taken.case_word r) (t m z c) (sole (taken.colon_sign o)) q.1, q.2))
+case_clause a h = λ y m r z k c zs j t v l o ss b q. (efl.AndCase (z ∷ zs) false ss y.place, refl, (q.0, case_read y.place (place_of r) (word_of r) (t m z c) (sole o) q.1, q.2))
 
 pub default_clause : Step p.DefaultClause
 unfolding built
-default_clause a h = λ y m r v l o ss b q. (efl.AndCase [] true ss y.place, refl, (q.0, default_read y.place (taken.place_of r) (taken.default_word r) (sole (taken.colon_sign o)) q.1, q.2))
+default_clause a h = λ y m r v l o ss b q. (efl.AndCase [] true ss y.place, refl, (q.0, default_read y.place (place_of r) (word_of r) (sole o) q.1, q.2))
 
 pub more_integral : Step p.MoreIntegral
 unfolding built
-more_integral a h = λ y m r x k c xs b t. (x ∷ xs, refl, λ g z q. Listed.comma q (sole (taken.comma_sign r)) (t m x c))
+more_integral a h = λ y m r x k c xs b t. (x ∷ xs, refl, λ g z q. Listed.comma q (sole r) (t m x c))
 
 pub no_more_integral : Step p.NoMoreIntegral
 unfolding built
@@ -549,7 +516,7 @@ no_more_integral a h = ([], refl, λ g z q. Listed.last q)
 
 pub outer_line : Step p.OuterLine
 unfolding built
-outer_line a h = λ y m r x b q. (x, refl, lines_before_listing {Kind = d.OuterDeclaration} (Lines.line (sole (taken.line_end r)) Lines.none) q)
+outer_line a h = λ y m r x b q. (x, refl, lines_before_listing {Kind = d.OuterDeclaration} (Lines.line (sole r) Lines.none) q)
 
 pub outer_declaration : Step p.OuterDeclaration
 unfolding built
@@ -577,7 +544,7 @@ outer_item a h = λ o m q xs b r. named_begins {Kind = d.OuterDeclaration} o q r
 
 pub inner_line : Step p.InnerLine
 unfolding built
-inner_line a h = λ y m r x b q. (x, refl, lines_before_listing {Kind = d.Declaration} (Lines.line (sole (taken.line_end r)) Lines.none) q)
+inner_line a h = λ y m r x b q. (x, refl, lines_before_listing {Kind = d.Declaration} (Lines.line (sole r) Lines.none) q)
 
 pub inner_declaration : Step p.InnerDeclaration
 unfolding built
@@ -605,19 +572,19 @@ inner_item a h = λ o m q xs b r. named_begins {Kind = d.Declaration} o q r
 
 pub outer_implicit : Step p.OuterImplicit
 unfolding built
-outer_implicit a h = λ y m r z k o x i c xs j t w l s v n st y1 b q. ((record { kind = Implicit (x ∷ xs) v.1; place = y.place } ∷ y1.0, y1.1), refl, more_decls {Kind = d.OuterDeclaration} y.place (taken.place_of r) (st a (x ∷ xs) (d.ImplicitRanges.implicit (taken.implicit_word r) (sole (taken.open_sign o)) (t k x c) (sole (taken.close_sign s)))) q)
+outer_implicit a h = λ y m r z k o x i c xs j t w l s v n st y1 b q. ((record { kind = Implicit (x ∷ xs) v.1; place = y.place } ∷ y1.0, y1.1), refl, more_decls {Kind = d.OuterDeclaration} y.place (place_of r) (st a (x ∷ xs) (d.ImplicitRanges.implicit (word_of r) (sole o) (t k x c) (sole s))) q)
 
 pub outer_common : Step p.OuterCommon
 unfolding built
-outer_common a h = λ y m r z k o x i c w l s v n st y1 b q. ((record { kind = shared (name_in (tok x)) v; place = y.place } ∷ y1.0, y1.1), refl, more_decls {Kind = d.OuterDeclaration} y.place (taken.place_of r) (st a (name_in (tok x)) (d.CommonName.common (taken.common_word r) (sole (taken.open_sign o)) c.1 (sole (taken.close_sign s)))) q)
+outer_common a h = λ y m r z k o x i c w l s v n st y1 b q. ((record { kind = shared (name_in (tok x)) v; place = y.place } ∷ y1.0, y1.1), refl, more_decls {Kind = d.OuterDeclaration} y.place (place_of r) (st a (name_in (tok x)) (d.CommonName.common (word_of r) (sole o) c.1 (sole s))) q)
 
 pub whole : Step p.Whole
 unfolding built
-whole a h = λ us m q y b r. (record { procedures = us; finish = y.place }, refl, (q.0, m, q.1, q.2, sole (taken.text_end r), taken.place_of r))
+whole a h = λ us m q y b r. (record { procedures = us; finish = y.place }, refl, (q.0, m, q.1, q.2, sole r, place_of r))
 
 pub blank_line : Step p.BlankLine
 unfolding built
-blank_line a h = λ y m r us b q. (us, refl, lines_before_procedures (Lines.line (sole (taken.line_end r)) Lines.none) q)
+blank_line a h = λ y m r us b q. (us, refl, lines_before_procedures (Lines.line (sole r) Lines.none) q)
 
 pub more_procedures : Step p.MoreProcedures
 unfolding built
@@ -629,15 +596,15 @@ no_procedure a h = ([], refl, (a, Several.none, Lines.none))
 
 pub one_procedure : Step p.OneProcedure
 unfolding built
-one_procedure a h = λ x m q v k st y l r z i w v1 b s1. (record { result = x.1; name = x.2; formals = x.3; declarations = y.0; body = y.1; place = x.0; finish = z.place }, refl, a_procedure x.0 z.place q.0 q.1 st r (taken.place_of w) (taken.end_word w) s1)
+one_procedure a h = λ x m q v k st y l r z i w v1 b s1. (record { result = x.1; name = x.2; formals = x.3; declarations = y.0; body = y.1; place = x.0; finish = z.place }, refl, a_procedure x.0 z.place q.0 q.1 st r (place_of w) (word_of w) s1)
 
 pub typed_header : Step p.TypedHeader
 unfolding built
-typed_header a h = λ y m q z k w x i c xs b f. ((y.0, Some y.1, Some (name_in (tok x)), xs), refl, (q.0, u.named (Perhaps.some q.1) (taken.procedure_word w) c.1 f))
+typed_header a h = λ y m q z k w x i c xs b f. ((y.0, Some y.1, Some (name_in (tok x)), xs), refl, (q.0, u.named (Perhaps.some q.1) (word_of w) c.1 f))
 
 pub plain_header : Step p.PlainHeader
 unfolding built
-plain_header a h = λ y m r x b t. ((y.place, None, x.0, x.1), refl, (taken.place_of r, t a (taken.procedure_word r)))
+plain_header a h = λ y m r x b t. ((y.place, None, x.0, x.1), refl, (place_of r, t a (word_of r)))
 
 pub named_heading : Step p.NamedHeading
 unfolding built
@@ -649,7 +616,7 @@ main_heading a h = ((None, []), refl, λ g w. u.main w)
 
 pub some_formals : Step p.SomeFormals
 unfolding built
-some_formals a h = λ y m r xs k t z b s. (xs, refl, t a b (sole (taken.open_sign r)) (sole (taken.close_sign s)))
+some_formals a h = λ y m r xs k t z b s. (xs, refl, t a b (sole r) (sole s))
 
 pub no_formals : Step p.NoFormals
 unfolding built
@@ -665,7 +632,7 @@ no_names a h = ([], refl, λ g h o s. u.Formals.empty o s)
 
 pub more_formal : Step p.MoreFormal
 unfolding built
-more_formal a h = λ y m r x k c xs b t. (name_in (tok x) ∷ xs, refl, λ g z q. Listed.comma q (sole (taken.comma_sign r)) (t m (name_in (tok x)) c.1))
+more_formal a h = λ y m r x k c xs b t. (name_in (tok x) ∷ xs, refl, λ g z q. Listed.comma q (sole r) (t m (name_in (tok x)) c.1))
 
 pub no_more_formal : Step p.NoMoreFormal
 unfolding built

@@ -1,5 +1,5 @@
 -- What a token is by what the table sees of it, and back.
-use Rattle.std.proofs.Common.{◌≡◌, ◌∙◌, ℕ, ℤ, Bool, true, false, ◌&&◌, ◌||◌, ◌==◌, List, [], ◌∷◌, Option, None, Some, ◌⊎◌, inl, inr, refl, subst, ap, if◌then◌else◌}
+use Rattle.std.proofs.Common.{◌≡◌, ℕ, ℤ, Bool, true, false, ◌||◌, Option, None, Some, [], ◌∷◌, ◌⊎◌, inl, inr, refl, ap, if◌then◌else◌}
 use Rattle.std.proofs.lemmas.Bool.{eqb-true}
 use Rattle.std.specs.Prelude.{codes}
 use Rattle.std.specs.Char.{to_ascii_uppercase}
@@ -13,10 +13,11 @@ use Rattle.efl_tree.specs.declared.expression.EflOperator.{EflOperator}
 use Rattle.efl_tree.specs.Syntax.{Text}
 use Rattle.efl_parse_table.specs.declared.table.Terminal.{Terminal}
 use Rattle.efl_parse_table.specs.declared.table.Terminal.TheVariants as t
-use Rattle.efl_parse_table.specs.Words.{reserved, is_spelled, terminal_in, is_letter, name_terminal, word_seen, word_terminal, text_terminal, sign_terminal, kind_terminal, seen}
+use Rattle.efl_parse_table.specs.Words.{reserved, terminal_in, is_letter, name_terminal, word_seen, word_terminal, text_terminal, sign_terminal, kind_terminal, seen}
 use Rattle.efl_parse_values.specs.Parts.{operator_of}
 use Rattle.rat_grammar.specs.Tokens.{Tokens, token, one, capitals, here, there}
-use Rattle.rat_grammar.proofs.TokenLemmas.{IsWord, IsSign, same, same_is}
+use Rattle.rat_grammar.proofs.Standing.{IsSign, IsWord}
+use Rattle.rat_grammar.proofs.ReservedWords.{terminal_of, terminal_by, EachWord, WordIs, word_is, ◌&◌, a_word, first_word, second_word}
 use Rattle.efl_grammar.specs.Expressions as e
 
 -- a word that is not reserved
@@ -97,33 +98,12 @@ Is t.Other k = Unit {0}
 
 -- ---- words ----
 
-abbrev EachWord : List (Text × Terminal) → Type 0
-EachWord [] = Unit {0}
-EachWord (x ∷ xs) = ((w : Text) → capitals w ≡ x.0 → Is x.1 (kinds.Word w)) × EachWord xs
-
-each_word : EachWord reserved
-each_word = (λ w h. (w, refl, h), (λ w h. (w, refl, h), (λ w h. (w, refl, h), (λ w h. (w, refl, h), (λ w h. (w, refl, h), (λ w h. (w, refl, h), (λ w h. inl (w, refl, h), (λ w h. inr (w, refl, h), (λ w h. (w, refl, h), (λ w h. inl (w, refl, h), (λ w h. inr (w, refl, h), (λ w h. inl (w, refl, h), (λ w h. inr (w, refl, h), (λ w h. (w, refl, h), (λ w h. (w, refl, h), (λ w h. (w, refl, h), (λ w h. (w, refl, h), (λ w h. (w, refl, h), (λ w h. (w, refl, h), (λ w h. (w, refl, h), (λ w h. (w, refl, h), (λ w h. (w, refl, h), (λ w h. (w, refl, h), (λ w h. inl (w, refl, h), (λ w h. inr (w, refl, h), (λ w h. (w, refl, h), (λ w h. (w, refl, h), (λ w h. (w, refl, h), (λ w h. (w, refl, h), (λ w h. (w, refl, h), (λ w h. (w, refl, h), tt)))))))))))))))))))))))))))))))
-
-pub spelled_same : (s w : Text) → is_spelled s w ≡ same s (capitals w)
-spelled_same [] [] = refl
-spelled_same [] (c ∷ cs) = refl
-spelled_same (s ∷ ss) [] = refl
-spelled_same (s ∷ ss) (c ∷ cs) = ap (λ b. (s == to_ascii_uppercase c) && b) (spelled_same ss cs)
-
-spelled_is : (s w : Text) → is_spelled s w ≡ true → capitals w ≡ s
-spelled_is s w h = same_is s (capitals w) (subst (λ b. b ≡ true) (spelled_same s w) h)
-
-abbrev WordIs : Option Terminal → Text → Type 0
-WordIs None w = Unit {0}
-WordIs (Some k) w = Is k (kinds.Word w)
-
-chosen_is : (b : Bool) (k : Terminal) (later : Option Terminal) (w : Text) → (b ≡ true → Is k (kinds.Word w)) → WordIs later w → WordIs (if b then Some k else later) w
-chosen_is true k later w h g = h refl
-chosen_is false k later w h g = g
-
-word_is : (xs : List (Text × Terminal)) → EachWord xs → (w : Text) → WordIs (terminal_in xs w) w
-word_is [] each w = tt
-word_is (x ∷ xs) each w = chosen_is (is_spelled x.0 w) x.1 (terminal_in xs w) w (λ h. each.0 w (spelled_is x.0 w h)) (word_is xs each.1 w)
+each_word : EachWord Is reserved
+each_word =
+    a_word & a_word & a_word & a_word & a_word & a_word & first_word & second_word
+    & a_word & first_word & second_word & first_word & second_word & a_word & a_word & a_word
+    & a_word & a_word & a_word & a_word & a_word & a_word & a_word & first_word
+    & second_word & a_word & a_word & a_word & a_word & a_word & a_word & tt
 
 abbrev pub letter_by : Bool → Bool → Bool → Bool → Terminal
 letter_by i l x y = if i || l then t.WidthLetter else (if x then t.CharLetter else (if y then t.SkipLetter else t.Letter))
@@ -141,7 +121,7 @@ name_is [] h = ([], refl, h)
 name_is (c ∷ []) h = letter_is (is_letter 73 c) (is_letter 76 c) (is_letter 67 c) (is_letter 88 c) c refl refl refl refl h
 name_is (c ∷ d ∷ ds) h = (c ∷ d ∷ ds, refl, h)
 
-seen_word_is : (o : Option Terminal) (w : Text) → terminal_in reserved w ≡ o → WordIs o w → Is (word_seen o w) (kinds.Word w)
+seen_word_is : (o : Option Terminal) (w : Text) → terminal_in reserved w ≡ o → WordIs Is o w → Is (word_seen o w) (kinds.Word w)
 seen_word_is (Some k) w e h = h
 seen_word_is None w e h = name_is w e
 
@@ -192,7 +172,7 @@ sign_is signs.Decrement = inr refl
 sign_is _ = tt
 
 kind_is : (k : TokenKind) → Is (kind_terminal k) k
-kind_is (kinds.Word w) = seen_word_is (terminal_in reserved w) w refl (word_is reserved each_word w)
+kind_is (kinds.Word w) = seen_word_is (terminal_in reserved w) w refl (word_is Is reserved each_word w)
 kind_is (kinds.Number z) = (z, refl)
 kind_is (kinds.Quoted w) = text_is w
 kind_is (kinds.Sign s) = sign_is s
@@ -200,29 +180,9 @@ kind_is kinds.LineEnd = refl
 kind_is kinds.Semicolon = refl
 kind_is kinds.TextEnd = refl
 
--- a token of which the table sees this
-pub seen_is : (k : Terminal) (t : Token) → seen t ≡ k → Is k t.kind
-seen_is k t h = subst (λ j. Is j t.kind) h (kind_is t.kind)
-
--- ---- back ----
-
-abbrev pub terminal_of : List (Text × Terminal) → Text → Option Terminal
-terminal_of [] w = None
-terminal_of (x ∷ xs) w = if same x.0 w then Some x.1 else terminal_of xs w
-
-terminal_by_capitals : (xs : List (Text × Terminal)) (w : Text) → terminal_in xs w ≡ terminal_of xs (capitals w)
-terminal_by_capitals [] w = refl
-terminal_by_capitals (x ∷ xs) w =
-    subst (λ b. (if is_spelled x.0 w then Some x.1 else terminal_in xs w) ≡ (if b then Some x.1 else terminal_of xs (capitals w))) (spelled_same x.0 w)
-    (ap (λ o. if is_spelled x.0 w then Some x.1 else o) (terminal_by_capitals xs w))
+pub seen_is : (y : Token) → Is (seen y) y.kind
+seen_is y = kind_is y.kind
 
 -- the table sees a reserved word as its terminal
-abbrev pub terminal_named : Text → Option Terminal
-terminal_named x = terminal_of reserved x
-
-pub word_seen_as : (x : Text) (k : Terminal) (w : Text) → capitals w ≡ x → terminal_named x ≡ Some k → word_terminal w ≡ k
-word_seen_as x k w h e = ap (λ o. word_seen o w) (terminal_by_capitals reserved w ∙ ap (terminal_of reserved) h ∙ e)
-
--- a word is no reserved one where its capitals are none
-pub free_by : (x : Text) (w : Text) → capitals w ≡ x → terminal_named x ≡ None → terminal_in reserved w ≡ None
-free_by x w h e = terminal_by_capitals reserved w ∙ ap (terminal_of reserved) h ∙ e
+pub word_seen_as : (x : Text) (k : Terminal) (w : Text) → capitals w ≡ x → terminal_of reserved x ≡ Some k → word_terminal w ≡ k
+word_seen_as x k w h e = ap (λ o. word_seen o w) (terminal_by reserved x w h e)

@@ -1,6 +1,19 @@
--- What each production reads.
+-- What each production reads, and so each derivation of the table.
+use Rattle.std.proofs.Common.{[], refl}
+use Rattle.grammar.specs.declared.language.Symbol.TheVariants.{Nonterminal}
+use Rattle.grammar.specs.Grammar.{IsProgram}
+use Rattle.rat_parse_table.specs.declared.table.Nonterminal.{Nonterminal as ANonterminal}
+use Rattle.rat_parse_table.specs.declared.table.Nonterminal.TheVariants as n
 use Rattle.rat_parse_table.specs.declared.table.Production.{Production}
 use Rattle.rat_parse_table.specs.declared.table.Production.TheVariants as p
+use Rattle.rat_parse_values.specs.Values.{Val}
+use Rattle.rat_parse.specs.Ratfor.{grammar}
+use Rattle.rat_grammar.specs.Tokens.{Tokens}
+use Rattle.rat_grammar.specs.Laws.{Found}
+use Rattle.rat_grammar.proofs.TokenLemmas.{Is, seen_is}
+use Rattle.rat_grammar.proofs.Readings.{reading}
+use Rattle.rat_grammar.proofs.Derivations as derivations
+use Rattle.rat_grammar.proofs.Derivations.{Reads}
 use Rattle.rat_grammar.proofs.Steps.{Step}
 use Rattle.rat_grammar.proofs.ExpressionsRead as expressions
 use Rattle.rat_grammar.proofs.PlainRead as plain
@@ -211,3 +224,9 @@ steps p.PlainName = expressions.plain_name
 steps p.FieldName = expressions.field_name
 steps p.OctalNumber = expressions.octal_number
 steps p.DecimalNumber = expressions.decimal_number
+
+pub part_read : {m : ANonterminal} {a b : Tokens} {v : Val} → Found (Nonterminal m) a b v → Reads (reading m) a b v
+part_read c = derivations.reads grammar reading Is seen_is steps (record { tree = c.tree; derives = c.derives; gives = c.gives })
+
+pub text_read : {ts : Tokens} {v : Val} → IsProgram grammar ts v → Reads (reading n.Program) ts [] v
+text_read = derivations.reads_whole grammar reading Is seen_is steps tt (λ k. refl)

@@ -1,26 +1,25 @@
 -- The table derives each specification, list of DATA and list of READ or WRITE of the published grammar.
-use Rattle.std.proofs.Common.{◌≡◌, ◌∙◌, ℕ, ℤ, Bool, List, [], ◌∷◌, refl, ap, if◌then◌else◌}
+use Rattle.std.proofs.Common.{◌≡◌, ◌∙◌, ℕ, ℤ, List, [], ◌∷◌, refl, ap}
 use Rattle.std.specs.Prelude.{codes}
 use Rattle.ground.specs.declared.place.Place.{Place}
 use Rattle.ground.specs.declared.token.Token.{Token}
 use Rattle.ground.specs.declared.token.TokenKind.TheVariants as kinds
 use Rattle.ground.specs.declared.token.Sign.TheVariants as signs
 use Rattle.f66_tree.specs.declared.declaration.TypeWord.{TypeWord}
-use Rattle.f66_tree.specs.declared.declaration.TypeWord.TheVariants as types
 use Rattle.f66_tree.specs.Syntax as f66
 use Rattle.f66_tree.specs.Syntax.{Text, Formula, Par}
 use Rattle.rat_parse_table.specs.declared.table.Terminal.TheVariants as t
 use Rattle.rat_parse_table.specs.declared.table.Nonterminal.TheVariants as n
 use Rattle.rat_parse_table.specs.declared.table.Production.TheVariants as p
-use Rattle.rat_parse_table.specs.Words.{is_spelled}
 use Rattle.rat_parse_values.specs.Values.{tok, formula, formulas, located, par, pars, range, declared, declareds, area, areas, groups, preset, presets, datum, data_values}
 use Rattle.rat_parse_values.specs.Parts.{type_word}
 use Rattle.rat_grammar.specs.Tokens.{Tokens, token, one, capitals, word, name, Number, place_at, Listed, Several}
 use Rattle.rat_grammar.specs.Expressions.{Ref}
 use Rattle.rat_grammar.specs.Declarations as d
 use Rattle.rat_grammar.specs.Laws.{IsSome}
-use Rattle.rat_grammar.proofs.Steps.{FoundPart, is_some, make, found_token, found_empty, given}
-use Rattle.rat_grammar.proofs.Taken.{is_other_word}
+use Rattle.rat_grammar.proofs.Derivations.{is_some, given}
+use Rattle.rat_grammar.proofs.Steps.{FoundPart, FoundAs, make, found_token, found_empty}
+use Rattle.rat_grammar.proofs.Taken.{type_is}
 use Rattle.rat_grammar.proofs.ExpressionsFound.{found_name, found_number, found_ref}
 use Rattle.rat_grammar.proofs.ListsFound.{FoundList, found_list}
 use Rattle.rat_grammar.proofs.WordsFound.{the_word}
@@ -33,42 +32,35 @@ pub record FoundType (a b : Tokens) (w : TypeWord) : Type 0 where
   pub is : type_word (tok token) ≡ w
   pub place : token.place ≡ place_at a
 
-typed : {i l : Bool} (w : Text) → is_spelled (codes "INTEGER") w ≡ i → is_spelled (codes "LOGICAL") w ≡ l →
-    (if is_spelled (codes "INTEGER") w then types.Integer else (if is_spelled (codes "LOGICAL") w then types.Logical else types.Other))
-    ≡ (if i then types.Integer else (if l then types.Logical else types.Other))
-typed {i} w h g =
-    ap (λ v. if v then types.Integer else (if is_spelled (codes "LOGICAL") w then types.Logical else types.Other)) h
-    ∙ ap (λ v. if i then types.Integer else (if v then types.Logical else types.Other)) g
-
 pub found_type : {a b : Tokens} {w : TypeWord} → d.TypeName a b w → FoundType a b w
 found_type (d.integer (word {w = w} h)) = record {
   token = _;
   found = make p.OneWord tt _ _ _ (the_word (codes "INTEGER") t.Type refl h);
-  is = typed w (is_other_word (codes "INTEGER") (codes "INTEGER") w h refl) (is_other_word (codes "LOGICAL") (codes "INTEGER") w h refl);
+  is = type_is w (codes "INTEGER") h;
   place = refl;
 }
 found_type (d.logical (word {w = w} h)) = record {
   token = _;
   found = make p.OneWord tt _ _ _ (the_word (codes "LOGICAL") t.Type refl h);
-  is = typed w (is_other_word (codes "INTEGER") (codes "LOGICAL") w h refl) (is_other_word (codes "LOGICAL") (codes "LOGICAL") w h refl);
+  is = type_is w (codes "LOGICAL") h;
   place = refl;
 }
 found_type (d.real (word {w = w} h)) = record {
   token = _;
   found = make p.OneWord tt _ _ _ (the_word (codes "REAL") t.Type refl h);
-  is = typed w (is_other_word (codes "INTEGER") (codes "REAL") w h refl) (is_other_word (codes "LOGICAL") (codes "REAL") w h refl);
+  is = type_is w (codes "REAL") h;
   place = refl;
 }
 found_type (d.complex (word {w = w} h)) = record {
   token = _;
   found = make p.OneWord tt _ _ _ (the_word (codes "COMPLEX") t.Type refl h);
-  is = typed w (is_other_word (codes "INTEGER") (codes "COMPLEX") w h refl) (is_other_word (codes "LOGICAL") (codes "COMPLEX") w h refl);
+  is = type_is w (codes "COMPLEX") h;
   place = refl;
 }
 found_type (d.double (word {w = w} h) (word k)) = record {
   token = _;
   found = make p.TwoWords tt _ _ _ (the_word (codes "DOUBLE") t.Double refl h) _ _ (the_word (codes "PRECISION") t.Precision refl k);
-  is = typed w (is_other_word (codes "INTEGER") (codes "DOUBLE") w h refl) (is_other_word (codes "LOGICAL") (codes "DOUBLE") w h refl);
+  is = type_is w (codes "DOUBLE") h;
   place = refl;
 }
 
@@ -94,13 +86,13 @@ more_par : {a b c : Tokens} {q : Place} {x : Par} {xs : List Par} → FoundPart 
     FoundPart n.ParMore (token (kinds.Sign signs.Comma) q ∷ a) c (pars (x ∷ xs))
 more_par c k = make p.MorePar tt _ _ _ (found_token t.Comma _ _ refl) _ _ c _ _ k
 
-found_pars : {a b : Tokens} {xs : List Par} → Listed d.Parameter a b xs → IsSome b → FoundList (λ a b x. FoundPart n.Par a b (par x)) n.ParMore (λ y. pars y) a b xs
-found_pars = found_list d.Parameter (λ a b x. FoundPart n.Par a b (par x)) n.ParMore (λ y. pars y) (λ a b x c s. found_par c) (λ a b c q x xs y k. more_par y k) (λ a s. no_more_par s)
+found_pars : {a b : Tokens} {xs : List Par} → Listed d.Parameter a b xs → IsSome b → FoundList (FoundAs n.Par (λ y. par y)) (FoundAs n.ParMore (λ y. pars y)) a b xs
+found_pars = found_list (λ a b x c s. found_par c) (λ a b c q x xs y k. more_par y k) (λ a s. no_more_par s)
 
 pub found_declared : {a b : Tokens} {x : f66.Declared} → d.Declared a b x → IsSome b → FoundPart n.Declared a b (declared x)
 found_declared (d.Declared.name (name h)) s = make p.Declared tt _ _ _ (found_name _ _ _ h) _ _ (found_empty p.NoSizes refl (λ k. refl) s)
 found_declared (d.sized (name {w = w} h) one us one) s =
-    let r : FoundList (λ a b x. FoundPart n.Par a b (par x)) n.ParMore (λ y. pars y) _ _ _ = found_pars us tt in
+    let r : FoundList _ _ _ _ _ = found_pars us tt in
     given (ap (λ z. declared (record { name = capitals w; sizes = z })) r.is)
     (make p.Declared tt _ _ _ (found_name _ _ _ h) _ _
     (make p.SomeSizes tt _ _ _ (found_token t.Open _ _ refl) _ _ r.found _ _ r.more _ _ (found_token t.Close _ _ refl)))
@@ -114,8 +106,8 @@ more_declared c k = make p.MoreDeclared tt _ _ _ (found_token t.Comma _ _ refl) 
 
 pub found_declareds : {a b : Tokens} {xs : List f66.Declared} → Listed d.Declared a b xs → IsSome b → FoundPart n.DeclaredList a b (declareds xs)
 found_declareds q s =
-    let r : FoundList (λ a b x. FoundPart n.Declared a b (declared x)) n.DeclaredMore (λ y. declareds y) _ _ _ =
-    found_list d.Declared (λ a b x. FoundPart n.Declared a b (declared x)) n.DeclaredMore (λ y. declareds y) (λ a b x c s. found_declared c s) (λ a b c q x xs y k. more_declared y k) (λ a s. no_more_declared s) q s in
+    let r : FoundList (FoundAs n.Declared (λ y. declared y)) (FoundAs n.DeclaredMore (λ y. declareds y)) _ _ _ =
+    found_list (λ a b x c s. found_declared c s) (λ a b c q x xs y k. more_declared y k) (λ a s. no_more_declared s) q s in
     given (ap (λ z. declareds z) r.is) (make p.DeclaredList tt _ _ _ r.found _ _ r.more)
 
 -- ---- common blocks ----
@@ -156,12 +148,12 @@ more_ref : {a b c : Tokens} {q : Place} {x : Formula} {xs : List Formula} → Fo
     FoundPart n.RefMore (token (kinds.Sign signs.Comma) q ∷ a) c (formulas (x ∷ xs))
 more_ref c k = make p.MoreRef tt _ _ _ (found_token t.Comma _ _ refl) _ _ c _ _ k
 
-found_refs : {a b : Tokens} {xs : List Formula} → Listed Ref a b xs → IsSome b → FoundList (λ a b x. FoundPart n.Ref a b (located (place_at a) x)) n.RefMore (λ y. formulas y) a b xs
-found_refs = found_list Ref (λ a b x. FoundPart n.Ref a b (located (place_at a) x)) n.RefMore (λ y. formulas y) (λ a b x c s. found_ref c s) (λ a b c q x xs y k. more_ref y k) (λ a s. no_more_ref s)
+found_refs : {a b : Tokens} {xs : List Formula} → Listed Ref a b xs → IsSome b → FoundList (λ a b x. FoundPart n.Ref a b (located (place_at a) x)) (FoundAs n.RefMore (λ y. formulas y)) a b xs
+found_refs = found_list (λ a b x c s. found_ref c s) (λ a b c q x xs y k. more_ref y k) (λ a s. no_more_ref s)
 
 found_alias : {a b : Tokens} {xs : List Formula} → d.Alias a b xs → IsSome b → FoundPart n.Alias a b (formulas xs)
 found_alias (d.alias {f = f} one x one xs one) s =
-    let r : FoundList (λ a b x. FoundPart n.Ref a b (located (place_at a) x)) n.RefMore (λ y. formulas y) _ _ _ = found_refs xs tt in
+    let r : FoundList _ _ _ _ _ = found_refs xs tt in
     given (ap (λ z. formulas (f ∷ z)) r.is)
     (make p.Alias tt _ _ _ (found_token t.Open _ _ refl) _ _ (found_ref x tt) _ _ (found_token t.Comma _ _ refl) _ _ r.found _ _ r.more _ _ (found_token t.Close _ _ refl))
 
@@ -173,8 +165,8 @@ more_alias : {a b c : Tokens} {q : Place} {x : List Formula} {xs : List (List Fo
 more_alias c k = make p.MoreAlias tt _ _ _ (found_token t.Comma _ _ refl) _ _ c _ _ k
 
 pub found_aliases : {a b : Tokens} {xs : List (List Formula)} → Listed d.Alias a b xs → IsSome b →
-    FoundList (λ a b x. FoundPart n.Alias a b (formulas x)) n.AliasMore (λ y. groups y) a b xs
-found_aliases = found_list d.Alias (λ a b x. FoundPart n.Alias a b (formulas x)) n.AliasMore (λ y. groups y) (λ a b x c s. found_alias c s) (λ a b c q x xs y k. more_alias y k) (λ a s. no_more_alias s)
+    FoundList (FoundAs n.Alias (λ y. formulas y)) (FoundAs n.AliasMore (λ y. groups y)) a b xs
+found_aliases = found_list (λ a b x c s. found_alias c s) (λ a b c q x xs y k. more_alias y k) (λ a s. no_more_alias s)
 
 -- ---- DATA ----
 
@@ -213,9 +205,9 @@ more_datum c k = make p.MoreDatum tt _ _ _ (found_token t.Comma _ _ refl) _ _ c 
 
 found_preset : {a b : Tokens} {x : f66.PresetPart} → d.Preset a b x → IsSome b → FoundPart n.Preset a b (preset x)
 found_preset (d.preset {fs = ys} xs one ds one) s =
-    let r : FoundList (λ a b x. FoundPart n.Ref a b (located (place_at a) x)) n.RefMore (λ y. formulas y) _ _ _ = found_refs xs tt in
-    let q : FoundList (λ a b x. FoundPart n.Datum a b (datum x.0 x.1)) n.DatumMore (λ y. data_values y) _ _ _ =
-    found_list d.Datum (λ a b x. FoundPart n.Datum a b (datum x.0 x.1)) n.DatumMore (λ y. data_values y) (λ a b x c s. found_datum c s) (λ a b c q x xs y k. more_datum y k) (λ a s. no_more_datum s) ds tt in
+    let r : FoundList _ _ _ _ _ = found_refs xs tt in
+    let q : FoundList (FoundAs n.Datum (λ y. datum y.0 y.1)) (FoundAs n.DatumMore (λ y. data_values y)) _ _ _ =
+    found_list (λ a b x c s. found_datum c s) (λ a b c q x xs y k. more_datum y k) (λ a s. no_more_datum s) ds tt in
     given (ap (λ z. preset (record { places = z; values = q.first ∷ q.others })) r.is ∙ ap (λ z. preset (record { places = ys; values = z })) q.is)
     (make p.Preset tt _ _ _ r.found _ _ r.more _ _ (found_token t.Slash _ _ refl) _ _ q.found _ _ q.more _ _ (found_token t.Slash _ _ refl))
 
@@ -226,5 +218,5 @@ more_preset : {a b c : Tokens} {q : Place} {x : f66.PresetPart} {xs : List f66.P
     FoundPart n.PresetMore (token (kinds.Sign signs.Comma) q ∷ a) c (presets (x ∷ xs))
 more_preset c k = make p.MorePreset tt _ _ _ (found_token t.Comma _ _ refl) _ _ c _ _ k
 
-pub found_presets : {a b : Tokens} {xs : List f66.PresetPart} → Listed d.Preset a b xs → IsSome b → FoundList (λ a b x. FoundPart n.Preset a b (preset x)) n.PresetMore (λ y. presets y) a b xs
-found_presets = found_list d.Preset (λ a b x. FoundPart n.Preset a b (preset x)) n.PresetMore (λ y. presets y) (λ a b x c s. found_preset c s) (λ a b c q x xs y k. more_preset y k) (λ a s. no_more_preset s)
+pub found_presets : {a b : Tokens} {xs : List f66.PresetPart} → Listed d.Preset a b xs → IsSome b → FoundList (FoundAs n.Preset (λ y. preset y)) (FoundAs n.PresetMore (λ y. presets y)) a b xs
+found_presets = found_list (λ a b x c s. found_preset c s) (λ a b c q x xs y k. more_preset y k) (λ a s. no_more_preset s)

@@ -16,7 +16,8 @@ use Rattle.rat_grammar.specs.Tokens.{Tokens, token, one, capitals, name}
 use Rattle.rat_grammar.specs.Expressions as e
 use Rattle.rat_grammar.specs.Declarations as d
 use Rattle.rat_grammar.specs.Laws.{IsSome}
-use Rattle.rat_grammar.proofs.Steps.{FoundPart, make, found_token, found_empty, given}
+use Rattle.rat_grammar.proofs.Derivations.{given}
+use Rattle.rat_grammar.proofs.Steps.{FoundPart, make, found_token, found_empty}
 use Rattle.rat_grammar.proofs.ExpressionsFound.{FoundExprs, found_name, found_ref, found_exprs, found_subscripts}
 use Rattle.rat_grammar.proofs.DeclarationsFound.{found_range}
 

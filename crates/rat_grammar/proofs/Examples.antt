@@ -1,8 +1,6 @@
 -- Small texts and their trees.
 use Rattle.std.proofs.Common.{List, ◌≡◌, ◌∙◌, ◌⊎◌, inl, inr, Bool, true, false, refl, sym, subst, ap}
 use Rattle.std.specs.Prelude.{ℕ, pos, [], ◌∷◌, Some, None, codes}
-use Rattle.ground.specs.declared.place.Place.{Place}
-use Rattle.ground.specs.declared.token.Token.{Token}
 use Rattle.ground.specs.declared.token.TokenKind.{TokenKind}
 use Rattle.ground.specs.declared.token.TokenKind.TheVariants as kinds
 use Rattle.ground.specs.declared.token.Sign.{Sign as ASign}
@@ -16,7 +14,7 @@ use Rattle.f66_tree.specs.Syntax as f66
 use Rattle.f66_tree.specs.Syntax.{Text, Formula, Int, Pair, Minus, Assign, Constant, NoFormula, AndFormula}
 use Rattle.rat_tree.specs.Syntax as tree
 use Rattle.rat_tree.specs.Syntax.{Command, NoCommand, AndCommand}
-use Rattle.rat_grammar.specs.Tokens.{Perhaps, Tokens, token, One, one, capitals, Word, word, name, Lines, Stop, Several, Listed, here as first, there as later}
+use Rattle.rat_grammar.specs.Tokens.{Perhaps, Tokens, One, one, word, name, Lines, Stop, Several, Listed, here as first, there as later}
 use Rattle.rat_grammar.specs.Expressions as e
 use Rattle.rat_grammar.specs.Formats as f
 use Rattle.rat_grammar.specs.Declarations as d
@@ -24,26 +22,9 @@ use Rattle.rat_grammar.specs.Plain as pl
 use Rattle.rat_grammar.specs.Statements as s
 use Rattle.rat_grammar.specs.Programs as u
 use Rattle.rat_grammar.proofs.Published.{programs}
-use Rattle.rat_grammar.proofs.TokenLemmas.{untrue, same, same_self}
+use Rattle.rat_grammar.proofs.ReservedWords.{untrue}
+use Rattle.rat_grammar.proofs.ExampleTokens.{here, at, w, sign, number, line, if_a, a_is, no_word}
 use Rattle.rat_grammar.proofs.LineLemmas.{no_line_at, follows_no, kind_at}
-
-abbrev here : ℕ → Place
-here n = record { file = 0; line = n }
-
-abbrev at : ℕ → TokenKind → Token
-at n k = token k (here n)
-
-abbrev w : ℕ → Text → Token
-w n x = at n (kinds.Word x)
-
-abbrev sign : ℕ → ASign → Token
-sign n x = at n (kinds.Sign x)
-
-abbrev number : ℕ → ℕ → Token
-number n k = at n (kinds.Number (pos k))
-
-abbrev line : ℕ → Token
-line n = at n kinds.LineEnd
 
 -- ---- expressions ----
 
@@ -90,16 +71,6 @@ assigned st = s.plain (pl.simple (pl.assignment (e.name (name refl)) one (expr_o
 
 condition : {n : ℕ} {ts : Tokens} → e.Condition (sign n signs.Open ∷ w n (codes "a") ∷ sign n signs.Close ∷ ts) ts a
 condition = e.condition one (expr_of (sum_of (factor_of (e.name (name refl))))) one
-
--- another word
-no_word : {x : Text} {n : ℕ} {v : Text} {ts c : Tokens} → same x (capitals v) ≡ false → Word x (w n v ∷ ts) c → ⊥
-no_word {x} {v = v} g (word h) = untrue (sym g ∙ ap (same x) h ∙ same_self x)
-
-abbrev if_a : ℕ → Tokens → Tokens
-if_a n ts = w n (codes "if") ∷ sign n signs.Open ∷ w n (codes "a") ∷ sign n signs.Close ∷ ts
-
-abbrev a_is : ℕ → ℕ → Tokens → Tokens
-a_is n k ts = w n (codes "a") ∷ sign n signs.Assign ∷ number n k ∷ ts
 
 -- An else belongs to the nearest if, over the ends of lines:
 --   if (a)

@@ -19,8 +19,9 @@ use Rattle.rat_parse_expressions.specs.Phrases.{joined}
 use Rattle.rat_grammar.specs.Tokens.{Tokens, token, one, capitals, name, place_at}
 use Rattle.rat_grammar.specs.Expressions as e
 use Rattle.rat_grammar.specs.Laws.{IsSome}
-use Rattle.rat_grammar.proofs.TokenLemmas.{SignHere, stands, sign_here}
-use Rattle.rat_grammar.proofs.Steps.{FoundPart, is_some, make, found_token, found_empty, given}
+use Rattle.rat_grammar.proofs.Standing.{SignHere, stands, sign_here}
+use Rattle.rat_grammar.proofs.Derivations.{is_some, given}
+use Rattle.rat_grammar.proofs.Steps.{FoundPart, make, found_token, found_empty}
 
 -- ---- names and numbers ----
 

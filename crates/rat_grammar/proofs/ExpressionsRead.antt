@@ -15,7 +15,7 @@ use Rattle.rat_grammar.specs.Expressions as e
 use Rattle.rat_grammar.proofs.Readings.{Joins}
 use Rattle.rat_grammar.proofs.Steps.{Step}
 use Rattle.rat_grammar.proofs.Taken as taken
-use Rattle.rat_grammar.proofs.Taken.{Exact, exact, Either, first, second, sole}
+use Rattle.rat_grammar.proofs.Standing.{place_of, Exact, exact, exactly, sole, Either, first, second, either}
 
 abbrev More : Token → Formula → List (Operator × Formula) → List (Operator × Formula)
 More y g js = (operator_of (sign_in (tok y)), g) ∷ js
@@ -56,7 +56,7 @@ pub expr : Step p.Expr
 expr a h = λ f m c js b t. (joined f js, refl, t a f (e.conj c))
 
 pub or_more : Step p.OrMore
-or_more a h = λ y m r g k c js b t. (More y g js, refl, or_tail js (taken.or_sign r) c t)
+or_more a h = λ y m r g k c js b t. (More y g js, refl, or_tail js (exactly r) c t)
 
 pub or_done : Step p.OrDone
 or_done a h = ([], refl, λ s x g. g)
@@ -65,13 +65,13 @@ pub conjunction : Step p.Conjunction
 conjunction a h = λ f m c js b t. (joined f js, refl, t a f (e.neg c))
 
 pub and_more : Step p.AndMore
-and_more a h = λ y m r g k c js b t. (More y g js, refl, and_tail js (taken.and_sign r) c t)
+and_more a h = λ y m r g k c js b t. (More y g js, refl, and_tail js (exactly r) c t)
 
 pub and_done : Step p.AndDone
 and_done a h = ([], refl, λ s x g. g)
 
 pub negated : Step p.Negated
-negated a h = λ y m r f b c. (Not f, refl, e.not (sole (taken.not_sign r)) c)
+negated a h = λ y m r f b c. (Not f, refl, e.not (sole r) c)
 
 pub affirmed : Step p.Affirmed
 affirmed a h = λ f b c. (f, refl, e.rel c)
@@ -89,13 +89,13 @@ pub sum : Step p.Sum
 sum a h = λ f m c js b t. (joined f js, refl, t a f c)
 
 pub signed_term : Step p.SignedTerm
-signed_term a h = λ y m r g b c. (signed (tok y) g, refl, signed_sum (taken.adding r) c)
+signed_term a h = λ y m r g b c. (signed (tok y) g, refl, signed_sum (either r) c)
 
 pub unsigned_term : Step p.UnsignedTerm
 unsigned_term a h = λ f b c. (f, refl, e.term c)
 
 pub sum_more : Step p.SumMore
-sum_more a h = λ y m r g k c js b t. (More y g js, refl, sum_tail js (taken.adding r) c t)
+sum_more a h = λ y m r g k c js b t. (More y g js, refl, sum_tail js (either r) c t)
 
 pub sum_done : Step p.SumDone
 sum_done a h = ([], refl, λ s x g. g)
@@ -104,10 +104,10 @@ pub term : Step p.Term
 term a h = λ f m c js b t. (joined f js, refl, t a f (e.factor c))
 
 pub times_more : Step p.TimesMore
-times_more a h = λ y m r g k c js b t. (More y g js, refl, times_tail js (taken.star_sign r) c t)
+times_more a h = λ y m r g k c js b t. (More y g js, refl, times_tail js (exactly r) c t)
 
 pub over_more : Step p.OverMore
-over_more a h = λ y m r g k c js b t. (More y g js, refl, over_tail js (taken.slash_sign r) c t)
+over_more a h = λ y m r g k c js b t. (More y g js, refl, over_tail js (exactly r) c t)
 
 pub term_done : Step p.TermDone
 term_done a h = ([], refl, λ s x g. g)
@@ -116,7 +116,7 @@ pub factor : Step p.Factor
 factor a h = λ v m c js b t. (joined (as_formula v) js, refl, t a (as_formula v) c)
 
 pub raised : Step p.Raised
-raised a h = λ y m r v b c. (More y (as_formula v) [], refl, power_tail (taken.power_sign r) c)
+raised a h = λ y m r v b c. (More y (as_formula v) [], refl, power_tail (exactly r) c)
 
 pub not_raised : Step p.NotRaised
 not_raised a h = ([], refl, λ s x g. e.prime g)
@@ -125,13 +125,13 @@ pub number_prime : Step p.NumberPrime
 number_prime a h = λ y b r. (formula (Int (integer_in (tok y))), refl, e.number r.1)
 
 pub truth_prime : Step p.TruthPrime
-truth_prime a h = λ y b r. (truth_value (tok y), refl, a_truth (taken.truth r))
+truth_prime a h = λ y b r. (truth_value (tok y), refl, a_truth (either r))
 
 pub ref_prime : Step p.RefPrime
 ref_prime a h = λ y b r. (located y.0 y.1, refl, e.ref r.1)
 
 pub group_prime : Step p.GroupPrime
-group_prime a h = λ y m r f k c z b s. (formula (Group f), refl, e.group (sole (taken.open_sign r)) c (sole (taken.close_sign s)))
+group_prime a h = λ y m r f k c z b s. (formula (Group f), refl, e.group (sole r) c (sole s))
 
 pub ref : Step p.Ref
 ref a h = λ y m r o b q. ((y.place, _), refl, (r.0, q a (name_in (tok y)) r.1))
@@ -143,25 +143,25 @@ pub no_arguments : Step p.NoArguments
 no_arguments a h = (None, refl, λ g x k. e.name k)
 
 pub subscripts : Step p.Subscripts
-subscripts a h = λ y m r f k c fs j t z b s. (f ∷ fs, refl, (m, j, sole (taken.open_sign r), t m f c, sole (taken.close_sign s)))
+subscripts a h = λ y m r f k c fs j t z b s. (f ∷ fs, refl, (m, j, sole r, t m f c, sole s))
 
 pub more_expr : Step p.MoreExpr
-more_expr a h = λ y m r f k c fs b t. (f ∷ fs, refl, λ g x q. e.comma q (sole (taken.comma_sign r)) (t m f c))
+more_expr a h = λ y m r f k c fs b t. (f ∷ fs, refl, λ g x q. e.comma q (sole r) (t m f c))
 
 pub no_more_expr : Step p.NoMoreExpr
 no_more_expr a h = ([], refl, λ g x q. e.last q)
 
 pub plain_name : Step p.PlainName
-plain_name a h = λ y b r. (y, refl, (taken.place_of r, taken.plain_name r))
+plain_name a h = λ y b r. (y, refl, (place_of r, taken.plain_name r))
 
 pub field_name : Step p.FieldName
-field_name a h = λ y b r. (y, refl, (taken.place_of r, taken.field_name r))
+field_name a h = λ y b r. (y, refl, (place_of r, taken.field_name r))
 
 pub octal_number : Step p.OctalNumber
-octal_number a h = λ y b r. (y, refl, (taken.place_of r, taken.octal_number r))
+octal_number a h = λ y b r. (y, refl, (place_of r, taken.octal_number r))
 
 pub decimal_number : Step p.DecimalNumber
-decimal_number a h = λ y b r. (y, refl, (taken.place_of r, taken.decimal_number r))
+decimal_number a h = λ y b r. (y, refl, (place_of r, taken.decimal_number r))
 
 pub condition : Step p.Condition
-condition a h = λ y m r f k c z b s. (f, refl, e.condition (sole (taken.open_sign r)) c (sole (taken.close_sign s)))
+condition a h = λ y m r f k c z b s. (f, refl, e.condition (sole r) c (sole s))

@@ -16,7 +16,7 @@ use Rattle.rat_grammar.specs.Tokens.{Tokens, token, one, Sign}
 use Rattle.rat_grammar.specs.Formats as f
 use Rattle.rat_grammar.specs.Laws.{IsSome}
 use Rattle.rat_grammar.proofs.LineLemmas.{kind_at}
-use Rattle.rat_grammar.proofs.TokenLemmas.{untrue}
+use Rattle.rat_grammar.proofs.ReservedWords.{untrue}
 use Rattle.rat_grammar.proofs.Steps.{FoundPart, make, found_token, found_empty}
 use Rattle.rat_grammar.proofs.ExpressionsFound.{found_number}
 

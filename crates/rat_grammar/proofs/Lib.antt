@@ -1,20 +1,25 @@
 -- The lemmas of rat_grammar.
 pub mod LineLemmas
+pub mod Parts
+pub mod Standing
+pub mod ReservedWords
+pub mod Derivations
+pub mod ListsFound
+pub mod ExampleTokens
 mod Examples
-pub mod TokenLemmas
-pub mod Readings
+mod TokenLemmas
+mod Readings
 mod Steps
-pub mod Taken
+mod Taken
 mod ExpressionsRead
 mod ExpressionsFound
 mod PlainRead
-mod StatementLemmas
+pub mod StatementLemmas
 mod StatementsRead
 mod UnitsFound
 mod UnitsRead
 mod AllSteps
-pub mod Published
-mod ListsFound
+mod Published
 mod WordsFound
 mod DeclarationsFound
 mod FormatsFound

@@ -12,14 +12,15 @@ use Rattle.f66_tree.specs.Views.{chained, listed}
 use Rattle.rat_parse_table.specs.declared.table.Terminal.TheVariants as t
 use Rattle.rat_parse_table.specs.declared.table.Nonterminal.TheVariants as n
 use Rattle.rat_parse_table.specs.declared.table.Production.TheVariants as p
-use Rattle.rat_parse_values.specs.Values.{tok, formula, formulas, declareds, groups, presets, preset, deed, numbers}
+use Rattle.rat_parse_values.specs.Values.{tok, formula, formulas, declareds, deed, numbers}
 use Rattle.rat_parse_values.specs.Parts.{name_in, number_in}
 use Rattle.rat_grammar.specs.Tokens.{Tokens, token, one, capitals, word, name, place_at, Listed}
 use Rattle.rat_grammar.specs.Declarations as d
 use Rattle.rat_grammar.specs.Plain as pl
 use Rattle.rat_grammar.specs.Laws.{IsSome}
-use Rattle.rat_grammar.proofs.Steps.{FoundPart, make, found_token, found_empty, given}
-use Rattle.rat_grammar.proofs.Taken.{is_other_word}
+use Rattle.rat_grammar.proofs.Derivations.{given}
+use Rattle.rat_grammar.proofs.Steps.{FoundPart, FoundAs, make, found_token, found_empty}
+use Rattle.rat_grammar.proofs.ReservedWords.{is_other}
 use Rattle.rat_grammar.proofs.ExpressionsFound.{found_name, found_number, found_ref, found_expr, or_done}
 use Rattle.rat_grammar.proofs.ListsFound.{FoundList, found_list}
 use Rattle.rat_grammar.proofs.WordsFound.{the_word, FoundName, a_name, FoundNatural, a_natural, found_numbers}
@@ -40,15 +41,15 @@ more_actual : {a b c : Tokens} {q : Place} {x : Formula} {xs : List Formula} →
     FoundPart n.ActualMore (token (kinds.Sign signs.Comma) q ∷ a) c (formulas (x ∷ xs))
 more_actual c k = make p.MoreActual tt _ _ _ (found_token t.Comma _ _ refl) _ _ c _ _ k
 
-found_actuals : {a b : Tokens} {xs : List Formula} → Listed pl.Actual a b xs → IsSome b → FoundList (λ a b x. FoundPart n.Actual a b (formula x)) n.ActualMore (λ y. formulas y) a b xs
-found_actuals = found_list pl.Actual (λ a b x. FoundPart n.Actual a b (formula x)) n.ActualMore (λ y. formulas y) (λ a b x c s. found_actual c s) (λ a b c q x xs y k. more_actual y k) (λ a s. no_more_actual s)
+found_actuals : {a b : Tokens} {xs : List Formula} → Listed pl.Actual a b xs → IsSome b → FoundList (FoundAs n.Actual (λ y. formula y)) (FoundAs n.ActualMore (λ y. formulas y)) a b xs
+found_actuals = found_list (λ a b x c s. found_actual c s) (λ a b c q x xs y k. more_actual y k) (λ a s. no_more_actual s)
 
 pub found_simple : {a b : Tokens} {x : Act} → pl.Simple a b x → IsSome b → FoundPart n.Simple a b (deed (place_at a) x)
 found_simple (pl.assignment r one f) s = make p.Assignment tt _ _ _ (found_ref r tt) _ _ (found_token t.Assign _ _ refl) _ _ (found_expr f (or_done s))
 found_simple (pl.call (word h) (name g)) s =
     make p.Invocation tt _ _ _ (the_word (codes "CALL") t.Call refl h) _ _ (found_name _ _ _ g) _ _ (found_empty p.NoActuals refl (λ k. refl) s)
 found_simple (pl.call_with (word {p = q} h) (name {w = w} g) one fs one) s =
-    let r : FoundList (λ a b x. FoundPart n.Actual a b (formula x)) n.ActualMore (λ y. formulas y) _ _ _ = found_actuals fs tt in
+    let r : FoundList _ _ _ _ _ = found_actuals fs tt in
     given (ap (λ z. deed q (f66.Invoke (capitals w) (chained z))) r.is)
     (make p.Invocation tt _ _ _ (the_word (codes "CALL") t.Call refl h) _ _ (found_name _ _ _ g) _ _
     (make p.SomeActuals tt _ _ _ (found_token t.Open _ _ refl) _ _ r.found _ _ r.more _ _ (found_token t.Close _ _ refl)))
@@ -74,7 +75,7 @@ went {a} g c = given (ap (λ z. deed z (f66.Goto (number_in (tok c.token)))) g.p
     (make p.GoPlain tt _ _ _ g.found _ _ (make p.OneTarget tt _ _ _ c.found))
 
 chose : {a m i b : Tokens} {q q1 q2 : Place} {ks : List ℕ} {x : Text} → FoundGo a (token (kinds.Sign signs.Open) q ∷ m) →
-    FoundList FoundNatural n.NumberMore (λ y. numbers y) m (token (kinds.Sign signs.Close) q1 ∷ token (kinds.Sign signs.Comma) q2 ∷ i) ks → FoundName i b x →
+    FoundList FoundNatural (FoundAs n.NumberMore (λ y. numbers y)) m (token (kinds.Sign signs.Close) q1 ∷ token (kinds.Sign signs.Comma) q2 ∷ i) ks → FoundName i b x →
     FoundPart n.Plain a b (deed (place_at a) (f66.Computed ks x))
 chose {a} {ks = ks} g c x =
     given (ap (λ z. deed z (f66.Computed (number_in (tok c.found.token) ∷ c.others) (name_in (tok x.token)))) g.place
@@ -102,13 +103,13 @@ found_plain (pl.stop_with (word h) (pl.octal one g)) s =
     (make p.OctalStop tt _ _ _ (found_token t.Octal _ _ (ap (λ b. if b then t.Octal else t.Number) g))))
 found_plain (pl.read {u = u} {n = k} (word {w = w} {p = q} h) one c one (d.natural one) one es) s =
     let r : FoundEntries _ _ _ = found_entries es s in
-    plain (given (ap (λ z. deed q (if z then f66.Read u k (listed r.list) else f66.Write u k (listed r.list))) (is_other_word (codes "READ") (codes "READ") w h refl)
+    plain (given (ap (λ z. deed q (if z then f66.Read u k (listed r.list) else f66.Write u k (listed r.list))) (is_other (codes "READ") (codes "READ") w h)
     ∙ ap (λ z. deed q (f66.Read u k z)) r.is)
     (make p.TransferPlain tt _ _ _ (the_word (codes "READ") t.Transfer refl h) _ _ (found_token t.Open _ _ refl) _ _ (found_par c) _ _ (found_token t.Comma _ _ refl) _ _
     (found_number _ _ _) _ _ (found_token t.Close _ _ refl) _ _ r.found))
 found_plain (pl.write {u = u} {n = k} (word {w = w} {p = q} h) one c one (d.natural one) one es) s =
     let r : FoundEntries _ _ _ = found_entries es s in
-    plain (given (ap (λ z. deed q (if z then f66.Read u k (listed r.list) else f66.Write u k (listed r.list))) (is_other_word (codes "READ") (codes "WRITE") w h refl)
+    plain (given (ap (λ z. deed q (if z then f66.Read u k (listed r.list) else f66.Write u k (listed r.list))) (is_other (codes "READ") (codes "WRITE") w h)
     ∙ ap (λ z. deed q (f66.Write u k z)) r.is)
     (make p.TransferPlain tt _ _ _ (the_word (codes "WRITE") t.Transfer refl h) _ _ (found_token t.Open _ _ refl) _ _ (found_par c) _ _ (found_token t.Comma _ _ refl) _ _
     (found_number _ _ _) _ _ (found_token t.Close _ _ refl) _ _ r.found))
@@ -120,8 +121,8 @@ found_plain (pl.common (word {p = q} h) xs) s =
     let r : FoundAreas _ _ _ = found_common xs s in
     plain (given (ap (λ z. deed q (f66.Common z)) r.is) (make p.CommonPlain tt _ _ _ (the_word (codes "COMMON") t.Common refl h) _ _ r.found _ _ r.more))
 found_plain (pl.equivalence (word {p = q} h) gs) s =
-    let r : FoundList (λ a b x. FoundPart n.Alias a b (formulas x)) n.AliasMore (λ y. groups y) _ _ _ = found_aliases gs s in
+    let r : FoundList _ _ _ _ _ = found_aliases gs s in
     plain (given (ap (λ z. deed q (f66.Equivalence z)) r.is) (make p.EquivalencePlain tt _ _ _ (the_word (codes "EQUIVALENCE") t.Equivalence refl h) _ _ r.found _ _ r.more))
 found_plain (pl.data_ (word {p = q} h) ps) s =
-    let r : FoundList (λ a b x. FoundPart n.Preset a b (preset x)) n.PresetMore (λ y. presets y) _ _ _ = found_presets ps s in
+    let r : FoundList _ _ _ _ _ = found_presets ps s in
     plain (given (ap (λ z. deed q (f66.Preset z)) r.is) (make p.DataPlain tt _ _ _ (the_word (codes "DATA") t.Data refl h) _ _ r.found _ _ r.more))

@@ -1,4 +1,4 @@
--- What a nonterminal of the table gives, and what the published grammar says of it. A tail is what makes more of a part that stands before it.
+-- What a nonterminal of the table gives, and what the published grammar says of it.
 use Rattle.std.proofs.Common.{◌≡◌, ℕ, List, [], ◌∷◌, Option, None, Some, ◌⊎◌, inl, inr}
 use Rattle.std.specs.Prelude.{codes}
 use Rattle.ground.specs.declared.place.Place.{Place}
@@ -11,12 +11,8 @@ use Rattle.f66_tree.specs.Syntax.{Text, Formula, Header, FuncUnit, Act, Stop as 
 use Rattle.f66_tree.specs.Views.{chained, listed}
 use Rattle.rat_tree.specs.Syntax as tree
 use Rattle.rat_tree.specs.Syntax.{Command, Commands, RatRoutine, RatProgram}
-use Rattle.grammar.specs.declared.language.Symbol.{Symbol}
-use Rattle.grammar.specs.declared.language.Symbol.TheVariants.{Terminal, Nonterminal}
-use Rattle.rat_parse_table.specs.declared.table.Terminal.{Terminal as ATerminal}
-use Rattle.rat_parse_table.specs.declared.table.Nonterminal.{Nonterminal as ANonterminal}
+use Rattle.rat_parse_table.specs.declared.table.Nonterminal.{Nonterminal}
 use Rattle.rat_parse_table.specs.declared.table.Nonterminal.TheVariants as n
-use Rattle.rat_parse_table.specs.Words.{seen}
 use Rattle.rat_parse_values.specs.Values.{Val}
 use Rattle.rat_parse_values.specs.Values as val
 use Rattle.rat_parse_values.specs.Kinds as part
@@ -29,31 +25,11 @@ use Rattle.rat_grammar.specs.Declarations as d
 use Rattle.rat_grammar.specs.Plain as p
 use Rattle.rat_grammar.specs.Statements as s
 use Rattle.rat_grammar.specs.Programs as u
-use Rattle.rat_grammar.proofs.LineLemmas.{NoLine}
-
-pub record Reading : Type 1 where
-  pub Of : Type 0
-  pub view : Of → Val
-  pub Says : Tokens → Tokens → Of → Type 0
-
-abbrev pub Part : Type 0 → Type 1
-Part A = Tokens → Tokens → A → Type 0
-
--- more items behind one
-abbrev pub Tail : {A : Type 0} → Part A → Part (List A)
-Tail {A} Item a b xs = (s : Tokens) (x : A) → Item s a x → Listed Item s b (x ∷ xs)
+use Rattle.rat_grammar.proofs.Parts.{Reading, Part, open_reading, Tail, Placed, Lined, WordIfAny}
 
 -- more operands behind one
 abbrev pub Joins : Part Formula → Part Formula → Part (List (Operator × Formula))
 Joins First Whole a b js = (s : Tokens) (x : Formula) → First s a x → Whole s b (joined x js)
-
--- the same, and the place of its first token
-abbrev pub Placed : {A : Type 0} → Part A → Part (Place × A)
-Placed Item a b x = (x.0 ≡ place_at a) × Item a b x.1
-
--- a part, and lines behind it
-abbrev pub Lined : {A : Type 0} → Part A → Part A
-Lined Item a b x = (m : Tokens) × Item a m x × Lines m b
 
 abbrev pub Arguments : Part (List Formula)
 Arguments a b fs = (m k : Tokens) × Sign signs.Open a m × e.Exprs m k (chained fs) × Sign signs.Close k b
@@ -87,16 +63,11 @@ abbrev pub perhaps : {A : Type 0} → (A → Val) → Option A → Val
 perhaps view None = val.nothing
 perhaps view (Some x) = view x
 
-abbrev pub SaysNothing : Text → Tokens → Tokens → Type 0
-SaysNothing x a b = Lines a b × NoLine b × ((c : Tokens) → Word x b c → ⊥)
-
 abbrev pub Else : Part (Option (Place × Command))
-Else a b None = SaysNothing (codes "ELSE") a b
-Else a b (Some y) = (m k : Tokens) × Lines a m × Word (codes "ELSE") m k × Lined s.Statement k b y.1
+Else = WordIfAny (codes "ELSE") (λ m k b y. Lined s.Statement k b y.1)
 
 abbrev pub Until : Part (Option (Place × Formula))
-Until a b None = SaysNothing (codes "UNTIL") a b
-Until a b (Some y) = (m k j : Tokens) × Lines a m × Word (codes "UNTIL") m k × e.Condition k j y.1 × Stop j b × (y.0 ≡ place_at m)
+Until = WordIfAny (codes "UNTIL") (λ m k b y. (j : Tokens) × e.Condition k j y.1 × Stop j b × (y.0 ≡ place_at m))
 
 abbrev pub Typed : Type 0
 Typed = (Place × Text × List Text) ⊎ List f66.Declared
@@ -116,29 +87,25 @@ Repeated a b (Some x) = (m : Tokens) × Sign signs.Star a m × d.Value m b x
 abbrev pub Formals : Part (List Text)
 Formals a b xs = ((a ≡ b) × (xs ≡ [])) ⊎ u.Formals a b xs
 
-abbrev pub formula_reading : Part Formula → Reading
+abbrev pub formula_reading : Part Formula → Reading Val
 formula_reading Says = record { Of = Formula; view = λ y. val.formula y; Says = Says }
 
-abbrev pub joins_reading : Part Formula → Part Formula → Reading
+abbrev pub joins_reading : Part Formula → Part Formula → Reading Val
 joins_reading First Whole = record { Of = List (Operator × Formula); view = λ y. val.joins y; Says = Joins First Whole }
 
-abbrev pub fields_reading : Part fields.Fields → Reading
+abbrev pub fields_reading : Part fields.Fields → Reading Val
 fields_reading Says = record { Of = fields.Fields; view = λ y. val.fields y; Says = Says }
 
-abbrev pub formulas_reading : Part (List Formula) → Reading
+abbrev pub formulas_reading : Part (List Formula) → Reading Val
 formulas_reading Says = record { Of = List Formula; view = λ y. val.formulas y; Says = Says }
 
-abbrev pub command_reading : Part (Place × Command) → Reading
+abbrev pub command_reading : Part (Place × Command) → Reading Val
 command_reading Says = record { Of = Place × Command; view = λ y. val.command y.0 y.1; Says = Says }
 
-abbrev pub deed_reading : Part (Place × Act) → Reading
+abbrev pub deed_reading : Part (Place × Act) → Reading Val
 deed_reading Says = record { Of = Place × Act; view = λ y. val.deed y.0 y.1; Says = Says }
 
--- a value that is read as what stands behind it asks
-abbrev pub open_reading : Part Val → Reading
-open_reading Says = record { Of = Val; view = λ y. y; Says = Says }
-
-abbrev pub reading : ANonterminal → Reading
+abbrev pub reading : Nonterminal → Reading Val
 reading n.Program = record {
   Of = RatProgram;
   view = λ y. val.program y;
@@ -266,14 +233,3 @@ reading n.Subscripts = formulas_reading Arguments
 reading n.ExprMore = formulas_reading (λ a b y. (g : Tokens) (x : Formula) → e.Expr g a x → e.Exprs g b (chained (x ∷ y)))
 reading n.AnyName = record { Of = Token; view = λ y. val.tok y; Says = λ a b y. (y.place ≡ place_at a) × Name a b (name_in (val.tok y)) }
 reading n.AnyNumber = record { Of = Token; view = λ y. val.tok y; Says = λ a b y. (y.place ≡ place_at a) × Number a b (integer_in (val.tok y)) }
-
--- a token that is taken
-pub data Taken (k : ATerminal) : Tokens → Tokens → Token → Type 0 where
-  taken : {t : Token} {ts : Tokens} → seen t ≡ k → Taken k (t ∷ ts) ts t
-
-abbrev pub ASymbol : Type 0
-ASymbol = Symbol ATerminal ANonterminal
-
-abbrev pub symbol_reading : ASymbol → Reading
-symbol_reading (Terminal k) = record { Of = Token; view = λ y. val.tok y; Says = Taken k }
-symbol_reading (Nonterminal m) = reading m

@@ -18,6 +18,11 @@ pub record HasSame {R T N P V : Type 0} (Program : List Token → R → Type 0) 
   pub found : (ts : List Token) (r : R) → Program ts r → IsProgram g ts (value r)
   pub one : (r s : R) → value r ≡ value s → r ≡ s
 
+pub program_read : {R T N P V : Type 0} {Program : List Token → R → Type 0} {g : Grammar Token T N P V} {value : R → V} → HasSame Program g value → (ts : List Token) (r : R) →
+    IsProgram g ts (value r) → Program ts r
+program_read {R} {Program = Program} {value = value} same ts r h =
+    let k : (s : R) × (value s ≡ value r) × Program ts s = same.tree ts (value r) h in subst (λ s. Program ts s) (same.one k.0 r k.1) k.2
+
 module _ {R T N P V M : Type 0} (Program : List Token → R → Type 0) (g : Grammar Token T N P V) (meter : Meter T P M) (value : R → V) (same : HasSame Program g value) where
   -- ---- beginnings ----
 
@@ -30,13 +35,11 @@ module _ {R T N P V M : Type 0} (Program : List Token → R → Type 0) (g : Gra
   -- ---- programs ----
 
   accepted : (ts : List Token) (r : R) → limits.IsAccepted g meter ts (value r) → relation.IsAccepted Program g meter ts r
-  accepted ts r h =
-      let k : (s : R) × (value s ≡ value r) × Program ts s = same.tree ts (value r) ((h.value (value r)).1 refl) in
-      record {
-        is = subst (λ s. Program ts s) (same.one k.0 r k.1) k.2;
-        only = λ s q. same.one r s ((h.value (value s)).0 (same.found ts s q));
-        within = h.within;
-      }
+  accepted ts r h = record {
+    is = program_read same ts r ((h.value (value r)).1 refl);
+    only = λ s q. same.one r s ((h.value (value s)).0 (same.found ts s q));
+    within = h.within;
+  }
 
   accepted_too : (ts : List Token) (r : R) → relation.IsAccepted Program g meter ts r → limits.IsAccepted g meter ts (value r)
   accepted_too ts r h = record {

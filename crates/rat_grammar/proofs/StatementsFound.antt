@@ -1,5 +1,5 @@
 -- The table derives each statement of the published grammar, and takes the lines behind an `if` or a `repeat` that has no more parts.
-use Rattle.std.proofs.Common.{◌≡◌, ◌∙◌, ℕ, true, false, if◌then◌else◌, Option, None, List, [], ◌∷◌, refl, ap}
+use Rattle.std.proofs.Common.{◌≡◌, ◌∙◌, ℕ, true, false, if◌then◌else◌, Option, None, List, ◌∷◌, refl, ap}
 use Rattle.std.specs.Prelude.{codes}
 use Rattle.ground.specs.declared.place.Place.{Place}
 use Rattle.ground.specs.declared.token.Token.{Token}
@@ -17,32 +17,28 @@ use Rattle.rat_parse_table.specs.Table.{allows}
 use Rattle.rat_parse_table.specs.Words.{seen}
 use Rattle.rat_parse_values.specs.Values.{Val, nothing, tok, formula, command, commands, declareds, clauses}
 use Rattle.rat_parse_values.specs.Parts.{type_word, act_part, formula_part, count_or_one, capped}
+use Rattle.rat_parse.specs.Ratfor.{grammar}
 use Rattle.rat_grammar.specs.Tokens.{Perhaps, Tokens, token, one, capitals, Word, word, name, place_at, Lines, Stop}
 use Rattle.rat_grammar.specs.Expressions as e
 use Rattle.rat_grammar.specs.Declarations as d
 use Rattle.rat_grammar.specs.Plain as pl
 use Rattle.rat_grammar.specs.Statements as s
 use Rattle.rat_grammar.specs.Laws.{IsSome}
-use Rattle.rat_grammar.proofs.LineLemmas.{NoLine, lines_left, no_line_at}
-use Rattle.rat_grammar.proofs.TokenLemmas.{seen_is, Is, IsWord}
-use Rattle.rat_grammar.proofs.Steps.{FoundPart, Allowed, is_some, make, make_empty, found_token, found_empty, given}
-use Rattle.rat_grammar.proofs.StatementLemmas.{body_is_no_line, body_is_some, own_label}
-use Rattle.rat_grammar.proofs.Taken.{is_other_word, exact_of, sole, word_here}
+use Rattle.rat_grammar.proofs.LineLemmas.{NoLine, lines_left, no_line_at, Begins, begins_at, Goes, word_goes, stop_is_some}
+use Rattle.rat_grammar.proofs.Standing.{known, sole, word_of}
+use Rattle.rat_grammar.proofs.ReservedWords.{is_other}
+use Rattle.rat_grammar.proofs.TokenLemmas.{Is, seen_is}
+use Rattle.rat_grammar.proofs.Derivations.{is_some, given, before_lines, allowed_there}
+use Rattle.rat_grammar.proofs.Steps.{FoundPart, make, make_empty, found_token, found_empty}
+use Rattle.rat_grammar.proofs.StatementLemmas.{body_begins, own_label}
 use Rattle.rat_grammar.proofs.ExpressionsFound.{FoundExprs, found_name, found_number, found_expr, found_exprs, or_done}
 use Rattle.rat_grammar.proofs.WordsFound.{the_word}
 use Rattle.rat_grammar.proofs.DeclarationsFound.{FoundType, found_range}
 use Rattle.rat_grammar.proofs.PlainFound.{FoundPlain, found_simple, found_plain}
 
--- lines, and a token that ends none behind them
-pub record Goes (a : Tokens) : Type 0 where
-  pub next : Tokens
-  pub lines : Lines a next
-  pub stands : NoLine next
-  pub some : IsSome next
-
 pub statement_goes : {a b : Tokens} {x : Command} → s.Statement a b x → Goes a
-statement_goes (s.bare l q) = record { next = _; lines = l; stands = body_is_no_line q; some = body_is_some q }
-statement_goes (s.marked l (d.natural one) q) = record { next = _; lines = l; stands = no_line_at _ _ refl; some = tt }
+statement_goes (s.bare l q) = record { next = _; lines = l; begins = body_begins q }
+statement_goes (s.marked l (d.natural one) q) = record { next = _; lines = l; begins = begins_at _ _ refl }
 
 pub statements_go : {a b : Tokens} {xs : Commands} → s.Statements a b xs → Goes b → Goes a
 statements_go s.Statements.none g = g
@@ -85,12 +81,6 @@ found_stop (Stop.semicolon one) = record { value = _; found = make p.EndingSign 
 found_stop (Stop.brace one) = record { value = _; found = make_empty p.NoEnding refl _ refl }
 found_stop (Stop.end one) = record { value = _; found = make_empty p.NoEnding refl _ refl }
 
-pub stop_is_some : {a b : Tokens} → Stop a b → IsSome a
-stop_is_some (Stop.line one) = tt
-stop_is_some (Stop.semicolon one) = tt
-stop_is_some (Stop.brace one) = tt
-stop_is_some (Stop.end one) = tt
-
 found_lines : {a b : Tokens} → Lines a b → IsSome b → FoundPart n.Lines a b nothing
 found_lines Lines.none g = found_empty p.NoLine refl (λ k. refl) g
 found_lines (Lines.line one l) g = make p.OneLine tt _ _ _ (found_token t.LineEnd _ _ refl) _ _ (found_lines l g)
@@ -98,46 +88,28 @@ found_lines (Lines.line one l) g = make p.OneLine tt _ _ _ (found_token t.LineEn
 -- ---- lines before parts ----
 
 statement_lines : {a b c : Tokens} {v : Val} → Lines a b → FoundPart n.Statement b c v → FoundPart n.Statement a c v
-statement_lines Lines.none q = q
-statement_lines (Lines.line one l) q = make p.StatementLine tt _ _ _ (found_token t.LineEnd _ _ refl) _ _ (statement_lines l q)
+statement_lines = before_lines (λ a b q v c. make p.StatementLine tt _ _ _ (found_token t.LineEnd _ _ refl) _ _ c)
 
 statements_lines : {a b c : Tokens} {v : Val} → Lines a b → FoundPart n.Statements b c v → FoundPart n.Statements a c v
-statements_lines Lines.none q = q
-statements_lines (Lines.line one l) q = make p.StatementsLine tt _ _ _ (found_token t.LineEnd _ _ refl) _ _ (statements_lines l q)
+statements_lines = before_lines (λ a b q v c. make p.StatementsLine tt _ _ _ (found_token t.LineEnd _ _ refl) _ _ c)
 
 else_lines : {a b c : Tokens} {v : Val} → Lines a b → FoundPart n.ElsePart b c v → FoundPart n.ElsePart a c v
-else_lines Lines.none q = q
-else_lines (Lines.line one l) q = make p.ElseLine tt _ _ _ (found_token t.LineEnd _ _ refl) _ _ (else_lines l q)
+else_lines = before_lines (λ a b q v c. make p.ElseLine tt _ _ _ (found_token t.LineEnd _ _ refl) _ _ c)
 
 until_lines : {a b c : Tokens} {v : Val} → Lines a b → FoundPart n.UntilPart b c v → FoundPart n.UntilPart a c v
-until_lines Lines.none q = q
-until_lines (Lines.line one l) q = make p.UntilLine tt _ _ _ (found_token t.LineEnd _ _ refl) _ _ (until_lines l q)
+until_lines = before_lines (λ a b q v c. make p.UntilLine tt _ _ _ (found_token t.LineEnd _ _ refl) _ _ c)
 
 -- ---- where a part is left out ----
 
-no_else_by : (k : Terminal) → (k ≡ t.LineEnd → ⊥) → (k ≡ t.Else → ⊥) → allows p.NoElse k ≡ true
-no_else_by t.LineEnd h g = absurd (h refl)
-no_else_by t.Else h g = absurd (g refl)
-no_else_by _ h g = refl
+no_else_by : (k : Terminal) (y : Token) → Is k y.kind → (ts : Tokens) → NoLine (y ∷ ts) → ((c : Tokens) → Word (codes "ELSE") (y ∷ ts) c → ⊥) → allows p.NoElse k ≡ true
+no_else_by t.LineEnd y q ts h g = absurd (h ts (sole (known q)))
+no_else_by t.Else y q ts h g = absurd (g ts (word_of (known q)))
+no_else_by _ y q ts h g = refl
 
-no_until_by : (k : Terminal) → (k ≡ t.LineEnd → ⊥) → (k ≡ t.Until → ⊥) → allows p.NoUntil k ≡ true
-no_until_by t.LineEnd h g = absurd (h refl)
-no_until_by t.Until h g = absurd (g refl)
-no_until_by _ h g = refl
-
-ends_no_line : (y : Token) (ts : Tokens) → NoLine (y ∷ ts) → seen y ≡ t.LineEnd → ⊥
-ends_no_line y ts h g = h ts (sole (exact_of kinds.LineEnd y ts (seen_is t.LineEnd y g)))
-
-is_no_word : (x : Text) (k : Terminal) → ((y : Token) → Is k y.kind → IsWord x y.kind) → (y : Token) (ts : Tokens) → ((c : Tokens) → Word x (y ∷ ts) c → ⊥) → seen y ≡ k → ⊥
-is_no_word x k only y ts h g = h ts (word_here x y ts (only y (seen_is k y g)))
-
-allowed_no_else : (a : Tokens) → IsSome a → NoLine a → ((c : Tokens) → Word (codes "ELSE") a c → ⊥) → Allowed p.NoElse a
-allowed_no_else [] g h k = g
-allowed_no_else (y ∷ ts) g h k = no_else_by (seen y) (ends_no_line y ts h) (is_no_word (codes "ELSE") t.Else (λ z q. q) y ts k)
-
-allowed_no_until : (a : Tokens) → IsSome a → NoLine a → ((c : Tokens) → Word (codes "UNTIL") a c → ⊥) → Allowed p.NoUntil a
-allowed_no_until [] g h k = g
-allowed_no_until (y ∷ ts) g h k = no_until_by (seen y) (ends_no_line y ts h) (is_no_word (codes "UNTIL") t.Until (λ z q. q) y ts k)
+no_until_by : (k : Terminal) (y : Token) → Is k y.kind → (ts : Tokens) → NoLine (y ∷ ts) → ((c : Tokens) → Word (codes "UNTIL") (y ∷ ts) c → ⊥) → allows p.NoUntil k ≡ true
+no_until_by t.LineEnd y q ts h g = absurd (h ts (sole (known q)))
+no_until_by t.Until y q ts h g = absurd (g ts (word_of (known q)))
+no_until_by _ y q ts h g = refl
 
 -- ---- statements ----
 
@@ -181,18 +153,18 @@ unmarked l q = record { start = _; lines = l; behind = q.behind; more = q.more; 
 pub record FoundClauses (a e : Tokens) (cs : tree.Clauses) : Type 0 where
   pub start : Tokens
   pub lines : Lines a start
-  pub stands : NoLine start
+  pub begins : Begins start
   pub found : FoundPart n.Clauses start e (clauses cs)
 
 if_alone : {b c d : Tokens} {w : Text} {q : Place} {f : Formula} {x : Command} → capitals w ≡ codes "IF" → FoundPart n.Condition b c (formula f) → FoundItem c d x → s.FollowsNo (codes "ELSE") d →
     Goes d → FoundBody (token (kinds.Word w) q ∷ b) d (tree.If q f x)
 if_alone h c x g z = untyped z.lines (make p.IfStatement tt _ _ _ (the_word (codes "IF") t.If refl h) _ _ c _ _ (a_statement x) _ _
-    (else_lines (lines_left x.more z.lines z.stands) (make_empty p.NoElse refl z.next (allowed_no_else z.next z.some z.stands (λ k w. g z.next k z.lines w)))))
+    (else_lines (lines_left x.more z.lines z.begins.stands) (make_empty p.NoElse refl z.next (allowed_there grammar p.NoElse (codes "ELSE") (λ y. no_else_by (seen y) y (seen_is y)) z.next z.begins (λ k w. g z.next k z.lines w)))))
 
 repeat_alone : {b d : Tokens} {w : Text} {q : Place} {x : Command} → capitals w ≡ codes "REPEAT" → FoundItem b d x → s.FollowsNo (codes "UNTIL") d → Goes d →
     FoundBody (token (kinds.Word w) q ∷ b) d (tree.Repeat q x)
 repeat_alone h x g z = untyped z.lines (make p.RepeatStatement tt _ _ _ (the_word (codes "REPEAT") t.Repeat refl h) _ _ (a_statement x) _ _
-    (until_lines (lines_left x.more z.lines z.stands) (make_empty p.NoUntil refl z.next (allowed_no_until z.next z.some z.stands (λ k w. g z.next k z.lines w)))))
+    (until_lines (lines_left x.more z.lines z.begins.stands) (make_empty p.NoUntil refl z.next (allowed_there grammar p.NoUntil (codes "UNTIL") (λ y. no_until_by (seen y) y (seen_is y)) z.next z.begins (λ k w. g z.next k z.lines w)))))
 
 numbered : {a b k : Tokens} {z : _} {q : Place} {x : Command} → Lines k (token (kinds.Number z) q ∷ a) → s.Body a b x → FoundBare a b x →
     FoundItem k b (s.labelled (capped 4294967295 z) (place_at a) x)
@@ -213,11 +185,11 @@ mutual
   pub found_body : {a b : Tokens} {x : Command} → s.Body a b x → Goes b → FoundBody a b x
   found_body (s.empty one) g = untyped Lines.none (make p.Empty tt _ _ _ (found_token t.Semicolon _ _ refl))
   found_body (s.block one xs l one) g =
-      untyped Lines.none (make p.Braces tt _ _ _ (found_token t.OpenBrace _ _ refl) _ _ (found_statements xs l (no_line_at _ _ refl) tt _ Lines.none) _ _
+      untyped Lines.none (make p.Braces tt _ _ _ (found_token t.OpenBrace _ _ refl) _ _ (found_statements xs l (begins_at _ _ refl) _ Lines.none) _ _
       (found_token t.CloseBrace _ _ refl))
   found_body (s.if_ (word h) c q k) g = if_alone h (found_condition c) (found_item q g _ Lines.none) k g
   found_body (s.if_else (word h) c q l (word k) r) g =
-      let x : FoundItem _ _ _ = found_item q (record { next = _; lines = l; stands = no_line_at _ _ refl; some = tt }) _ Lines.none in
+      let x : FoundItem _ _ _ = found_item q (word_goes l (word k)) _ Lines.none in
       let y : FoundItem _ _ _ = found_item r g _ Lines.none in
       untyped y.more (make p.IfStatement tt _ _ _ (the_word (codes "IF") t.If refl h) _ _ (found_condition c) _ _ (a_statement x) _ _
       (else_lines (lines_left x.more l (no_line_at _ _ refl)) (make p.ElseBody tt _ _ _ (the_word (codes "ELSE") t.Else refl k) _ _ (a_statement y))))
@@ -235,7 +207,7 @@ mutual
       (found_token t.Semicolon _ _ refl) _ _ w.found _ _ (found_token t.Close _ _ refl) _ _ (a_statement x)))
   found_body (s.repeat (word h) q k) g = repeat_alone h (found_item q g _ Lines.none) k g
   found_body (s.repeat_until (word h) q l (word k) c st) g =
-      let x : FoundItem _ _ _ = found_item q (record { next = _; lines = l; stands = no_line_at _ _ refl; some = tt }) _ Lines.none in
+      let x : FoundItem _ _ _ = found_item q (word_goes l (word k)) _ Lines.none in
       let z : FoundStop _ _ = found_stop st in
       untyped Lines.none (make p.RepeatStatement tt _ _ _ (the_word (codes "REPEAT") t.Repeat refl h) _ _ (a_statement x) _ _
       (until_lines (lines_left x.more l (no_line_at _ _ refl)) (make p.UntilTest tt _ _ _ (the_word (codes "UNTIL") t.Until refl k) _ _ (found_condition c) _ _ z.found)))
@@ -244,19 +216,19 @@ mutual
       untyped x.more (make p.DoStatement tt _ _ _ (the_word (codes "DO") t.Do refl h) _ _ (found_name _ _ _ k) _ _ (found_token t.Assign _ _ refl) _ _
       (found_range r (is_some (a_statement x))) _ _ (a_statement x))
   found_body (s.switch (word h) c l one cs m one) g =
-      let r : FoundClauses _ _ _ = found_clauses cs m (no_line_at _ _ refl) tt in
+      let r : FoundClauses _ _ _ = found_clauses cs m (begins_at _ _ refl) in
       untyped Lines.none (make p.SwitchStatement tt _ _ _ (the_word (codes "SWITCH") t.Switch refl h) _ _ (found_condition c) _ _ (found_lines l tt) _ _
       (found_token t.OpenBrace _ _ refl) _ _ (found_lines r.lines (is_some r.found)) _ _ r.found _ _ (found_token t.CloseBrace _ _ refl))
   found_body (s.break_ (word {w = w} {p = q} h) c st) g =
       let r : FoundSo n.Count count_or_one _ _ _ = found_count c (stop_is_some st) in
       let z : FoundStop _ _ = found_stop st in
-      untyped Lines.none (given (ap (λ y. command q (if y then tree.Next q (count_or_one r.value) else tree.Break q (count_or_one r.value))) (is_other_word (codes "NEXT") (codes "BREAK") w h refl)
+      untyped Lines.none (given (ap (λ y. command q (if y then tree.Next q (count_or_one r.value) else tree.Break q (count_or_one r.value))) (is_other (codes "NEXT") (codes "BREAK") w h)
       ∙ ap (λ y. command q (tree.Break q y)) r.is)
       (make p.LeaveStatement tt _ _ _ (the_word (codes "BREAK") t.Leave refl h) _ _ r.found _ _ z.found))
   found_body (s.next (word {w = w} {p = q} h) c st) g =
       let r : FoundSo n.Count count_or_one _ _ _ = found_count c (stop_is_some st) in
       let z : FoundStop _ _ = found_stop st in
-      untyped Lines.none (given (ap (λ y. command q (if y then tree.Next q (count_or_one r.value) else tree.Break q (count_or_one r.value))) (is_other_word (codes "NEXT") (codes "NEXT") w h refl)
+      untyped Lines.none (given (ap (λ y. command q (if y then tree.Next q (count_or_one r.value) else tree.Break q (count_or_one r.value))) (is_other (codes "NEXT") (codes "NEXT") w h)
       ∙ ap (λ y. command q (tree.Next q y)) r.is)
       (make p.LeaveStatement tt _ _ _ (the_word (codes "NEXT") t.Leave refl h) _ _ r.found _ _ z.found))
   found_body (s.return_ (word {p = q} h) c st) g =
@@ -266,35 +238,35 @@ mutual
   found_body (s.plain q st) g = plain_body (found_plain q (stop_is_some st)) (found_stop st)
 
   pub found_item : {a b : Tokens} {x : Command} → s.Statement a b x → Goes b → (k : Tokens) → Lines a k → FoundItem k b x
-  found_item (s.bare l q) g k r = unmarked (lines_left r l (body_is_no_line q)) (bare_of (found_body q g))
+  found_item (s.bare l q) g k r = unmarked (lines_left r l (body_begins q).stands) (bare_of (found_body q g))
   found_item (s.marked l (d.natural one) q) g k r = numbered (lines_left r l (no_line_at _ _ refl)) q (bare_of (found_body q g))
 
-  pub found_statements : {a b e : Tokens} {xs : Commands} → s.Statements a b xs → Lines b e → NoLine e → IsSome e → (k : Tokens) → Lines a k → FoundPart n.Statements k e (commands xs)
-  found_statements s.Statements.none l g h k r = statements_lines (lines_left r l g) (found_empty p.StatementsDone refl (λ k. refl) h)
-  found_statements (s.Statements.more x xs) l g h k r =
-      let y : FoundItem k _ _ = found_item x (statements_go xs (record { next = _; lines = l; stands = g; some = h })) k r in
-      statements_lines y.lines (make p.StatementsMore tt _ _ _ y.found _ _ (found_statements xs l g h y.behind y.more))
+  pub found_statements : {a b e : Tokens} {xs : Commands} → s.Statements a b xs → Lines b e → Begins e → (k : Tokens) → Lines a k → FoundPart n.Statements k e (commands xs)
+  found_statements s.Statements.none l g k r = statements_lines (lines_left r l g.stands) (found_empty p.StatementsDone refl (λ k. refl) g.some)
+  found_statements (s.Statements.more x xs) l g k r =
+      let y : FoundItem k _ _ = found_item x (statements_go xs (record { next = _; lines = l; begins = g })) k r in
+      statements_lines y.lines (make p.StatementsMore tt _ _ _ y.found _ _ (found_statements xs l g y.behind y.more))
 
-  found_clauses : {a b e : Tokens} {cs : tree.Clauses} → s.Clauses a b cs → Lines b e → NoLine e → IsSome e → FoundClauses a e cs
-  found_clauses s.no_clause l g h = record { start = _; lines = l; stands = g; found = found_empty p.NoClause refl (λ k. refl) h }
-  found_clauses (s.case {ss = ss} {cs = ds} k (word {p = q} w) fs one xs cs) l g h =
-      let r : FoundClauses _ _ _ = found_clauses cs l g h in
+  found_clauses : {a b e : Tokens} {cs : tree.Clauses} → s.Clauses a b cs → Lines b e → Begins e → FoundClauses a e cs
+  found_clauses s.no_clause l g = record { start = _; lines = l; begins = g; found = found_empty p.NoClause refl (λ k. refl) g.some }
+  found_clauses (s.case {ss = ss} {cs = ds} k (word {p = q} w) fs one xs cs) l g =
+      let r : FoundClauses _ _ _ = found_clauses cs l g in
       let all : FoundExprs _ _ _ = found_exprs fs tt in
-      let ys : FoundPart n.Statements _ _ _ = found_statements xs r.lines r.stands (is_some r.found) _ Lines.none in
+      let ys : FoundPart n.Statements _ _ _ = found_statements xs r.lines r.begins _ Lines.none in
       record {
         start = _;
         lines = k;
-        stands = no_line_at _ _ refl;
+        begins = begins_at _ _ refl;
         found = given (ap (λ z. clauses (tree.AndClause z false ss q ds)) all.is) (make p.MoreClauses tt _ _ _
             (make p.CaseClause tt _ _ _ (the_word (codes "CASE") t.Case refl w) _ _ all.found _ _ all.more _ _ (found_token t.Colon _ _ refl) _ _ ys) _ _ r.found);
       }
-  found_clauses (s.default k (word {p = q} w) one xs cs) l g h =
-      let r : FoundClauses _ _ _ = found_clauses cs l g h in
-      let ys : FoundPart n.Statements _ _ _ = found_statements xs r.lines r.stands (is_some r.found) _ Lines.none in
+  found_clauses (s.default k (word {p = q} w) one xs cs) l g =
+      let r : FoundClauses _ _ _ = found_clauses cs l g in
+      let ys : FoundPart n.Statements _ _ _ = found_statements xs r.lines r.begins _ Lines.none in
       record {
         start = _;
         lines = k;
-        stands = no_line_at _ _ refl;
+        begins = begins_at _ _ refl;
         found = make p.MoreClauses tt _ _ _
             (make p.DefaultClause tt _ _ _ (the_word (codes "DEFAULT") t.Default refl w) _ _ (found_token t.Colon _ _ refl) _ _ ys) _ _ r.found;
       }

@@ -1,10 +1,9 @@
--- Derivations of the table, given and made a production at a time.
-use Rattle.std.proofs.Common.{◌≡◌, true, List, [], ◌∷◌, refl, sym, subst, ap}
+-- Derivations of the table, read and made a production at a time.
+use Rattle.std.proofs.Common.{◌≡◌, true, [], ◌∷◌, refl}
 use Rattle.ground.specs.declared.token.Token.{Token}
-use Rattle.grammar.specs.declared.language.Symbol.TheVariants.{Terminal, Nonterminal}
-use Rattle.grammar.specs.Grammar.{Tree, Trees, leaf, node, none, some, Offers, Derives, DerivesAll, value_of, values_of, Parse, result_of}
-use Rattle.rat_parse_table.specs.declared.table.Terminal.{Terminal as ATerminal}
-use Rattle.rat_parse_table.specs.declared.table.Nonterminal.{Nonterminal as ANonterminal}
+use Rattle.grammar.specs.declared.language.Symbol.TheVariants as symbol
+use Rattle.rat_parse_table.specs.declared.table.Terminal.{Terminal}
+use Rattle.rat_parse_table.specs.declared.table.Nonterminal.{Nonterminal}
 use Rattle.rat_parse_table.specs.declared.table.Production.{Production}
 use Rattle.rat_parse_table.specs.declared.table.Production.TheVariants as productions
 use Rattle.rat_parse_table.specs.Table.{symbols, nonterminal_of, allows}
@@ -13,170 +12,45 @@ use Rattle.rat_parse_values.specs.Values.{Val, tok}
 use Rattle.rat_parse.specs.Build.{build}
 use Rattle.rat_parse.specs.Ratfor.{grammar}
 use Rattle.rat_grammar.specs.Tokens.{Tokens}
-use Rattle.rat_grammar.specs.Laws.{Found, IsSome}
-use Rattle.rat_grammar.proofs.Readings.{Reading, ASymbol, Taken, taken, reading, symbol_reading}
+use Rattle.rat_grammar.specs.Laws.{IsSome}
+use Rattle.rat_grammar.proofs.Parts.{Part}
+use Rattle.rat_grammar.proofs.TokenLemmas.{Is}
+use Rattle.rat_grammar.proofs.Readings.{reading}
+use Rattle.rat_grammar.proofs.Derivations as derivations
+use Rattle.rat_grammar.proofs.Derivations.{HasSymbols, Found, Makes, make_free}
 
--- ---- there is a token where a part stands ----
-
-abbrev pub HasSymbols : List ASymbol → Type 0
-HasSymbols [] = ⊥
-HasSymbols (x ∷ xs) = Unit {0}
-
-some_offered : (n : ANonterminal) (p : Production) (a : Tokens) → Offers grammar n p a → IsSome a
-some_offered n p [] h = h
-some_offered n p (t ∷ ts) h = tt
-
-some_tree : (c : Tree Token Production) (x : ASymbol) (a b : Tokens) → Derives grammar c x a b → IsSome a
-some_tree (leaf t) x a b h = subst IsSome (sym h.1) tt
-some_tree (node p cs) x a b h = some_offered h.0 p a h.2
-
-pub is_some : {x : ASymbol} {a b : Tokens} {v : Val} → Found x a b v → IsSome a
-is_some {x} {a} {b} c = some_tree c.tree x a b c.derives
-
-some_trees : (cs : Trees Token Production) (xs : List ASymbol) (a b : Tokens) → HasSymbols xs → DerivesAll grammar cs xs a b → IsSome a
-some_trees none xs a b has h = absurd (subst HasSymbols h.0 has)
-some_trees (some c cs) xs a b has h = some_tree c h.0 a h.2 h.4
-
--- ---- from the table to the published grammar ----
-
--- a value is what a reading says of the tokens
-abbrev pub Reads : Reading → Tokens → Tokens → Val → Type 0
-Reads r a b v = (y : r.Of) × (v ≡ r.view y) × r.Says a b y
-
--- the production may stand before these tokens
 abbrev pub Allowed : Production → Tokens → Type 0
-Allowed p [] = ⊥
-Allowed p (t ∷ ts) = allows p (seen t) ≡ true
-
--- what a production's symbols give, one behind the other
-abbrev pub Taking : List ASymbol → List Val → Tokens → (List Val → Tokens → Type 0) → Type 0
-Taking [] vs a Goal = Goal vs a
-Taking (x ∷ xs) vs a Goal =
-    (y : (symbol_reading x).Of) (m : Tokens) → (symbol_reading x).Says a m y → Taking xs ((symbol_reading x).view y ∷ vs) m Goal
+Allowed = derivations.Allowed grammar
 
 -- what a production makes of what its symbols read is read by its nonterminal
 abbrev pub Step : Production → Type 0
-Step p = (a : Tokens) → Allowed p a → Taking (symbols p) [] a (λ vs b. Reads (reading (nonterminal_of p)) a b (build p vs))
+Step = derivations.Step grammar reading Is
 
-allowed : (n : ANonterminal) (p : Production) (a : Tokens) → Offers grammar n p a → Allowed p a
-allowed n p [] h = h
-allowed n p (t ∷ ts) h = h.1
+abbrev pub FoundToken : Terminal → Tokens → Tokens → Val → Type 0
+FoundToken k = Found grammar (symbol.Terminal k)
 
-offered_by : (n : ANonterminal) (p : Production) (a : Tokens) → Offers grammar n p a → nonterminal_of p ≡ n
-offered_by n p [] h = absurd h
-offered_by n p (t ∷ ts) h = h.0
+abbrev pub FoundPart : Nonterminal → Tokens → Tokens → Val → Type 0
+FoundPart m = Found grammar (symbol.Nonterminal m)
 
-taken_so : (k : ATerminal) (t : Token) (a b : Tokens) → a ≡ t ∷ b → seen t ≡ k → Taken k a b t
-taken_so k t a b e h = subst (λ c. Taken k c b t) (sym e) (taken h)
-
--- what symbols read, one behind the other
-abbrev ReadAll : List ASymbol → List Val → Tokens → Tokens → List Val → Type 0
-ReadAll [] vs a b ws = (a ≡ b) × (vs ≡ ws)
-ReadAll (x ∷ xs) vs a b ws =
-    (y : (symbol_reading x).Of) × (m : Tokens) × (symbol_reading x).Says a m y × ReadAll xs ((symbol_reading x).view y ∷ vs) m b ws
-
-take_all : (xs : List ASymbol) (vs ws : List Val) (a b : Tokens) (Goal : List Val → Tokens → Type 0) → Taking xs vs a Goal → ReadAll xs vs a b ws → Goal ws b
-take_all [] vs ws a b Goal k h = subst (λ us. Goal us b) h.1 (subst (λ d. Goal vs d) h.0 k)
-take_all (x ∷ xs) vs ws a b Goal k h = take_all xs ((symbol_reading x).view h.0 ∷ vs) ws h.1 b Goal (k h.0 h.1 h.2) h.3
-
-mutual
-  read_tree : ((p : Production) → Step p) → (c : Tree Token Production) (x : ASymbol) (a b : Tokens) → Derives grammar c x a b →
-      Reads (symbol_reading x) a b (value_of grammar c)
-  read_tree steps (leaf t) x a b h = subst (λ z. Reads (symbol_reading z) a b (tok t)) (sym h.0) (t, refl, taken_so (seen t) t a b h.1 refl)
-  read_tree steps (node p cs) x a b h =
-      subst (λ z. Reads (symbol_reading z) a b (value_of grammar (node p cs))) (sym h.1)
-      (subst (λ m. Reads (reading m) a b (value_of grammar (node p cs))) (offered_by h.0 p a h.2)
-      (take_all (symbols p) [] (values_of grammar cs []) a b (λ vs d. Reads (reading (nonterminal_of p)) a d (build p vs)) (steps p a (allowed h.0 p a h.2))
-      (read_trees steps cs (symbols p) [] a b h.3)))
-
-  read_trees : ((p : Production) → Step p) → (cs : Trees Token Production) (xs : List ASymbol) (vs : List Val) (a b : Tokens) → DerivesAll grammar cs xs a b →
-      ReadAll xs vs a b (values_of grammar cs vs)
-  read_trees steps none xs vs a b h = subst (λ ys. ReadAll ys vs a b vs) (sym h.0) (h.1, refl)
-  read_trees steps (some c cs) xs vs a b h =
-      let r : Reads (symbol_reading h.0) a h.2 (value_of grammar c) = read_tree steps c h.0 a h.2 h.4 in
-      subst (λ ys. ReadAll ys vs a b (values_of grammar cs (value_of grammar c ∷ vs))) (sym h.3) (
-        r.0,
-        h.2,
-        r.2,
-        subst (λ v. ReadAll h.1 (v ∷ vs) h.2 b (values_of grammar cs (value_of grammar c ∷ vs))) r.1
-            (read_trees steps cs h.1 (value_of grammar c ∷ vs) h.2 b h.5),
-      )
-
-pub reads : ((p : Production) → Step p) → (c : Tree Token Production) (x : ASymbol) (a b : Tokens) → Derives grammar c x a b →
-    Reads (symbol_reading x) a b (value_of grammar c)
-reads = read_tree
-
-allowed_start : (ts : Tokens) → IsSome ts → Allowed grammar.start ts
-allowed_start [] h = h
-allowed_start (t ∷ ts) h = refl
-
--- a whole text
-pub reads_whole : ((p : Production) → Step p) → {ts : Tokens} (c : Parse grammar ts) → Reads (reading (nonterminal_of grammar.start)) ts [] (result_of grammar c)
-reads_whole steps {ts} c =
-    take_all (symbols grammar.start) [] (values_of grammar c.trees []) ts [] (λ vs d. Reads (reading (nonterminal_of grammar.start)) ts d (build grammar.start vs))
-    (steps grammar.start ts (allowed_start ts (some_trees c.trees (symbols grammar.start) ts [] tt c.derives)))
-    (read_trees steps c.trees (symbols grammar.start) [] ts [] c.derives)
-
--- ---- from the published grammar to the table ----
-
-abbrev pub FoundPart : ANonterminal → Tokens → Tokens → Val → Type 0
-FoundPart n = Found (Nonterminal n)
-
--- what a production makes of derivations of its symbols, one behind the other
-abbrev pub Making : List ASymbol → List Val → Tokens → (List Val → Tokens → Type 0) → Type 0
-Making [] vs a Goal = Goal vs a
-Making (x ∷ xs) vs a Goal = (v : Val) (m : Tokens) → Found x a m v → Making xs (v ∷ vs) m Goal
-
-gather : (xs : List ASymbol) (vs : List Val) (a : Tokens) (Goal : List Val → Tokens → Type 0) →
-    ((cs : Trees Token Production) (b : Tokens) → DerivesAll grammar cs xs a b → Goal (values_of grammar cs vs) b) → Making xs vs a Goal
-gather [] vs a Goal k = k none a (refl, refl)
-gather (x ∷ xs) vs a Goal k =
-    λ v m c. gather xs (v ∷ vs) m Goal
-    (λ cs b d. subst (λ w. Goal (values_of grammar cs (w ∷ vs)) b) c.gives (k (some c.tree cs) b (x, xs, m, refl, c.derives, d)))
+-- a part whose value is this view of what is found
+abbrev pub FoundAs : {A : Type 0} → Nonterminal → (A → Val) → Part A
+FoundAs m view a b x = FoundPart m a b (view x)
 
 -- only an empty production asks what it stands before
-allowed_always : (p : Production) (k : ATerminal) → HasSymbols (symbols p) → allows p k ≡ true
+allowed_always : (p : Production) (k : Terminal) → HasSymbols (symbols p) → allows p k ≡ true
 allowed_always productions.NoEnding k h = absurd h
 allowed_always productions.NoElse k h = absurd h
 allowed_always productions.NoUntil k h = absurd h
 allowed_always _ k h = refl
 
-offers : (p : Production) (a : Tokens) → Allowed p a → Offers grammar (nonterminal_of p) p a
-offers p [] h = h
-offers p (t ∷ ts) h = (refl, h)
-
-allowed_some : (p : Production) (a : Tokens) → HasSymbols (symbols p) → IsSome a → Allowed p a
-allowed_some p [] has h = h
-allowed_some p (t ∷ ts) has h = allowed_always p (seen t) has
-
-pub make : (p : Production) → HasSymbols (symbols p) → (a : Tokens) →
-    Making (symbols p) [] a (λ vs b. Found (Nonterminal (nonterminal_of p)) a b (build p vs))
-make p has a =
-    gather (symbols p) [] a (λ vs b. Found (Nonterminal (nonterminal_of p)) a b (build p vs))
-    (λ cs b d. record {
-      tree = node p cs;
-      derives = (nonterminal_of p, refl, offers p a (allowed_some p a has (some_trees cs (symbols p) a b has d)), d);
-      gives = refl;
-    })
+pub make : (p : Production) → HasSymbols (symbols p) → (a : Tokens) → Makes grammar p a
+make p has = make_free grammar p has (λ k. allowed_always p k has)
 
 pub make_empty : (p : Production) → symbols p ≡ [] → (a : Tokens) → Allowed p a → FoundPart (nonterminal_of p) a a (build p [])
-make_empty p e a h = record { tree = node p none; derives = (nonterminal_of p, refl, offers p a h, (e, refl)); gives = refl }
+make_empty = derivations.make_empty grammar
 
-terminal_path : {j k : ATerminal} → j ≡ k → ◌≡◌ {A = ASymbol} (Terminal j) (Terminal k)
-terminal_path e = ap Terminal e
+pub found_empty : (p : Production) → symbols p ≡ [] → ((k : Terminal) → allows p k ≡ true) → {a : Tokens} → IsSome a → FoundPart (nonterminal_of p) a a (build p [])
+found_empty = derivations.found_empty grammar
 
--- one token
-pub found_token : (k : ATerminal) (t : Token) (ts : Tokens) → seen t ≡ k → Found (Terminal k) (t ∷ ts) ts (tok t)
-found_token k t ts h = record { tree = leaf t; derives = (terminal_path (sym h), refl); gives = refl }
-
--- the same derivation gives an equal value
-pub given : {x : ASymbol} {a b : Tokens} {v w : Val} → v ≡ w → Found x a b v → Found x a b w
-given {x} {a} {b} e c = subst (λ z. Found x a b z) e c
-
-free_at : (p : Production) → ((k : ATerminal) → allows p k ≡ true) → (a : Tokens) → IsSome a → Allowed p a
-free_at p free [] h = h
-free_at p free (t ∷ ts) h = free (seen t)
-
--- an empty part before any token
-pub found_empty : (p : Production) → symbols p ≡ [] → ((k : ATerminal) → allows p k ≡ true) → {a : Tokens} → IsSome a → FoundPart (nonterminal_of p) a a (build p [])
-found_empty p e free {a} h = make_empty p e a (free_at p free a h)
+pub found_token : (k : Terminal) (y : Token) (ts : Tokens) → seen y ≡ k → FoundToken k (y ∷ ts) ts (tok y)
+found_token = derivations.found_token grammar

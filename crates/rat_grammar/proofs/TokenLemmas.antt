@@ -1,8 +1,6 @@
 -- What a token is by what the table sees of it, and back.
-use Rattle.std.proofs.Common.{◌≡◌, ◌∙◌, ℕ, ℤ, Bool, true, false, ◌&&◌, ◌==◌, List, [], ◌∷◌, Option, None, Some, ◌⊎◌, inl, inr, refl, sym, subst, ap, if◌then◌else◌}
-use Rattle.std.proofs.lemmas.Bool.{eqb-true, eq-eqb}
+use Rattle.std.proofs.Common.{◌≡◌, ℕ, ℤ, Bool, true, false, Option, None, Some, [], ◌∷◌, ◌⊎◌, inl, inr, refl, ap, if◌then◌else◌}
 use Rattle.std.specs.Prelude.{codes}
-use Rattle.std.specs.Char.{to_ascii_uppercase}
 use Rattle.ground.specs.declared.place.Place.{Place}
 use Rattle.ground.specs.declared.token.Token.{Token}
 use Rattle.ground.specs.declared.token.TokenKind.{TokenKind}
@@ -12,23 +10,12 @@ use Rattle.ground.specs.declared.token.Sign.TheVariants as signs
 use Rattle.f66_tree.specs.Syntax.{Text}
 use Rattle.rat_parse_table.specs.declared.table.Terminal.{Terminal}
 use Rattle.rat_parse_table.specs.declared.table.Terminal.TheVariants as t
-use Rattle.rat_parse_table.specs.Words.{reserved, is_spelled, terminal_in, word_seen, word_terminal, is_field_word, is_octal, text_terminal, sign_terminal, kind_terminal, seen}
+use Rattle.rat_parse_table.specs.Words.{reserved, terminal_in, word_seen, word_terminal, is_field_word, is_octal, text_terminal, sign_terminal, kind_terminal, seen}
 use Rattle.rat_parse_values.specs.Parts.{operator_of}
-use Rattle.rat_grammar.specs.Tokens.{Tokens, token, one, capitals, here, there, Sign, OneOf}
+use Rattle.rat_grammar.specs.Tokens.{Tokens, token, one, capitals, here, there}
 use Rattle.rat_grammar.specs.Expressions.{Relation}
-
-abbrev So : Bool → Type 0
-So true = Unit {0}
-So false = ⊥
-
-pub untrue : false ≡ true → ⊥
-untrue e = subst So (sym e) tt
-
-abbrev pub IsWord : Text → TokenKind → Type 0
-IsWord x k = (w : Text) × (k ≡ kinds.Word w) × (capitals w ≡ x)
-
-abbrev pub IsSign : ASign → TokenKind → Type 0
-IsSign s k = k ≡ kinds.Sign s
+use Rattle.rat_grammar.proofs.Standing.{IsSign, IsWord}
+use Rattle.rat_grammar.proofs.ReservedWords.{terminal_of, terminal_by, EachWord, WordIs, word_is, ◌&◌, a_word, first_word, second_word}
 
 abbrev pub IsName : TokenKind → Type 0
 IsName k = (w : Text) × (k ≡ kinds.Word w) × (terminal_in reserved w ≡ None)
@@ -97,166 +84,19 @@ Is t.Other k = Unit {0}
 
 -- ---- words ----
 
-abbrev EachWord : List (Text × Terminal) → Type 0
-EachWord [] = Unit {0}
-EachWord (x ∷ xs) = ((w : Text) → capitals w ≡ x.0 → Is x.1 (kinds.Word w)) × EachWord xs
-
-each_word : EachWord reserved
-each_word = (
-  λ w h. (w, refl, h),
-  (
-    λ w h. (w, refl, h),
-    (
-      λ w h. (w, refl, h),
-      (
-        λ w h. (w, refl, h),
-        (
-          λ w h. (w, refl, h),
-          (
-            λ w h. (w, refl, h),
-            (
-              λ w h. (w, refl, h),
-              (
-                λ w h. (w, refl, h),
-                (
-                  λ w h. (w, refl, h),
-                  (
-                    λ w h. (w, refl, h),
-                    (
-                      λ w h. (w, refl, h),
-                      (
-                        λ w h. (w, refl, h),
-                        (
-                          λ w h. (w, refl, h),
-                          (
-                            λ w h. (w, refl, h),
-                            (
-                              λ w h. (w, refl, h),
-                              (
-                                λ w h. inl (w, refl, h),
-                                (
-                                  λ w h. inr (w, refl, h),
-                                  (
-                                    λ w h. (w, refl, h),
-                                    (
-                                      λ w h. (w, refl, h),
-                                      (
-                                        λ w h. (w, refl, h),
-                                        (
-                                          λ w h. (w, refl, h),
-                                          (
-                                            λ w h. (w, refl, h),
-                                            (
-                                              λ w h. (w, refl, h),
-                                              (
-                                                λ w h. (w, refl, h),
-                                                (
-                                                  λ w h. inl (w, refl, h),
-                                                  (
-                                                    λ w h. inr (w, refl, h),
-                                                    (
-                                                      λ w h. (w, refl, h),
-                                                      (
-                                                        λ w h. inl (inl (w, refl, h)),
-                                                        (
-                                                          λ w h. inl (inr (w, refl, h)),
-                                                          (
-                                                            λ w h. inr (inl (w, refl, h)),
-                                                            (
-                                                              λ w h. inr (inr (w, refl, h)),
-                                                              (
-                                                                λ w h. (w, refl, h),
-                                                                (λ w h. (w, refl, h), (λ w h. (w, refl, h), (λ w h. (w, refl, h), (λ w h. (w, refl, h), tt)))),
-                                                              ),
-                                                            ),
-                                                          ),
-                                                        ),
-                                                      ),
-                                                    ),
-                                                  ),
-                                                ),
-                                              ),
-                                            ),
-                                          ),
-                                        ),
-                                      ),
-                                    ),
-                                  ),
-                                ),
-                              ),
-                            ),
-                          ),
-                        ),
-                      ),
-                    ),
-                  ),
-                ),
-              ),
-            ),
-          ),
-        ),
-      ),
-    ),
-  ),
-)
-
-abbrev pub same : Text → Text → Bool
-same [] [] = true
-same [] (c ∷ cs) = false
-same (s ∷ ss) [] = false
-same (s ∷ ss) (c ∷ cs) = (s == c) && same ss cs
-
-pub spelled_same : (s w : Text) → is_spelled s w ≡ same s (capitals w)
-spelled_same [] [] = refl
-spelled_same [] (c ∷ cs) = refl
-spelled_same (s ∷ ss) [] = refl
-spelled_same (s ∷ ss) (c ∷ cs) = ap (λ b. (s == to_ascii_uppercase c) && b) (spelled_same ss cs)
-
-and_both : (a b : Bool) → a ≡ true → b ≡ true → a && b ≡ true
-and_both true b h g = g
-and_both false b h g = absurd (untrue h)
-
-pub same_self : (s : Text) → same s s ≡ true
-same_self [] = refl
-same_self (s ∷ ss) = and_both (s == s) (same ss ss) (eq-eqb s s refl) (same_self ss)
-
-left : (a b : Bool) → a && b ≡ true → a ≡ true
-left true b h = refl
-left false b h = absurd (untrue h)
-
-right : (a b : Bool) → a && b ≡ true → b ≡ true
-right true b h = h
-right false b h = absurd (untrue h)
-
-cons_same : {s c : ℕ} {ss cs : Text} → s ≡ c → cs ≡ ss → c ∷ cs ≡ s ∷ ss
-cons_same h k = cc
-
-pub same_is : (s w : Text) → same s w ≡ true → w ≡ s
-same_is [] [] h = refl
-same_is [] (c ∷ cs) h = absurd (untrue h)
-same_is (s ∷ ss) [] h = absurd (untrue h)
-same_is (s ∷ ss) (c ∷ cs) h = cons_same (eqb-true s c (left (s == c) (same ss cs) h)) (same_is ss cs (right (s == c) (same ss cs) h))
-
-spelled_is : (s w : Text) → is_spelled s w ≡ true → capitals w ≡ s
-spelled_is s w h = same_is s (capitals w) (subst (λ b. b ≡ true) (spelled_same s w) h)
-
-abbrev WordIs : Option Terminal → Text → Type 0
-WordIs None w = Unit {0}
-WordIs (Some k) w = Is k (kinds.Word w)
-
-chosen_is : (b : Bool) (k : Terminal) (later : Option Terminal) (w : Text) → (b ≡ true → Is k (kinds.Word w)) → WordIs later w → WordIs (if b then Some k else later) w
-chosen_is true k later w h g = h refl
-chosen_is false k later w h g = g
-
-word_is : (xs : List (Text × Terminal)) → EachWord xs → (w : Text) → WordIs (terminal_in xs w) w
-word_is [] each w = tt
-word_is (x ∷ xs) each w = chosen_is (is_spelled x.0 w) x.1 (terminal_in xs w) w (λ h. each.0 w (spelled_is x.0 w h)) (word_is xs each.1 w)
+each_word : EachWord Is reserved
+each_word =
+    a_word & a_word & a_word & a_word & a_word & a_word & a_word & a_word
+    & a_word & a_word & a_word & a_word & a_word & a_word & a_word & first_word
+    & second_word & a_word & a_word & a_word & a_word & a_word & a_word & a_word
+    & first_word & second_word & a_word & (λ w h. inl (first_word w h)) & (λ w h. inl (second_word w h))
+    & (λ w h. inr (first_word w h)) & (λ w h. inr (second_word w h)) & a_word & a_word & a_word & a_word & a_word & tt
 
 name_is : (b : Bool) (w : Text) → is_field_word w ≡ b → terminal_in reserved w ≡ None → Is (if b then t.FieldWord else t.Name) (kinds.Word w)
 name_is true w h g = (w, refl, g, h)
 name_is false w h g = (w, refl, g)
 
-seen_word_is : (o : Option Terminal) (w : Text) → terminal_in reserved w ≡ o → WordIs o w → Is (word_seen o w) (kinds.Word w)
+seen_word_is : (o : Option Terminal) (w : Text) → terminal_in reserved w ≡ o → WordIs Is o w → Is (word_seen o w) (kinds.Word w)
 seen_word_is (Some k) w e h = h
 seen_word_is None w e h = name_is (is_field_word w) w refl e
 
@@ -298,7 +138,7 @@ sign_is signs.Assign = refl
 sign_is _ = tt
 
 kind_is : (k : TokenKind) → Is (kind_terminal k) k
-kind_is (kinds.Word w) = seen_word_is (terminal_in reserved w) w refl (word_is reserved each_word w)
+kind_is (kinds.Word w) = seen_word_is (terminal_in reserved w) w refl (word_is Is reserved each_word w)
 kind_is (kinds.Number z) = number_is (is_octal z) z refl
 kind_is (kinds.Quoted w) = text_is w
 kind_is (kinds.Sign s) = sign_is s
@@ -306,40 +146,9 @@ kind_is kinds.LineEnd = refl
 kind_is kinds.Semicolon = refl
 kind_is kinds.TextEnd = refl
 
--- a token of which the table sees this
-pub seen_is : (k : Terminal) (t : Token) → seen t ≡ k → Is k t.kind
-seen_is k t h = subst (λ j. Is j t.kind) h (kind_is t.kind)
-
--- ---- back ----
-
-abbrev pub terminal_of : List (Text × Terminal) → Text → Option Terminal
-terminal_of [] w = None
-terminal_of (x ∷ xs) w = if same x.0 w then Some x.1 else terminal_of xs w
-
-terminal_by_capitals : (xs : List (Text × Terminal)) (w : Text) → terminal_in xs w ≡ terminal_of xs (capitals w)
-terminal_by_capitals [] w = refl
-terminal_by_capitals (x ∷ xs) w =
-    subst (λ b. (if is_spelled x.0 w then Some x.1 else terminal_in xs w) ≡ (if b then Some x.1 else terminal_of xs (capitals w))) (spelled_same x.0 w)
-    (ap (λ o. if is_spelled x.0 w then Some x.1 else o) (terminal_by_capitals xs w))
+pub seen_is : (y : Token) → Is (seen y) y.kind
+seen_is y = kind_is y.kind
 
 -- the table sees a reserved word as its terminal
-abbrev pub terminal_named : Text → Option Terminal
-terminal_named x = terminal_of reserved x
-
-pub word_seen_as : (x : Text) (k : Terminal) (w : Text) → capitals w ≡ x → terminal_named x ≡ Some k → word_terminal w ≡ k
-word_seen_as x k w h e = ap (λ o. word_seen o w) (terminal_by_capitals reserved w ∙ ap (terminal_of reserved) h ∙ e)
-
--- ---- one of some signs ----
-
--- this holds of each sign and what stands beside it
-abbrev pub EachSign : {A : Type 0} → (ASign → A → Type 0) → List (ASign × A) → Type 0
-EachSign P [] = Unit {0}
-EachSign P (c ∷ cs) = P c.0 c.1 × EachSign P cs
-
--- so it holds of the one that stands here
-pub data SignHere {A : Type 0} (P : ASign → A → Type 0) : Tokens → Tokens → A → Type 0 where
-  stands : {s : ASign} {x : A} {a b : Tokens} → Sign s a b → P s x → SignHere P a b x
-
-pub sign_here : {A : Type 0} (P : ASign → A → Type 0) {choices : List (ASign × A)} {a b : Tokens} {x : A} → OneOf choices a b x → EachSign P choices → SignHere P a b x
-sign_here P (here q) each = stands q each.0
-sign_here P (there q) each = sign_here P q each.1
+pub word_seen_as : (x : Text) (k : Terminal) (w : Text) → capitals w ≡ x → terminal_of reserved x ≡ Some k → word_terminal w ≡ k
+word_seen_as x k w h e = ap (λ o. word_seen o w) (terminal_by reserved x w h e)

@@ -1,20 +1,19 @@
 -- The table derives each unit and program of the published grammar.
-use Rattle.std.proofs.Common.{◌≡◌, ◌∙◌, Option, None, Some, List, [], ◌∷◌, refl, ap}
+use Rattle.std.proofs.Common.{◌≡◌, ◌∙◌, Option, None, Some, List, ◌∷◌, refl, ap}
 use Rattle.std.specs.Prelude.{codes}
 use Rattle.ground.specs.declared.place.Place.{Place}
 use Rattle.ground.specs.declared.token.TokenKind.TheVariants as kinds
 use Rattle.f66_tree.specs.declared.declaration.TypeWord.{TypeWord}
 use Rattle.f66_tree.specs.Syntax as f66
 use Rattle.f66_tree.specs.Syntax.{Text, Header}
-use Rattle.grammar.specs.declared.language.Symbol.TheVariants.{Terminal, Nonterminal}
-use Rattle.grammar.specs.Grammar.{leaf, some, none, IsProgram}
+use Rattle.grammar.specs.Grammar.{IsProgram}
 use Rattle.rat_tree.specs.Syntax as tree
 use Rattle.rat_tree.specs.Syntax.{Command, Commands, RatRoutine, RatProgram}
 use Rattle.rat_parse_table.specs.declared.table.Terminal.TheVariants as t
 use Rattle.rat_parse_table.specs.declared.table.Nonterminal.TheVariants as n
 use Rattle.rat_parse_table.specs.declared.table.Production.TheVariants as p
 use Rattle.rat_parse_values.specs.Values.{Val, tok, names, heading, commands, routine, routines, program}
-use Rattle.rat_parse_values.specs.Parts.{capped, type_word, as_units}
+use Rattle.rat_parse_values.specs.Parts.{capped, type_word}
 use Rattle.rat_parse_control.specs.Statements.{main}
 use Rattle.rat_parse.specs.Ratfor.{grammar}
 use Rattle.rat_grammar.specs.Tokens.{Perhaps, Tokens, token, one, Word, word, Name, name, place_at, Lines, Stop, Several}
@@ -22,36 +21,35 @@ use Rattle.rat_grammar.specs.Declarations as d
 use Rattle.rat_grammar.specs.Statements as s
 use Rattle.rat_grammar.specs.Programs as u
 use Rattle.rat_grammar.specs.Laws.{IsSome}
-use Rattle.rat_grammar.proofs.LineLemmas.{NoLine, lines_left, no_line_at}
-use Rattle.rat_grammar.proofs.Steps.{FoundPart, make, found_token, found_empty, given}
+use Rattle.rat_grammar.proofs.LineLemmas.{NoLine, lines_left, Begins, begins_at, Goes, stop_is_some}
+use Rattle.rat_grammar.proofs.Derivations.{given, before_lines, make_whole}
+use Rattle.rat_grammar.proofs.Steps.{FoundPart, make, found_token, found_empty}
 use Rattle.rat_grammar.proofs.StatementLemmas.{own_label}
 use Rattle.rat_grammar.proofs.ExpressionsFound.{found_name, found_number}
 use Rattle.rat_grammar.proofs.ListsFound.{FoundList}
-use Rattle.rat_grammar.proofs.WordsFound.{the_word, FoundName, found_names}
+use Rattle.rat_grammar.proofs.WordsFound.{the_word, found_names}
 use Rattle.rat_grammar.proofs.DeclarationsFound.{FoundType, found_type}
-use Rattle.rat_grammar.proofs.StatementsFound.{Goes, statements_go, FoundStop, found_stop, stop_is_some, FoundBody, FoundBare, FoundItem, bare_of, found_body, found_item}
+use Rattle.rat_grammar.proofs.StatementsFound.{statements_go, FoundStop, found_stop, FoundBody, FoundBare, FoundItem, bare_of, found_body, found_item}
 
 -- ---- the body of a unit ----
 
 body_lines : {a b c : Tokens} {v : Val} → Lines a b → FoundPart n.Body b c v → FoundPart n.Body a c v
-body_lines Lines.none q = q
-body_lines (Lines.line one l) q = make p.BodyLine tt _ _ _ (found_token t.LineEnd _ _ refl) _ _ (body_lines l q)
+body_lines = before_lines (λ a b q v c. make p.BodyLine tt _ _ _ (found_token t.LineEnd _ _ refl) _ _ c)
 
 -- what stands from its `end` on
 record Ending (a b : Tokens) : Type 0 where
-  stands : NoLine a
-  some : IsSome a
+  begins : Begins a
   found : FoundPart n.Body a b (commands tree.NoCommand)
 
 an_ending : {a m b : Tokens} → Word (codes "END") a m → Stop m b → Ending a b
 an_ending (word h) st = let z : FoundStop _ _ = found_stop st in
-    record { stands = no_line_at _ _ refl; some = tt; found = make p.BodyEnd tt _ _ _ (the_word (codes "END") t.End refl h) _ _ z.found }
+    record { begins = begins_at _ _ refl; found = make p.BodyEnd tt _ _ _ (the_word (codes "END") t.End refl h) _ _ z.found }
 
 end_goes : {a m b : Tokens} → Lines a m → Ending m b → Goes a
-end_goes l z = record { next = _; lines = l; stands = z.stands; some = z.some }
+end_goes l z = record { next = _; lines = l; begins = z.begins }
 
 unit_body : {a b m e : Tokens} {xs : Commands} → s.Statements a b xs → Lines b m → Ending m e → (k : Tokens) → Lines a k → FoundPart n.Body k e (commands xs)
-unit_body s.Statements.none l z k r = body_lines (lines_left r l z.stands) z.found
+unit_body s.Statements.none l z k r = body_lines (lines_left r l z.begins.stands) z.found
 unit_body (s.Statements.more x xs) l z k r =
     let y : FoundItem k _ _ = found_item x (statements_go xs (end_goes l z)) k r in
     body_lines y.lines (make p.BodyMore tt _ _ _ y.found _ _ (unit_body xs l z y.behind y.more))
@@ -60,7 +58,7 @@ unit_body (s.Statements.more x xs) l z k r =
 
 found_formals : {a b : Tokens} {xs : List Text} → u.Formals a b xs → FoundPart n.FormalList a b (names xs)
 found_formals (u.formals one xs one) =
-    let r : FoundList FoundName n.FormalMore (λ y. names y) _ _ _ = found_names xs tt in
+    let r : FoundList _ _ _ _ _ = found_names xs tt in
     given (ap (λ z. names (z ∷ r.others)) r.found.is ∙ ap (λ z. names z) r.is)
     (make p.FormalList tt _ _ _ (found_token t.Open _ _ refl) _ _ r.found.found _ _ r.more _ _ (found_token t.Close _ _ refl))
 
@@ -146,23 +144,12 @@ found_unit (u.main l h xs r w z) = record { start = _; lines = l; found = make p
 -- ---- programs ----
 
 units_lines : {a b c : Tokens} {v : Val} → Lines a b → FoundPart n.Units b c v → FoundPart n.Units a c v
-units_lines Lines.none q = q
-units_lines (Lines.line one l) q = make p.BlankLine tt _ _ _ (found_token t.LineEnd _ _ refl) _ _ (units_lines l q)
+units_lines = before_lines (λ a b q v c. make p.BlankLine tt _ _ _ (found_token t.LineEnd _ _ refl) _ _ c)
 
 found_units : {a b e : Tokens} {xs : List RatRoutine} → Several u.Unit a b xs → Lines b e → IsSome e → FoundPart n.Units a e (routines xs)
 found_units Several.none l h = units_lines l (found_empty p.NoUnit refl (λ k. refl) h)
 found_units (Several.more x xs) l h =
     let y : FoundUnit _ _ _ = found_unit x in units_lines y.lines (make p.MoreUnits tt _ _ _ y.found _ _ (found_units xs l h))
 
-whole : {a : Tokens} {q : Place} {xs : List RatRoutine} → FoundPart n.Units a (token kinds.TextEnd q ∷ []) (routines xs) →
-    IsProgram grammar a (program (record { routines = xs; finish = q }))
-whole {a} {q} {xs} c = (
-  record {
-    trees = some c.tree (some (leaf (token kinds.TextEnd q)) none);
-    derives = (Nonterminal n.Units, Terminal t.TextEnd ∷ [], token kinds.TextEnd q ∷ [], refl, c.derives, (Terminal t.TextEnd, [], [], refl, (refl, refl), (refl, refl)));
-  },
-  ap (λ v. program (record { routines = as_units v; finish = q })) c.gives,
-)
-
 pub found_program : {ts : Tokens} {r : RatProgram} → u.Program ts r → IsProgram grammar ts (program r)
-found_program (u.program xs l one) = whole (found_units xs l tt)
+found_program (u.program xs l one) = make_whole grammar _ _ _ (found_units xs l tt) _ _ (found_token t.TextEnd _ _ refl) refl

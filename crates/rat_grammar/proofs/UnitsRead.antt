@@ -1,10 +1,9 @@
 -- What the table reads as a unit or a program is one of the published grammar.
-use Rattle.std.proofs.Common.{◌≡◌, ◌∙◌, Bool, if◌then◌else◌, List, [], ◌∷◌, None, Some, inl, inr, refl, sym, subst, ap}
+use Rattle.std.proofs.Common.{◌≡◌, ◌∙◌, List, [], ◌∷◌, None, Some, ◌⊎◌, inl, inr, refl, sym, subst, ap}
 use Rattle.std.specs.Prelude.{codes}
 use Rattle.ground.specs.declared.place.Place.{Place}
 use Rattle.ground.specs.declared.token.Token.{Token}
 use Rattle.f66_tree.specs.declared.declaration.TypeWord.{TypeWord}
-use Rattle.f66_tree.specs.declared.declaration.TypeWord.TheVariants as types
 use Rattle.f66_tree.specs.Syntax as f66
 use Rattle.f66_tree.specs.Syntax.{Text, Header}
 use Rattle.rat_tree.specs.Syntax as tree
@@ -16,47 +15,43 @@ use Rattle.rat_parse_values.specs.Values.{Val, tok, heading}
 use Rattle.rat_parse_values.specs.Values as val
 use Rattle.rat_parse_values.specs.Parts.{name_in, number_in, type_word}
 use Rattle.rat_parse_control.specs.Statements.{typed_from, with_own_label, main}
-use Rattle.rat_grammar.specs.Tokens.{Perhaps, Tokens, one, word, Name, Number, Word, place_at, Lines, Stop, Listed, Several}
+use Rattle.rat_grammar.specs.Tokens.{Perhaps, Tokens, one, capitals, word, Name, Number, Word, place_at, Lines, Stop, Listed, Several}
 use Rattle.rat_grammar.specs.Declarations as d
 use Rattle.rat_grammar.specs.Plain as pl
 use Rattle.rat_grammar.specs.Statements as s
 use Rattle.rat_grammar.specs.Programs as u
-use Rattle.rat_grammar.proofs.LineLemmas.{NoLine, no_line_at, word_is_no_line}
-use Rattle.rat_grammar.proofs.Readings.{Lined, Formals, Typed, view_typed, SaysTyped, reading}
-use Rattle.rat_grammar.proofs.Steps.{Step, Reads}
-use Rattle.rat_grammar.proofs.StatementLemmas.{lines_before_statements, lines_before_units, type_is_no_line, body_is_no_line, own_label}
+use Rattle.rat_grammar.proofs.LineLemmas.{NoLine, no_line_at, word_begins}
+use Rattle.rat_grammar.proofs.Parts.{Lined}
+use Rattle.rat_grammar.proofs.Readings.{Formals, Typed, view_typed, SaysTyped, reading}
+use Rattle.rat_grammar.proofs.Derivations.{Reads}
+use Rattle.rat_grammar.proofs.Steps.{Step}
+use Rattle.rat_grammar.proofs.StatementLemmas.{lines_before_statements, lines_before_units, type_begins, body_begins, own_label}
 use Rattle.rat_grammar.proofs.StatementsRead.{joined_statements}
 use Rattle.rat_grammar.proofs.Taken as taken
-use Rattle.rat_grammar.proofs.Taken.{Spelled, spelled, Choice, this, that, TypeChoice, integer_or_logical, real_or_complex, is_other_word, sole}
+use Rattle.rat_grammar.proofs.Taken.{type_by, type_is}
+use Rattle.rat_grammar.proofs.Standing.{place_of, sole, word_of, Spelled, spelled, spelling, Choice, this, that}
+use Rattle.rat_grammar.proofs.ReservedWords.{same}
 
 -- ---- words of types ----
 
-typed_so : {a b : Tokens} (w : Text) {i l : Bool} → is_spelled (codes "INTEGER") w ≡ i → is_spelled (codes "LOGICAL") w ≡ l →
-    d.TypeName a b (if i then types.Integer else (if l then types.Logical else types.Other)) →
-    d.TypeName a b (if is_spelled (codes "INTEGER") w then types.Integer else (if is_spelled (codes "LOGICAL") w then types.Logical else types.Other))
-typed_so {a} {b} w {i = i} h g q =
-    subst (λ v. d.TypeName a b (if v then types.Integer else (if is_spelled (codes "LOGICAL") w then types.Logical else types.Other))) (sym h)
-    (subst (λ v. d.TypeName a b (if i then types.Integer else (if v then types.Logical else types.Other))) (sym g) q)
+typed : {a b : Tokens} {x : Text} (w : Text) → capitals w ≡ x → d.TypeName a b (type_by (same (codes "INTEGER") x) (same (codes "LOGICAL") x)) →
+    d.TypeName a b (type_by (is_spelled (codes "INTEGER") w) (is_spelled (codes "LOGICAL") w))
+typed {a} {b} {x} w h c = subst (λ v. d.TypeName a b v) (sym (type_is w x h)) c
 
-a_type : {a b : Tokens} {y : Token} → TypeChoice a b y → d.TypeName a b (type_word (tok y))
-a_type (integer_or_logical (this (spelled {w = w} h))) =
-    typed_so w (is_other_word (codes "INTEGER") (codes "INTEGER") w h refl) (is_other_word (codes "LOGICAL") (codes "INTEGER") w h refl) (d.integer (word h))
-a_type (integer_or_logical (that (spelled {w = w} h))) =
-    typed_so w (is_other_word (codes "INTEGER") (codes "LOGICAL") w h refl) (is_other_word (codes "LOGICAL") (codes "LOGICAL") w h refl) (d.logical (word h))
-a_type (real_or_complex (this (spelled {w = w} h))) =
-    typed_so w (is_other_word (codes "INTEGER") (codes "REAL") w h refl) (is_other_word (codes "LOGICAL") (codes "REAL") w h refl) (d.real (word h))
-a_type (real_or_complex (that (spelled {w = w} h))) =
-    typed_so w (is_other_word (codes "INTEGER") (codes "COMPLEX") w h refl) (is_other_word (codes "LOGICAL") (codes "COMPLEX") w h refl) (d.complex (word h))
+a_type : {a b : Tokens} {y : Token} → Choice (codes "INTEGER") (codes "LOGICAL") a b y ⊎ Choice (codes "REAL") (codes "COMPLEX") a b y → d.TypeName a b (type_word (tok y))
+a_type (inl (this (spelled {w = w} h))) = typed w h (d.integer (word h))
+a_type (inl (that (spelled {w = w} h))) = typed w h (d.logical (word h))
+a_type (inr (this (spelled {w = w} h))) = typed w h (d.real (word h))
+a_type (inr (that (spelled {w = w} h))) = typed w h (d.complex (word h))
 
 double : {a m b : Tokens} {y : Token} → Spelled (codes "DOUBLE") a m y → Word (codes "PRECISION") m b → d.TypeName a b (type_word (tok y))
-double (spelled {w = w} h) q =
-    typed_so w (is_other_word (codes "INTEGER") (codes "DOUBLE") w h refl) (is_other_word (codes "LOGICAL") (codes "DOUBLE") w h refl) (d.double (word h) q)
+double (spelled {w = w} h) c = typed w h (d.double (word h) c)
 
 pub one_word : Step p.OneWord
-one_word a h = λ y b r. (y, refl, (taken.place_of r, a_type (taken.type_word_seen r)))
+one_word a h = λ y b r. (y, refl, (place_of r, a_type (taken.type_choice r)))
 
 pub two_words : Step p.TwoWords
-two_words a h = λ y m r z b k. (y, refl, (taken.place_of r, double (taken.double_seen r) (taken.precision_word k)))
+two_words a h = λ y m r z b k. (y, refl, (place_of r, double (spelling r) (word_of k)))
 
 -- ---- headers ----
 
@@ -68,10 +63,10 @@ no_formals a h = ([], refl, inl (refl, refl))
 
 pub formal_list : Step p.FormalList
 formal_list a h = λ y m r x k c xs j t z b k2.
-    (name_in (tok x) ∷ xs, refl, u.formals (sole (taken.open_sign r)) (t m (name_in (tok x)) c.1) (sole (taken.close_sign k2)))
+    (name_in (tok x) ∷ xs, refl, u.formals (sole r) (t m (name_in (tok x)) c.1) (sole k2))
 
 pub more_formal : Step p.MoreFormal
-more_formal a h = λ y m r x k c xs b t. (name_in (tok x) ∷ xs, refl, λ g z q. Listed.comma q (sole (taken.comma_sign r)) (t m (name_in (tok x)) c.1))
+more_formal a h = λ y m r x k c xs b t. (name_in (tok x) ∷ xs, refl, λ g z q. Listed.comma q (sole r) (t m (name_in (tok x)) c.1))
 
 pub no_more_formal : Step p.NoMoreFormal
 no_more_formal a h = ([], refl, λ g x q. Listed.last q)
@@ -82,20 +77,20 @@ subroutine w c (inr q) = u.subroutine_of w c q
 
 pub subroutine_header : Step p.SubroutineHeader
 subroutine_header a h = λ y i r x j c xs b q.
-    ((y.place, f66.SubUnit (name_in (tok x)) xs), refl, (taken.place_of r, subroutine (taken.subroutine_word r) c.1 q))
+    ((y.place, f66.SubUnit (name_in (tok x)) xs), refl, (place_of r, subroutine (word_of r) c.1 q))
 
 pub function_header : Step p.FunctionHeader
 function_header a h = λ y i r x j c xs b q.
-    ((y.place, f66.FuncUnit None (name_in (tok x)) xs), refl, (taken.place_of r, u.function Perhaps.none (taken.function_word r) c.1 q))
+    ((y.place, f66.FuncUnit None (name_in (tok x)) xs), refl, (place_of r, u.function Perhaps.none (word_of r) c.1 q))
 
 pub typed_function : Step p.TypedFunction
-typed_function a h = λ y i r x j c xs b q. (inl (y.place, name_in (tok x), xs), refl, (i, j, taken.function_word r, c.1, q))
+typed_function a h = λ y i r x j c xs b q. (inl (y.place, name_in (tok x), xs), refl, (i, j, word_of r, c.1, q))
 
 pub typed_main : Step p.TypedMain
 typed_main a h = λ ds b q. (inr ds, refl, q)
 
 pub block_header : Step p.BlockHeader
-block_header a h = λ y i r z b k. ((y.place, f66.DataUnit), refl, (taken.place_of r, u.block_data (taken.block_word r) (taken.data_word k)))
+block_header a h = λ y i r z b k. ((y.place, f66.DataUnit), refl, (place_of r, u.block_data (word_of r) (word_of k)))
 
 -- ---- units ----
 
@@ -107,14 +102,14 @@ longer q r = let k : _ = joined_statements q (r.0, r.3, r.4) in (k.0, r.1, r.2, 
 
 pub body_line : Step p.BodyLine
 body_line a h = λ y m r xs b q.
-    let k : _ = lines_before_statements (Lines.line (sole (taken.line_end r)) Lines.none) (q.0, q.3, q.4) in
+    let k : _ = lines_before_statements (Lines.line (sole r) Lines.none) (q.0, q.3, q.4) in
     (xs, refl, (k.0, q.1, q.2, k.1, k.2, q.5, q.6))
 
 pub body_more : Step p.BodyMore
 body_more a h = λ x m q xs b r. (tree.AndCommand x.1 xs, refl, longer q r)
 
 pub body_end : Step p.BodyEnd
-body_end a h = λ y m r v b st. (tree.NoCommand, refl, (a, a, m, s.Statements.none, Lines.none, taken.end_word r, st))
+body_end a h = λ y m r v b st. (tree.NoCommand, refl, (a, a, m, s.Statements.none, Lines.none, word_of r, st))
 
 main_unit : {a b : Tokens} {xs : Commands} → NoLine a → Ended a b xs → u.Unit a b (main (place_at a) xs)
 main_unit g r = u.main Lines.none g r.3 r.4 r.5 r.6
@@ -138,7 +133,7 @@ from_type {a} {k = k} {b = b} {q = q} {w = w} {xs = xs} (inr ds) e c r st z = (
   main q (tree.AndCommand (tree.Plain None q (f66.Typed w ds)) xs),
   refl,
   subst (λ v. u.Unit a b (main v (tree.AndCommand (tree.Plain None v (f66.Typed w ds)) xs))) (sym e)
-      (main_unit (type_is_no_line c) (longer (k, s.bare Lines.none (s.plain (pl.typed c r) st), Lines.none) z)),
+      (main_unit (type_begins c).stands (longer (k, s.bare Lines.none (s.plain (pl.typed c r) st), Lines.none) z)),
 )
 
 pub typed_unit : Step p.TypedUnit
@@ -166,15 +161,15 @@ plain_main a h = λ x j q xs b r. (
   main x.0 (tree.AndCommand x.1 xs),
   refl,
   subst (λ v. u.Unit a b (main v (tree.AndCommand x.1 xs))) (sym q.0)
-      (main_unit (body_is_no_line q.1.1) (longer (q.1.0, s.bare Lines.none q.1.1, q.1.2) r)),
+      (main_unit (body_begins q.1.1).stands (longer (q.1.0, s.bare Lines.none q.1.1, q.1.2) r)),
 )
 
 pub empty_main : Step p.EmptyMain
 empty_main a h = λ y i r v b st. (
   main y.place tree.NoCommand,
   refl,
-  subst (λ v. u.Unit a b (main v tree.NoCommand)) (sym (taken.place_of r))
-      (u.main Lines.none (word_is_no_line (taken.end_word r)) s.Statements.none Lines.none (taken.end_word r) st),
+  subst (λ v. u.Unit a b (main v tree.NoCommand)) (sym (place_of r))
+      (u.main Lines.none (word_begins (word_of r)).stands s.Statements.none Lines.none (word_of r) st),
 )
 
 -- ---- programs ----
@@ -183,7 +178,7 @@ pub one_unit : Step p.OneUnit
 one_unit a h = λ x b q. (x, refl, q)
 
 pub blank_line : Step p.BlankLine
-blank_line a h = λ y m r xs b q. (xs, refl, lines_before_units (Lines.line (sole (taken.line_end r)) Lines.none) q)
+blank_line a h = λ y m r xs b q. (xs, refl, lines_before_units (Lines.line (sole r) Lines.none) q)
 
 pub more_units : Step p.MoreUnits
 more_units a h = λ x m q xs b r. (x ∷ xs, refl, (r.0, Several.more q r.1, r.2))
@@ -192,4 +187,4 @@ pub no_unit : Step p.NoUnit
 no_unit a h = ([], refl, (a, Several.none, Lines.none))
 
 pub whole : Step p.Whole
-whole a h = λ xs m q y b r. (record { routines = xs; finish = y.place }, refl, (q.0, m, q.1, q.2, sole (taken.text_end r), taken.place_of r))
+whole a h = λ xs m q y b r. (record { routines = xs; finish = y.place }, refl, (q.0, m, q.1, q.2, sole r, place_of r))

@@ -5,24 +5,26 @@ use Rattle.ground.specs.declared.token.Token.{Token}
 use Rattle.ground.specs.declared.token.TokenKind.TheVariants as kinds
 use Rattle.ground.specs.declared.token.Sign.TheVariants as signs
 use Rattle.f66_tree.specs.Syntax.{Text}
-use Rattle.grammar.specs.declared.language.Symbol.TheVariants.{Terminal}
-use Rattle.rat_parse_table.specs.declared.table.Terminal.{Terminal as ATerminal}
+use Rattle.rat_parse_table.specs.declared.table.Terminal.{Terminal}
 use Rattle.rat_parse_table.specs.declared.table.Terminal.TheVariants as t
 use Rattle.rat_parse_table.specs.declared.table.Nonterminal.TheVariants as n
 use Rattle.rat_parse_table.specs.declared.table.Production.TheVariants as p
+use Rattle.rat_parse_table.specs.Words.{reserved}
 use Rattle.rat_parse_values.specs.Values.{tok, numbers, names}
 use Rattle.rat_parse_values.specs.Parts.{name_in, number_in}
 use Rattle.rat_grammar.specs.Tokens.{Tokens, token, one, capitals, Name, name, place_at, Listed}
 use Rattle.rat_grammar.specs.Declarations.{Natural, natural}
-use Rattle.rat_grammar.specs.Laws.{Found, IsSome}
-use Rattle.rat_grammar.proofs.TokenLemmas.{terminal_named, word_seen_as}
-use Rattle.rat_grammar.proofs.Steps.{FoundPart, make, found_token, found_empty, given}
+use Rattle.rat_grammar.specs.Laws.{IsSome}
+use Rattle.rat_grammar.proofs.ReservedWords.{terminal_of}
+use Rattle.rat_grammar.proofs.TokenLemmas.{word_seen_as}
+use Rattle.rat_grammar.proofs.Derivations.{given}
+use Rattle.rat_grammar.proofs.Steps.{FoundToken, FoundPart, FoundAs, make, found_token, found_empty}
 use Rattle.rat_grammar.proofs.ExpressionsFound.{found_name, found_number}
 use Rattle.rat_grammar.proofs.ListsFound.{FoundList, found_list}
 
 -- a reserved word, where it stands
-pub the_word : (x : Text) (k : ATerminal) → terminal_named x ≡ Some k → {w : Text} {q : Place} {ts : Tokens} → capitals w ≡ x →
-    Found (Terminal k) (token (kinds.Word w) q ∷ ts) ts (tok (token (kinds.Word w) q))
+pub the_word : (x : Text) (k : Terminal) → terminal_of reserved x ≡ Some k → {w : Text} {q : Place} {ts : Tokens} → capitals w ≡ x →
+    FoundToken k (token (kinds.Word w) q ∷ ts) ts (tok (token (kinds.Word w) q))
 the_word x k e {w} h = found_token k _ _ (word_seen_as x k w h e)
 
 -- a name
@@ -42,8 +44,8 @@ more_formal : {a b c : Tokens} {q : Place} {x : Text} {xs : List Text} → Found
     FoundPart n.FormalMore (token (kinds.Sign signs.Comma) q ∷ a) c (names (x ∷ xs))
 more_formal {xs = xs} c k = given (ap (λ z. names (z ∷ xs)) c.is) (make p.MoreFormal tt _ _ _ (found_token t.Comma _ _ refl) _ _ c.found _ _ k)
 
-pub found_names : {a b : Tokens} {xs : List Text} → Listed Name a b xs → IsSome b → FoundList FoundName n.FormalMore (λ y. names y) a b xs
-found_names = found_list Name FoundName n.FormalMore (λ y. names y) (λ a b x c s. a_name c) (λ a b c q x xs y k. more_formal y k) (λ a s. no_more_formal s)
+pub found_names : {a b : Tokens} {xs : List Text} → Listed Name a b xs → IsSome b → FoundList FoundName (FoundAs n.FormalMore (λ y. names y)) a b xs
+found_names = found_list (λ a b x c s. a_name c) (λ a b c q x xs y k. more_formal y k) (λ a s. no_more_formal s)
 
 -- a number that is kept as a natural one
 pub record FoundNatural (a b : Tokens) (k : ℕ) : Type 0 where
@@ -62,5 +64,5 @@ more_number : {a b c : Tokens} {q : Place} {x : ℕ} {xs : List ℕ} → FoundNa
     FoundPart n.NumberMore (token (kinds.Sign signs.Comma) q ∷ a) c (numbers (x ∷ xs))
 more_number {xs = xs} c k = given (ap (λ z. numbers (z ∷ xs)) c.is) (make p.MoreNumber tt _ _ _ (found_token t.Comma _ _ refl) _ _ c.found _ _ k)
 
-pub found_numbers : {a b : Tokens} {xs : List ℕ} → Listed Natural a b xs → IsSome b → FoundList FoundNatural n.NumberMore (λ y. numbers y) a b xs
-found_numbers = found_list Natural FoundNatural n.NumberMore (λ y. numbers y) (λ a b x c s. a_natural c) (λ a b c q x xs y k. more_number y k) (λ a s. no_more_number s)
+pub found_numbers : {a b : Tokens} {xs : List ℕ} → Listed Natural a b xs → IsSome b → FoundList FoundNatural (FoundAs n.NumberMore (λ y. numbers y)) a b xs
+found_numbers = found_list (λ a b x c s. a_natural c) (λ a b c q x xs y k. more_number y k) (λ a s. no_more_number s)

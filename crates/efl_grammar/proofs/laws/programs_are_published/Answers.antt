@@ -1,5 +1,5 @@
 -- That the law holds.
-use Rattle.efl_grammar.proofs.AnswersPublished as published
+use Rattle.efl_grammar.proofs.Published as published
 use Rattle.efl_grammar.proofs.laws.programs_are_published.Goals as goal
 
 pub returns : goal.returns
