@@ -1,9 +1,11 @@
 -- Units of a row that come or go as characters, several at once.
-use Rattle.std.proofs.Common.{◌≡◌, ℕ, zero, suc, ◌+◌, ◌<◌, ◌≤◌, Bool, true, false, ◌&&◌, List, [], ◌∷◌, ◌++◌, length, map, take, drop, set, get_or, Some, None, All, refl, sym, ap, ◌∙◌, subst, append_assoc, length-append, drop-cons, arith, nat_le}
-use Rattle.std.specs.Prelude.{pos, negsuc, if◌then◌else◌}
+use Rattle.std.proofs.Common.{◌≡◌, ℕ, suc, ◌+◌, ◌%◌, ◌^◌, ◌<◌, ◌≤◌, Bool, true, false, ◌&&◌, List, [], ◌∷◌, ◌++◌, length, map, take, drop, set, get_or, Some, All, refl, sym, ap, ◌∙◌, subst, append_assoc, length-append, drop-cons, arith, nat_le}
+use Rattle.std.specs.Prelude.{pos, bit_or, if◌then◌else◌}
+use Rattle.std.proofs.Math.Nat.{mod-eq_of_lt}
+use Rattle.std.proofs.lemmas.Nat.{le_or_l, le_or_r}
 use Rattle.std.proofs.Math.Seq.{set-append_seam}
 use Rattle.std.proofs.lemmas.Bool.{lt-ltb, leb-true, true≢false}
-use Rattle.std.proofs.lemmas.List.{length-map, length-set, length-drop, map-append, length-take-le, take-take, take_more}
+use Rattle.std.proofs.lemmas.List.{length-map, length-set, length-drop, map-append, length-take-le, take-take, take_more, take_more_set, take-map}
 use Rattle.std.proofs.lemmas.List.Elements.{All-head, All-tail}
 use Rattle.std.proofs.lemmas.Option.{slice_get-get_or}
 use borrow.Rule.Slice.PartMut.{put_mid, put_same, post_of}
@@ -16,7 +18,6 @@ use Rattle.ground.specs.Content.{Whole}
 use Rattle.f66_tree.specs.declared.editing.Way.{Way}
 use Rattle.f66_tree.specs.declared.editing.Way.TheVariants.{Reading, Writing}
 use Rattle.f66_tree.specs.Evaluation.{asked}
-use Rattle.f66_tree.specs.Fielded.{is_character}
 use Rattle.f66_tree.specs.Fields.{Fields}
 use Rattle.f66_tree.specs.Records.{due, put, take as take_from}
 use Rattle.f66_tree.specs.Statements.{taped}
@@ -29,7 +30,7 @@ use Rattle.stack_code.specs.StackMachine.{Spot, At, unit_of, shift, store, trans
 use Rattle.runner.specs.declared.words.Word.{Word}
 use Rattle.runner.specs.declared.words.Cell.{Cell}
 use Rattle.runner.specs.declared.words.Cell.TheVariants as cells
-use Rattle.runner.specs.Blocks.{coded, letter_in, Advances, MovesUnits}
+use Rattle.runner.specs.Blocks.{coded, Advances, MovesUnits}
 use Rattle.runner.specs.Exchanges.{IsSpot}
 use Rattle.runner.specs.Words.{Shows, IsSpotWord, Agrees, content_in}
 use Rattle.runner.proofs.Cells.{agrees_put, same_unit}
@@ -55,29 +56,24 @@ kept_more block i units old is inside fits =
     ∙ seam_set (map coded (take i block)) old i x cells.Nothing (length-map (take i block) coded ∙ length-take-le i block (omega arith)) fits
     ∙ ap (λ v. v ++ drop (i + 1) old) (sym (map-append coded (take i block) (get_or block i 0 ∷ [])) ∙ ap (map coded) (sym (take_more block i 0 inside)))
 
-no_letter : IsLetter 0 → ⊥
-no_letter is = true≢false (sym is)
+-- one more unit shows its code, where all of them are of one byte
+pub shown_more : (units : List Cell) (block : List ℕ) (i all bits kinds kind : ℕ) (x : Cell) → i < length units → i < length block → (kinds ≡ 0 → all < 256 → take i units ≡ map coded (take i block)) → x ≡ get_or units i x → (kind ≡ 0 → bits < 2 ^ 31 → x ≡ coded bits)
+    → bit_or kinds kind ≡ 0 → bit_or all bits < 256 → take (i + 1) units ≡ map coded (take (i + 1) (set block i (bits % 256)))
+shown_more units block i all bits kinds kind x inside fits front there here none low =
+    let before : all < 256 = let l = le_or_l all bits in omega (arith, low, l) in
+    let no_kinds : kinds ≡ 0 = let l = le_or_l kinds kind in omega (arith, none, l) in
+    let no_kind : kind ≡ 0 = let l = le_or_r kinds kind in omega (arith, none, l) in
+    let byte : bits < 256 = let l = le_or_r all bits in omega (arith, low, l) in
+    take_more units i x inside
+    ∙ ap (λ v. v ++ get_or units i x ∷ []) (front no_kinds before)
+    ∙ ap (λ v. map coded (take i block) ++ v ∷ []) (sym there ∙ here no_kind (omega (arith, byte)))
+    ∙ ap (λ n. map coded (take i block) ++ coded n ∷ []) (sym (mod-eq_of_lt byte))
+    ∙ sym (map-append coded (take i block) (bits % 256 ∷ []))
+    ∙ ap (map coded) (sym (take_more_set block i (bits % 256) fits))
 
-chosen : (n : ℕ) (b : Bool) → IsLetter (elim (if b then Some n else None) [ Some c ↦ c | None ↦ 0 ]) → n ≡ elim (if b then Some n else None) [ Some c ↦ c | None ↦ 0 ]
-chosen n true is = refl
-chosen n false is = absurd (no_letter is)
-
--- a unit that holds the code of a character holds nothing else
-coded_by : (x : Cell) → IsLetter (letter_in x) → x ≡ coded (letter_in x)
-coded_by (cells.Whole (pos n)) is = ap (λ v. cells.Whole (pos v)) (chosen n (is_character n) is)
-coded_by (cells.Whole (negsuc n)) is = absurd (no_letter is)
-coded_by cells.Nothing is = absurd (no_letter is)
-coded_by (cells.Truth b) is = absurd (no_letter is)
-
-codes_shown : (units : List Cell) (k : ℕ) → All IsLetter (take k (map letter_in units)) → take k units ≡ map coded (take k (map letter_in units))
-codes_shown units zero all = refl
-codes_shown [] (suc k) all = refl
-codes_shown (x ∷ units) (suc k) all =
-    let rest = take k (map letter_in units) in
-    ap (λ v. v ∷ take k units) (coded_by x (All-head IsLetter (letter_in x) rest all)) ∙ ap (λ v. coded (letter_in x) ∷ v) (codes_shown units k (All-tail IsLetter (letter_in x) rest all))
-
-pub codes_went : (units : List Cell) (block : List ℕ) (k : ℕ) → take (length units) block ≡ map letter_in units → All IsLetter (take k (take (length units) block)) → take k units ≡ map coded (take k (take (length units) block))
-codes_went units block k shown all = subst (λ l. take k units ≡ map coded (take k l)) (sym shown) (codes_shown units k (subst (λ l. All IsLetter (take k l)) shown all))
+-- what went out of a block are the codes of units
+pub codes_went : (units : List Cell) (codes : List ℕ) (k : ℕ) → units ≡ map coded codes → take k units ≡ map coded (take k codes)
+codes_went units codes k shown = ap (take k) shown ∙ take-map coded k codes
 
 -- ---- codes in a store ----
 

@@ -1,9 +1,8 @@
 -- Units of a row that come or go several at once.
-use Rattle.std.specs.Prelude.{◌≡◌, ℕ, ◌+◌, pos, List, Some, None}
+use Rattle.std.specs.Prelude.{◌≡◌, ℕ, ◌+◌, pos, List}
 use Rattle.ground.specs.declared.place.Place.{Place}
 use Rattle.ground.specs.declared.value.Kind.{Kind}
 use Rattle.f66_tree.specs.declared.editing.Way.{Way}
-use Rattle.f66_tree.specs.Fielded.{character_code}
 use Rattle.f66_tree.specs.Fields.{Fields}
 use Rattle.f66_tree.specs.World.{Record, Tape, Store, World}
 use Rattle.format_io.specs.Places.{Stand as Standing}
@@ -17,12 +16,6 @@ use Rattle.runner.specs.Words.{Shows, Agrees}
 -- a unit that holds the code of a character
 abbrev pub coded : ℕ → Cell
 coded c = cells.Whole (pos c)
-
--- the character whose code a unit holds, and 0 where it holds none
-abbrev pub letter_in : Cell → ℕ
-letter_in (cells.Whole z) = elim (character_code z) [ Some c ↦ c | None ↦ 0 ]
-letter_in cells.Nothing = 0
-letter_in (cells.Truth b) = 0
 
 -- a row has come so many units on, over these cells and records
 pub record Advances (way : Way) (k : Kind) (p : Spot) (place : Place) (w : World) (index moved n : ℕ) (cells : List Cell) (t : Tape) : Type 0 where

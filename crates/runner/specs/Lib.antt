@@ -11,3 +11,4 @@ pub mod Recording
 pub mod Exchanges
 pub mod Blocks
 pub mod Runners
+pub mod Slots

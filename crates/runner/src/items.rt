@@ -13,6 +13,7 @@ ghost use Rattle.runner.specs.Words.{Shows, Agrees, content_of};
 ghost use Rattle.runner.specs.Exchanges.{IsSpot, IsAsked, IsSet, Transfers, IsExchange};
 
 use crate::places::{cell_at, keep, unit_of};
+use crate::slots::Slot;
 use crate::words::{Cell, Word};
 use f66_tree::Way;
 use format_io::Plan;
@@ -60,7 +61,7 @@ fn trap_of(stop: Break) -> Trap
 }
 
 /// A value is stored at a spot.
-fn set(word: Word, value: Value, cells: &mut [Cell]) -> Result<(), Trap>
+fn set(word: Word, value: Value, cells: &mut [Slot]) -> Result<(), Trap>
     requires spot { IsSpot cells.old word }
     requires small { IsSmallValue value }
     ensures set { (p : Spot) (st : TheStore) → Shows (At p) word → Agrees cells.old st → IsSet (stored_at p (content value) st) cells.new result }
@@ -74,7 +75,7 @@ fn set(word: Word, value: Value, cells: &mut [Cell]) -> Result<(), Trap>
 }
 
 /// What a unit holds goes out by the edit that is due.
-fn give(kind: Kind, word: Word, cells: &[Cell], flow: &mut Flow) -> Result<(), Trap>
+fn give(kind: Kind, word: Word, cells: &[Slot], flow: &mut Flow) -> Result<(), Trap>
     requires spot { IsSpot cells.now word }
     requires way { flow.old.stand.way ≡ Writing }
     ensures way { flow.new.stand.way ≡ Writing }
@@ -92,7 +93,7 @@ fn give(kind: Kind, word: Word, cells: &[Cell], flow: &mut Flow) -> Result<(), T
 }
 
 /// A value comes in by the edit that is due, and a unit holds it.
-fn receive(word: Word, cells: &mut [Cell], flow: &mut Flow) -> Result<(), Trap>
+fn receive(word: Word, cells: &mut [Slot], flow: &mut Flow) -> Result<(), Trap>
     requires spot { IsSpot cells.old word }
     requires way { flow.old.stand.way ≡ Reading }
     ensures way { flow.new.stand.way ≡ Reading }
@@ -112,7 +113,7 @@ fn transfer(
     way: Way,
     kind: Kind,
     word: Word,
-    cells: &mut [Cell],
+    cells: &mut [Slot],
     flow: &mut Flow,
 ) -> Result<(), Trap>
     requires spot { IsSpot cells.old word }
@@ -135,7 +136,7 @@ pub(crate) fn item<S: Source, K: Sink>(
     kind: Kind,
     word: Word,
     plan: &Plan,
-    cells: &mut [Cell],
+    cells: &mut [Slot],
     flow: &mut Flow,
     input: &mut S,
     out: &mut K,

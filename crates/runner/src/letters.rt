@@ -1,5 +1,5 @@
 // Units of a row that come or go as characters, several at once.
-ghost use Rattle.std.specs.Prelude.{◌≡◌, ◌+◌, ◌<◌, ◌≤◌, ◌++◌, ◌^◌, ℕ, List, All, pos, length, map, take as first, drop, false};
+ghost use Rattle.std.specs.Prelude.{◌≡◌, ◌+◌, ◌<◌, ◌≤◌, ◌++◌, ◌^◌, ℕ, List, All, pos, length, map, take as first, drop, true, false};
 ghost use Rattle.ground.specs.declared.value.Kind.TheVariants.{Integer};
 ghost use Rattle.f66_tree.specs.declared.editing.Way.TheVariants.{Reading, Writing};
 ghost use Rattle.f66_tree.specs.Turns.{is_over};
@@ -9,69 +9,59 @@ ghost use Rattle.record_flow.specs.Flows.{tape};
 ghost use Rattle.record_flow.specs.Letters.{SendsLetters, GetsLetters};
 ghost use Rattle.stack_code.specs.StackMachine.{Spot, At};
 ghost use Rattle.runner.specs.Words.{Shows};
-ghost use Rattle.runner.specs.Blocks.{coded, letter_in as letter_of_unit, MovesUnits};
+ghost use Rattle.runner.specs.Blocks.{coded, MovesUnits};
 ghost use Rattle.runner.specs.Exchanges.{IsSpot};
 
 use crate::places::unit_of;
+use crate::slots::Slot;
 use crate::words::{Cell, Word};
 use f66_tree::Way;
 use format_io::Plan;
 use ground::Kind;
 use record_flow::Flow;
 
-/// The character whose code a unit holds, and 0 where it holds none.
+/// The unit that holds a code.
 #[inline(always)]
-fn letter_in(cell: Cell) -> u8
-    ensures { result ≡ letter_of_unit cell }
-{
-    match cell {
-        Cell::Whole(code) => {
-            if code < 32 || code > 126 {
-                0
-            } else {
-                code as u8
-            }
-        }
-        Cell::Nothing => 0,
-        Cell::Truth(_) => 0,
-    }
-}
-
-/// What a unit holds that has this code.
-#[inline(always)]
-fn cell_with(code: u8) -> Cell
+fn slot_with(code: u8) -> Slot
     ensures { result ≡ coded code }
 {
-    Cell::Whole(i32::from(code))
+    Slot::new(Cell::Whole(i32::from(code)))
 }
 
-/// The characters whose codes units hold come to the first places of a block.
+/// The codes that units hold come to the first places of a block, or false: not all of them hold an integer of one byte. Their bits
+/// are looked at together, so that there is no branch for each.
 #[inline(always)]
-fn show(units: &[Cell], block: &mut [u8])
+fn show(units: &[Slot], block: &mut [u8]) -> bool
     requires { length units.now ≤ length block.old }
     ensures room { length block.new ≡ length block.old }
-    ensures shown { first (length units.now) block.new ≡ map letter_of_unit units.now }
+    ensures shown { result ≡ true → units.now ≡ map coded (first (length units.now) block.new) }
 {
+    let mut all = 0;
+    let mut kinds = 0;
     for index in 0..units.len() {
-        block[index] = letter_in(units[index]);
+        let (bits, kind) = units[index].bits();
+        all |= bits;
+        kinds |= kind;
+        block[index] = (bits % 256) as u8;
     }
+    kinds == 0 && all < 256
 }
 
 /// The first units hold from now on so many codes of a block.
 #[inline(always)]
-fn keep_all(block: &[u8], count: usize, units: &mut [Cell])
+fn keep_all(block: &[u8], count: usize, units: &mut [Slot])
     requires block { count ≤ length block.now }
     requires units { count ≤ length units.old }
     ensures { units.new ≡ map coded (first count block.now) ++ drop count units.old }
 {
     for index in 0..count {
-        units[index] = cell_with(block[index]);
+        units[index] = slot_with(block[index]);
     }
 }
 
 /// The characters of the first of these units go out by edits with nothing between them, as many as have room, where all of them
 /// are characters; else none. How many. The block is what they go through.
-fn put_units(units: &[Cell], plan: &Plan, flow: &mut Flow, block: &mut [u8]) -> usize
+fn put_units(units: &[Slot], plan: &Plan, flow: &mut Flow, block: &mut [u8]) -> usize
     requires few { length units.now ≤ length block.old }
     requires way { flow.old.stand.way ≡ Writing }
     ensures way { flow.new.stand.way ≡ Writing }
@@ -81,13 +71,15 @@ fn put_units(units: &[Cell], plan: &Plan, flow: &mut Flow, block: &mut [u8]) -> 
     ensures within { result ≤ length units.now }
     ensures letters { (cs : List ℕ) × All IsLetter cs × (first result units.now ≡ map coded cs) × ((unread written : List Record) → SendsLetters cs (tape plan.now flow.old.stand unread written) (tape plan.now flow.new.stand unread written)) }
 {
-    show(units, block);
+    if !show(units, block) {
+        return 0;
+    }
     flow.put_letters(plan, &block[..units.len()])
 }
 
 /// The next characters of the record come into the first of these units by edits with nothing between them, where all of them
 /// are characters; else none. How many.
-fn take_units(units: &mut [Cell], plan: &Plan, flow: &mut Flow, block: &mut [u8]) -> usize
+fn take_units(units: &mut [Slot], plan: &Plan, flow: &mut Flow, block: &mut [u8]) -> usize
     requires few { length units.old ≤ length block.old }
     requires way { flow.old.stand.way ≡ Reading }
     ensures way { flow.new.stand.way ≡ Reading }
@@ -136,7 +128,7 @@ fn letters(
     index: u64,
     count: u64,
     plan: &Plan,
-    cells: &mut [Cell],
+    cells: &mut [Slot],
     flow: &mut Flow,
     block: &mut [u8],
 ) -> u64
@@ -173,7 +165,7 @@ pub(crate) fn units_at_once(
     index: u64,
     count: u64,
     plan: &Plan,
-    cells: &mut [Cell],
+    cells: &mut [Slot],
     flow: &mut Flow,
     block: &mut [u8],
 ) -> u64

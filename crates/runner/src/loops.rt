@@ -13,6 +13,7 @@ ghost use Rattle.runner.specs.declared.words.Word.{Word as TheWord};
 ghost use Rattle.runner.specs.Work.{MayHold, Holds, LeapsOver, IsRoomFor, IsRoomBehind, IsWayOf, fits, next_in};
 
 use crate::places::{cell_at, keep, unit_of};
+use crate::slots::Slot;
 use crate::words::{Cell, Word, two_at, word_at};
 use ground::Trap;
 
@@ -31,7 +32,7 @@ pub(crate) fn loop_start(
     step: u32,
     stack: &[Word],
     top: usize,
-    cells: &mut [Cell],
+    cells: &mut [Slot],
 ) -> Result<usize, Trap>
     requires limit { limit < length cells.old }
     requires step { step < length cells.old }
@@ -119,7 +120,7 @@ pub(crate) fn loop_turn(
     pc: usize,
     stack: &[Word],
     top: usize,
-    cells: &mut [Cell],
+    cells: &mut [Slot],
 ) -> Result<(usize, usize), Trap>
     requires limit { limit < length cells.old }
     requires step { step < length cells.old }
@@ -164,7 +165,7 @@ pub(crate) fn variable_turn(
     to: u32,
     pc: usize,
     top: usize,
-    cells: &mut [Cell],
+    cells: &mut [Slot],
 ) -> Result<(usize, usize), Trap>
     requires unit { first < length cells.old }
     requires limit { limit < length cells.old }

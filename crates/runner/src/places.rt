@@ -9,16 +9,17 @@ ghost use Rattle.stack_code.specs.StackMachine.{Spot, Val, At, unit_of as unit_i
 ghost use Rattle.runner.specs.Words.{Shows, IsMade, IsSmall, Agrees, content_of, spot_word};
 ghost use Rattle.runner.specs.Work.{MayHold, Holds, IsRoomFor};
 
+use crate::slots::Slot;
 use crate::words::{Cell, Word, is_true, push, truth, two_at, word_at};
 use ground::{Kind, Trap};
 
 /// What a unit holds.
 #[inline(always)]
-pub(crate) fn cell_at(cells: &[Cell], unit: usize) -> Cell
+pub(crate) fn cell_at(cells: &[Slot], unit: usize) -> Cell
     requires { unit < length cells.now }
     ensures { slice_get cells.now unit ≡ Some result }
 {
-    cells[unit]
+    cells[unit].cell()
 }
 
 /// The word of what a unit holds, where a content of a type is asked for.
@@ -69,16 +70,16 @@ fn truth_cell(word: Word) -> Cell
 
 /// A unit holds something else from now on.
 #[inline(always)]
-pub(crate) fn keep(cells: &mut [Cell], unit: usize, cell: Cell)
+pub(crate) fn keep(cells: &mut [Slot], unit: usize, cell: Cell)
     requires { unit < length cells.old }
     ensures { (st : TheStore) → Agrees cells.old st → IsSmall (content_of cell) → Agrees cells.new (put_in unit (content_of cell) st) }
 {
-    cells[unit] = cell;
+    cells[unit] = Slot::new(cell);
 }
 
 /// A unit holds what a word stands for from now on. Each kind is written apart, which takes fewer instructions.
 #[inline(always)]
-fn keep_word(cells: &mut [Cell], unit: usize, word: Word)
+fn keep_word(cells: &mut [Slot], unit: usize, word: Word)
     requires { unit < length cells.old }
     ensures { (v : Content) → Shows (Val v) word → (st : TheStore) → Agrees cells.old st → Agrees cells.new (put_in unit v st) }
 {
@@ -95,7 +96,7 @@ pub(crate) fn load(
     kind: Kind,
     stack: &mut [Word],
     top: usize,
-    cells: &[Cell],
+    cells: &[Slot],
 ) -> Result<usize, Trap>
     requires { MayHold (Load kind) stack.old top cells.now }
     ensures works { Holds (Load kind) stack.old top cells.now stack.new cells.now result }
@@ -119,7 +120,7 @@ pub(crate) fn variable(
     first: u32,
     stack: &mut [Word],
     top: usize,
-    cells: &[Cell],
+    cells: &[Slot],
 ) -> Result<usize, Trap>
     requires unit { first < length cells.now }
     requires room { top < length stack.old }
@@ -137,7 +138,7 @@ pub(crate) fn variable(
 
 /// A value and a spot are popped, and the value is stored there.
 #[inline(always)]
-pub(crate) fn store(stack: &[Word], top: usize, cells: &mut [Cell]) -> Result<usize, Trap>
+pub(crate) fn store(stack: &[Word], top: usize, cells: &mut [Slot]) -> Result<usize, Trap>
     requires { MayHold Store stack.now top cells.old }
     ensures works { Holds Store stack.now top cells.old stack.now cells.new result }
     ensures room { IsRoomFor stack.now result }
@@ -152,7 +153,7 @@ pub(crate) fn store(stack: &[Word], top: usize, cells: &mut [Cell]) -> Result<us
 
 /// A spot is popped, and its unit holds nothing from now on.
 #[inline(always)]
-pub(crate) fn forget(stack: &[Word], top: usize, cells: &mut [Cell]) -> Result<usize, Trap>
+pub(crate) fn forget(stack: &[Word], top: usize, cells: &mut [Slot]) -> Result<usize, Trap>
     requires { MayHold Forget stack.now top cells.old }
     ensures works { Holds Forget stack.now top cells.old stack.now cells.new result }
     ensures room { IsRoomFor stack.now result }
@@ -167,7 +168,7 @@ pub(crate) fn forget(stack: &[Word], top: usize, cells: &mut [Cell]) -> Result<u
 
 /// A value is popped into a unit, and the unit's spot, which is fixed, is pushed.
 #[inline(always)]
-pub(crate) fn lend(unit: u32, stack: &mut [Word], top: usize, cells: &mut [Cell]) -> usize
+pub(crate) fn lend(unit: u32, stack: &mut [Word], top: usize, cells: &mut [Slot]) -> usize
     requires unit { unit < length cells.old }
     requires few { length cells.old < 2 ^ 31 }
     requires hold { MayHold (Lend unit) stack.old top cells.old }

@@ -16,7 +16,8 @@ ghost use Rattle.runner.specs.declared.run.Role.TheVariants.{Records as records}
 use crate::elements::extent_of;
 use crate::items::item;
 use crate::rows::row;
-use crate::words::{Cell, Word, word_at};
+use crate::slots::Slot;
+use crate::words::{Word, word_at};
 use f66_tree::Way;
 use format_io::Plan;
 use ground::{Kind, Trap};
@@ -75,7 +76,7 @@ fn item_at<S: Source, K: Sink>(
     plan: usize,
     stack: &[Word],
     top: usize,
-    cells: &mut [Cell],
+    cells: &mut [Slot],
     flow: &mut Flow,
     input: &mut S,
     out: &mut K,
@@ -102,7 +103,7 @@ fn row_at<S: Source, K: Sink>(
     plan: usize,
     stack: &[Word],
     top: usize,
-    cells: &mut [Cell],
+    cells: &mut [Slot],
     flow: &mut Flow,
     input: &mut S,
     out: &mut K,
@@ -135,7 +136,7 @@ pub(crate) fn record_step<S: Source, K: Sink>(
     plan: usize,
     stack: &mut [Word],
     top: usize,
-    cells: &mut [Cell],
+    cells: &mut [Slot],
     flow: &mut Flow,
     input: &mut S,
     out: &mut K,
@@ -147,13 +148,13 @@ pub(crate) fn record_step<S: Source, K: Sink>(
     ensures units { length cells.new ≡ length cells.old }
     ensures room { IsRoomOver stack.new result }
 {
-    match op {
-        Op::WriteStart(number) => start(Way::Writing, *number, stack, top, flow, input),
-        Op::ReadStart(number) => start(Way::Reading, *number, stack, top, flow, input),
-        Op::Finish => match flow.close(&plans[plan], input, out) {
-            Ok(()) => Ok((top, plan)),
-            Err(stop) => Err(stop),
-        },
+    let next = match op {
+        Op::WriteStart(number) => start(Way::Writing, *number, stack, top, flow, input)?,
+        Op::ReadStart(number) => start(Way::Reading, *number, stack, top, flow, input)?,
+        Op::Finish => {
+            flow.close(&plans[plan], input, out)?;
+            (top, plan)
+        }
         Op::PutItem(kind) => item_at(
             Way::Writing,
             *kind,
@@ -165,7 +166,7 @@ pub(crate) fn record_step<S: Source, K: Sink>(
             flow,
             input,
             out,
-        ),
+        )?,
         Op::TakeItem(kind) => item_at(
             Way::Reading,
             *kind,
@@ -177,7 +178,7 @@ pub(crate) fn record_step<S: Source, K: Sink>(
             flow,
             input,
             out,
-        ),
+        )?,
         Op::PutRow(kind, count) => row_at(
             Way::Writing,
             *kind,
@@ -190,7 +191,7 @@ pub(crate) fn record_step<S: Source, K: Sink>(
             flow,
             input,
             out,
-        ),
+        )?,
         Op::TakeRow(kind, count) => row_at(
             Way::Reading,
             *kind,
@@ -203,7 +204,8 @@ pub(crate) fn record_step<S: Source, K: Sink>(
             flow,
             input,
             out,
-        ),
+        )?,
         _ => unreachable!(),
-    }
+    };
+    Ok(next)
 }

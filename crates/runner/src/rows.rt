@@ -8,7 +8,8 @@ ghost use Rattle.runner.specs.Exchanges.{IsSpot, IsExchange};
 use crate::elements::shifted;
 use crate::items::item;
 use crate::letters::units_at_once;
-use crate::words::{Cell, Word};
+use crate::slots::Slot;
+use crate::words::Word;
 use f66_tree::Way;
 use format_io::Plan;
 use ground::{Kind, Trap};
@@ -25,7 +26,7 @@ pub(crate) fn row<S: Source, K: Sink>(
     word: Word,
     count: u64,
     plan: &Plan,
-    cells: &mut [Cell],
+    cells: &mut [Slot],
     flow: &mut Flow,
     input: &mut S,
     out: &mut K,

@@ -17,9 +17,10 @@ use crate::intrinsics::known;
 use crate::loops::{loop_start, loop_turn, variable_turn};
 use crate::places::{forget, lend, load, store, variable};
 use crate::records::record_step;
+use crate::slots::Slot;
 use crate::subscripts::{Subscripts, element_by_one, element_by_two, subscript, subscripts_behind};
 use crate::values::{arithmetic, both, minus, not, push_integer, push_spot, push_truth};
-use crate::words::{Cell, Word};
+use crate::words::Word;
 use f66_tree::Operator;
 use ground::{Kind, Place, Trap};
 use ports::{Sink, Source};
@@ -202,7 +203,7 @@ fn work(op: &Op, stack: &mut [Word], top: usize) -> Result<usize, Trap>
 
 /// An instruction that works on the stack and the store.
 #[inline(always)]
-fn hold(op: &Op, stack: &mut [Word], top: usize, cells: &mut [Cell]) -> Result<usize, Trap>
+fn hold(op: &Op, stack: &mut [Word], top: usize, cells: &mut [Slot]) -> Result<usize, Trap>
     requires role { role_for (instruction_of op.now) ≡ holds }
     requires ranges { HasUnits (instruction_of op.now) (length cells.old) }
     requires few { length cells.old < 2 ^ 31 }
@@ -256,7 +257,7 @@ pub(crate) fn run_code<S: Source, K: Sink>(
     input: &mut S,
     out: &mut K,
     stack: &mut [Word],
-    cells: &mut [Cell],
+    cells: &mut [Slot],
     spots: &mut [Word],
     resumes: &mut [Resume],
     steps: u64,

@@ -5,6 +5,7 @@ ghost use Rattle.runner.specs.Runners.{IsFresh, MayRun, IsRun, AreEmpty};
 
 use crate::frames::Resume;
 use crate::run::{End, run_code};
+use crate::slots::Slot;
 use crate::words::{Cell, Word};
 use ground::Memory;
 use ports::{Sink, Source};
@@ -17,7 +18,7 @@ use std::alloc::{AllocError, Global};
 pub struct Runner {
     code: Code,
     stack: Vec<Word>,
-    cells: Vec<Cell>,
+    cells: Vec<Slot>,
     spots: Vec<Word>,
     resumes: Vec<Resume>,
     flow: Flow,
@@ -93,12 +94,12 @@ impl Runner {
     }
 }
 
-fn empty_cells(alloc: Global, units: u32) -> Result<Vec<Cell>, AllocError>
+fn empty_cells(alloc: Global, units: u32) -> Result<Vec<Slot>, AllocError>
     ensures { IfOk result (λ v. AreEmpty v.items units) }
 {
     let mut cells = Vec::new(alloc);
     for made in 0..units {
-        cells.push(Cell::Nothing)?;
+        cells.push(Slot::new(Cell::Nothing))?;
     }
     Ok(cells)
 }

@@ -12,7 +12,8 @@ ghost use Rattle.runner.specs.Subscripted.{IsVariable, AreSubscripts, IsRead, Is
 use crate::elements::spot_on;
 use crate::places::{cell_at, shown};
 use crate::run::is_load;
-use crate::words::{Cell, Word, push, whole};
+use crate::slots::Slot;
+use crate::words::{Word, push, whole};
 use ground::{Kind, Trap};
 use stack_code::Op;
 
@@ -140,7 +141,7 @@ pub(crate) fn subscripts_behind(
 
 /// The integer of a variable's first unit: what a load does where the variable's spot lies on the stack, and neither is written there.
 #[inline(always)]
-pub(crate) fn subscript(unit: u32, cells: &[Cell]) -> Result<Word, Trap>
+pub(crate) fn subscript(unit: u32, cells: &[Slot]) -> Result<Word, Trap>
     requires { unit < length cells.now }
     ensures { IsRead unit cells.now result }
 {

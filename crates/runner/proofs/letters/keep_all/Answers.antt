@@ -7,5 +7,5 @@ pub loop-index-preserved : goal.loop-index-preserved
 loop-index-preserved c =
     let inside : c.loop-index.index < length c.args.block.now = (let few = c.requires.block in omega (arith, few, c.loop-index-test.true)) in
     let fits : c.loop-index.index < length c.args.units.now = (let few = c.requires.units in omega (arith, few, c.loop-index-test.true)) in
-    ap (λ v. set c.loop-index.units c.loop-index.index v) c.cell_with.ensures
+    ap (λ v. set c.loop-index.units c.loop-index.index v) c.slot_with.ensures
     ∙ kept_more c.args.block.now c.loop-index.index c.loop-index.units c.args.units.now c.loop-index.invariant inside fits

@@ -7,6 +7,6 @@ pub returns-clause-letters : goal.returns-clause-letters
 returns-clause-letters c = (
   take c.put_letters.result (take (length c.args.units.now) c.show.new.block),
   c.put_letters.ensures.letters,
-  codes_went c.args.units.now c.show.new.block c.put_letters.result c.show.ensures.shown c.put_letters.ensures.letters,
+  codes_went c.args.units.now (take (length c.args.units.now) c.show.new.block) c.put_letters.result (c.show.ensures.shown c.if-not-show.false),
   c.put_letters.ensures.sent,
 )
