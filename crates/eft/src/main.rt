@@ -10,6 +10,10 @@ use std::{env, io};
 // How many bytes of records go out at once where neither input nor output is a terminal, on which each goes out by itself.
 const BLOCK: usize = 65_536;
 
+// How many bytes the lines for standard error have room for from the beginning, so that none is lost for want of memory: a file's name
+// has at most 4,096.
+const LINES: usize = 8_192;
+
 fn main(rt: HostRuntime) -> ExitCode {
     let mut told = Vec::new(rt.alloc());
     let status = match run(&rt, &mut told) {
@@ -25,6 +29,7 @@ fn main(rt: HostRuntime) -> ExitCode {
 
 // What the words ask for. Its records go to standard output, and the lines for standard error to a list; an error is want of memory.
 fn run(rt: &HostRuntime, told: &mut Vec<u8>) -> io::Result<Status> {
+    told.reserve(LINES)?;
     let words = words(rt)?;
     let room = if rt.stdin().is_terminal() || rt.stdout().is_terminal() {
         0
