@@ -68,7 +68,7 @@ module _ {Token T N P V : Type 0} (g : Grammar Token T N P V) (predict : N → T
       let x = come past in
       unfinished g predict f rest x.0 s (behind g f) c all awaits (subst (λ hs. Continues g predict hs x.0 [] c all) old (x.1.to c all h))
 
-  stands_first : Stands g predict [] (opened g.start ∷ []) (Open g.start ∷ [])
+  pub stands_first : Stands g predict [] (opened g.start ∷ []) (Open g.start ∷ [])
   stands_first = record {
     to = λ more c all h. (h.0, [], h.1, (h.2, h.3, refl));
     from = λ more c all h. (h.0, subst (λ r. GoesAll g predict h.0 (g.symbols g.start) more r) h.3.2 h.2, h.3.0, h.3.1);
@@ -174,10 +174,10 @@ pub record Reached {Token T N P V M : Type 0} (g : Grammar Token T N P V) (predi
   pub none_passed : first_passing meter past ≡ None
 
 module _ {Token T N P V M : Type 0} (g : Grammar Token T N P V) (c : Certificate Token T N P) (meter : Meter T P M) (sound : IsSound g c) where
-  guided_of : (ts : List Token) → (parse : Parse g ts) → IsGuided g c.predict ts (result_of g parse) (history_of g parse)
+  pub guided_of : (ts : List Token) → (parse : Parse g ts) → IsGuided g c.predict ts (result_of g parse) (history_of g parse)
   guided_of ts parse = guided_parse g c.predict (sets_of c) (ll1 g c sound) ts parse
 
-  parsed : (ts : List Token) → (v : V) → (all : List (Event T P)) → IsGuided g c.predict ts v all → IsProgram g ts v
+  pub parsed : (ts : List Token) → (v : V) → (all : List (Event T P)) → IsGuided g c.predict ts v all → IsProgram g ts v
   parsed ts v all h = let p = parse_of g c.predict (ll1 g c sound).offered ts v all h in (p.0, p.1)
 
   begins : (ts : List Token) → (fs : List (Item P V)) → (past : List (Event T P)) → Stands g c.predict ts fs past → Begins g ts

@@ -10,7 +10,7 @@ use Rattle.grammar.specs.Lookahead.{GoesAll}
 use Rattle.grammar.specs.Descent.{Item, opened, with_value, left, whole, Receives, Continues, Same}
 
 -- the list behind the first of what is left
-drop_next : {A : Type 0} → (n : ℕ) → (xs : List A) → (x : A) → (ys : List A) → drop n xs ≡ x ∷ ys → drop (suc n) xs ≡ ys
+pub drop_next : {A : Type 0} → (n : ℕ) → (xs : List A) → (x : A) → (ys : List A) → drop n xs ≡ x ∷ ys → drop (suc n) xs ≡ ys
 drop_next zero [] x ys e = cc
 drop_next zero (y ∷ xs) x ys e = cc
 drop_next (suc n) [] x ys e = cc

@@ -16,8 +16,9 @@ pub use value::{
     TransferValue, UnitValue, Value,
 };
 pub use words::{
-    count_of, count_or_one_of, integer_of, into_name, into_name_if_any, into_text, is_minus,
-    is_true, is_word, letter_of, number_of, octal_if_any_of, operator_of, place_of, sign_of,
+    capped_count, capped_label, count_of, count_or_one_of, integer_of, integer_of_kind, into_name,
+    into_name_if_any, into_text, is_minus, is_true, is_word, kind_is, letter_of, name_of_kind,
+    number_of, octal_if_any_of, octal_of_kind, operator_of, place_of, sign_of, sign_of_kind,
     take_count, take_count_or_one, take_integer, take_number, take_octal, take_place, take_sign,
     type_of,
 };

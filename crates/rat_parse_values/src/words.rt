@@ -38,7 +38,8 @@ pub fn into_name(alloc: Global, part: Value) -> Name
     }
 }
 
-fn name_of_kind(alloc: Global, kind: TokenKind) -> Name
+/// The name that a token is, in capitals.
+pub fn name_of_kind(alloc: Global, kind: TokenKind) -> Name
     ensures { result ≡ kind_name kind }
 {
     match kind {
@@ -110,7 +111,8 @@ pub fn integer_of(part: &Value) -> i64
     }
 }
 
-fn integer_of_kind(kind: &TokenKind) -> i64
+/// The number that a token is.
+pub fn integer_of_kind(kind: &TokenKind) -> i64
     ensures { result ≡ kind_integer kind.now }
 {
     match kind {
@@ -119,7 +121,8 @@ fn integer_of_kind(kind: &TokenKind) -> i64
     }
 }
 
-fn capped_label(number: i64) -> u32
+/// A number as a label, at most 4,294,967,295.
+pub fn capped_label(number: i64) -> u32
     ensures { result ≡ capped 4294967295 number }
 {
     if number < 0 {
@@ -131,7 +134,8 @@ fn capped_label(number: i64) -> u32
     }
 }
 
-fn capped_count(number: i64) -> u16
+/// A number as a count of a format, at most 65,535.
+pub fn capped_count(number: i64) -> u16
     ensures { result ≡ capped 65535 number }
 {
     if number < 0 {
@@ -197,7 +201,8 @@ pub fn octal_if_any_of(part: &Value) -> Option<u16>
     }
 }
 
-fn octal_of_kind(kind: &TokenKind) -> u16
+/// The number of a STOP, whose digits are read as octal ones.
+pub fn octal_of_kind(kind: &TokenKind) -> u16
     ensures { result ≡ octal (capped 77777 (kind_integer kind.now)) }
 {
     octal_value(capped_octal(integer_of_kind(kind)))
@@ -212,7 +217,8 @@ pub fn sign_of(part: &Value) -> Sign
     }
 }
 
-fn sign_of_kind(kind: &TokenKind) -> Sign
+/// The sign that a token is.
+pub fn sign_of_kind(kind: &TokenKind) -> Sign
     ensures { result ≡ kind_sign kind.now }
 {
     match kind {
@@ -263,7 +269,8 @@ pub fn is_word(spelling: &[u8], part: &Value) -> bool
     }
 }
 
-fn kind_is(spelling: &[u8], kind: &TokenKind) -> bool
+/// Whether a token is this word in capitals, in whatever case.
+pub fn kind_is(spelling: &[u8], kind: &TokenKind) -> bool
     ensures { result ≡ spells spelling.now (kind_word kind.now) }
 {
     match kind {
