@@ -1,0 +1,4 @@
+-- The lemmas of descent.
+pub mod PassageLemmas
+pub mod ReadingLemmas
+pub mod WholeLemmas

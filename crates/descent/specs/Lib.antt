@@ -1,0 +1,3 @@
+-- The definitions that the contracts of descent cite.
+pub mod Passages
+pub mod Reading

@@ -1,0 +1,6 @@
+//! Reading by recursive descent: what functions of a language read of a text, as the parsing machine reads it.
+#![tactic(auto)]
+
+mod reader;
+
+pub use reader::{GiveUp, Reader, begin, close, last, open, take};
