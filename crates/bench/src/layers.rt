@@ -8,7 +8,7 @@ use front::{Made, Translated, translate_text};
 use ground::{Dialect, Fault};
 use macro_define::{Gathered, TextRefusal, gather};
 use ports::FileLibrary;
-use rat_parse::parse;
+use rat_descent::parse;
 use std::fs;
 
 /// The tokens of the file alone.

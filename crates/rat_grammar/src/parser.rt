@@ -14,5 +14,5 @@ pub fn parse(alloc: Global, tokens: &List<Token>) -> Result<RatProgram, Refusal>
     requires { EndsText tokens.now.items }
     ensures { Answers tokens.now.items result }
 {
-    rat_parse::parse(alloc, tokens)
+    rat_descent::parse(alloc, tokens)
 }

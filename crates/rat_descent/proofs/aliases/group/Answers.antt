@@ -1,0 +1,23 @@
+-- Why `group` reads its nonterminal.
+use Rattle.std.proofs.Common.{refl, sym, ap, ◌∙◌, map}
+use Rattle.f66_tree.specs.Views.{formula_of}
+use Rattle.rat_parse_table.specs.declared.table.Production.TheVariants as productions
+use Rattle.rat_parse_values.specs.Values.{formulas}
+use Rattle.rat_parse_values.specs.Parts.{as_exprs}
+use Rattle.descent.specs.Reading.{done, next}
+use Rattle.rat_descent.proofs.Productions.{production, otherwise, as_value, lengthens_nothing, lengthens_more, viewed_more}
+use Rattle.rat_descent.proofs.ListItems.{behind_two}
+use Rattle.rat_descent.proofs.aliases.group.Goals as goal
+
+pub returns-then-not-is_at : goal.returns-then-not-is_at
+returns-then-not-is_at c =
+    let rest = c.more.invariant (map formula_of c.more.list.items) c.more.reader
+    (lengthens_nothing productions.NoMoreRef as_exprs refl refl refl (otherwise _ _ _ (sym c.is_at.ensures ∙ c.if-not-is_at.true))) in
+    as_value (ap formulas (behind_two formula_of c.in_ok-reference.field-0.1 c.in_ok-reference-2.field-0.1 c.new-list.ensures.items c.in_ok-push.ensures.items c.in_ok-push-2.ensures.items rest.is))
+    (production productions.Alias refl refl refl refl (next c.in_ok-take_token.ensures (next c.in_ok-reference.ensures (next c.in_ok-take_token-2.ensures (next c.in_ok-reference-2.ensures (next rest.reads (next c.in_ok-take_token-3.ensures done)))))))
+
+pub more-preserved : goal.more-preserved
+more-preserved c = λ all s more. c.more.invariant all s
+    (lengthens_more as_exprs (map formula_of c.more.list.items) {v = more.value}
+    (production productions.MoreRef refl refl refl refl (next c.in_ok-take_token-4.ensures (next c.in_ok-reference-3.ensures (next more.reads done))))
+    refl (viewed_more formula_of c.more.list.items c.in_ok-reference-3.field-0.1 c.in_ok-push-3.ensures.items) more.is)

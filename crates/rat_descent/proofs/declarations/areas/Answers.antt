@@ -1,0 +1,28 @@
+-- Why `areas` reads the areas of a COMMON.
+use Rattle.std.proofs.Common.{refl, sym, ◌∙◌, map}
+use Rattle.f66_tree.specs.Views.{area_of}
+use Rattle.rat_parse_table.specs.declared.table.Production.TheVariants as productions
+use Rattle.rat_parse_values.specs.Parts.{as_areas}
+use Rattle.descent.specs.Reading.{done, next}
+use Rattle.rat_descent.proofs.Productions.{production, otherwise, lengthens_nothing, lengthens_more, viewed_more}
+use Rattle.rat_descent.proofs.ListItems.{behind_first}
+use Rattle.rat_descent.proofs.declarations.areas.Goals as goal
+
+pub returns-then-not-is_at : goal.returns-then-not-is_at
+returns-then-not-is_at c =
+    let rest = c.more.invariant (map area_of c.more.list.items) c.more.reader
+    (lengthens_nothing productions.NoMoreArea as_areas refl refl refl (otherwise _ _ _ (sym c.is_at.ensures ∙ c.if-not-is_at.true))) in
+    record {
+      first = _;
+      others = _;
+      middle = _;
+      reads_first = c.in_ok-first_area.ensures;
+      reads_others = rest.reads;
+      is = behind_first area_of c.in_ok-first_area.field-0 c.new-list.ensures.items c.in_ok-push.ensures.items rest.is;
+    }
+
+pub more-preserved : goal.more-preserved
+more-preserved c = λ all s more. c.more.invariant all s
+    (lengthens_more as_areas (map area_of c.more.list.items) {v = more.value}
+    (production productions.MoreArea refl refl refl refl (next c.in_ok-area.ensures (next more.reads done)))
+    refl (viewed_more area_of c.more.list.items c.in_ok-area.field-0 c.in_ok-push-2.ensures.items) more.is)

@@ -1,0 +1,10 @@
+-- What reads the part behind line ends reads it with them.
+use Rattle.grammar.specs.declared.language.Symbol.TheVariants.{Nonterminal as nonterminal_symbol}
+use Rattle.rat_parse_table.specs.declared.table.Nonterminal.TheVariants as nonterminals
+use Rattle.rat_parse_values.specs.Values.{Val}
+use Rattle.rat_descent.specs.Reading.{Reader, Reads}
+use Rattle.rat_descent.proofs.statements.until_part.Given as goal
+
+abbrev pub invariant-more : goal.invariant-more
+invariant-more l =
+    (v : Val) (s : Reader) → Reads (nonterminal_symbol nonterminals.UntilPart) l.reader v s → Reads (nonterminal_symbol nonterminals.UntilPart) l.initial.reader v s
