@@ -127,7 +127,7 @@ fn finish(lines: &mut Vec<Line>, draft: Option<Draft>) -> Result<(), AllocError>
     if let Some(draft) = draft {
         lines.push(Line {
             label: draft.label,
-            text: Text::new(draft.text),
+            text: Text::new(draft.text)?,
             place: place_at(draft.number),
             last: false,
         })?;
@@ -135,12 +135,12 @@ fn finish(lines: &mut Vec<Line>, draft: Option<Draft>) -> Result<(), AllocError>
     Ok(())
 }
 
-fn add_end(alloc: Global, lines: &mut Vec<Line>, number: u32) -> Result<(), AllocError>
+fn add_end(lines: &mut Vec<Line>, number: u32) -> Result<(), AllocError>
     ensures { OnOk result (card_lines_of lines.new.items ≡ card_lines_of lines.old.items ++ end_line_at number ∷ []) }
 {
     lines.push(Line {
         label: None,
-        text: Text::new(Vec::new(alloc)),
+        text: Text::empty(),
         place: place_at(number),
         last: true,
     })?;
@@ -176,7 +176,7 @@ fn take_card(
         CardKind::Ending => {
             let counts = within_limits(counts.after_end(), number)?;
             finish(lines, draft)?;
-            add_end(alloc, lines, number)?;
+            add_end(lines, number)?;
             Ok((None, counts))
         }
         CardKind::Initial(label) => {

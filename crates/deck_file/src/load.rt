@@ -51,8 +51,8 @@ fn named(alloc: Global, name: &str, refusal: Refusal) -> TextRefusal
     ensures { IsNamed name.now refusal result }
 {
     match refusal {
-        Refusal::Fault(fault) => match Vec::from_slice(alloc, name.as_bytes()) {
-            Ok(name) => TextRefusal::Fault(fault, Text::new(name)),
+        Refusal::Fault(fault) => match Text::from_slice(alloc, name.as_bytes()) {
+            Ok(name) => TextRefusal::Fault(fault, name),
             Err(_) => TextRefusal::Memory,
         },
         Refusal::Memory => TextRefusal::Memory,

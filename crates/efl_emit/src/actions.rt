@@ -59,7 +59,7 @@ fn emit_invoke(
     ensures { OnOk result (Emitted (made_of naming.now) (act_of naming.now place (InvokeOf procedure (exprs_of list.now)) number) (emission_of out.old) (emission_of out.new)) }
 {
     let actuals = emit_actuals(out, naming, place, list, number)?;
-    let name = naming.callee(out.alloc(), procedure)?;
+    let name = naming.callee(procedure)?;
     out.put(place, StmtKind::Invoke(name, actuals.list))
 }
 
@@ -141,7 +141,7 @@ pub fn emit_where(
     ensures { OnOk result (LeavesOne (made_of naming.now) (where_routes naming.now place (expr_of e.now) number) label (emission_of out.old) (emission_of out.new)) }
 {
     let value = emit_expression(out, naming, place, e, number)?;
-    let test = operand_expr(out.alloc(), value.operand)?;
+    let test = operand_expr(value.operand)?;
     put_choice(out, place, test, label)
 }
 
@@ -173,7 +173,7 @@ fn emit_given(
 {
     let value = emit_expression(out, naming, place, e, number)?;
     let name = naming.own()?;
-    let given = operand_expr(out.alloc(), value.operand)?;
+    let given = operand_expr(value.operand)?;
     out.put(place, StmtKind::Assign(Expr::Ref(name), given))?;
     out.put(place, StmtKind::Return)
 }

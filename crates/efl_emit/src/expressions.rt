@@ -164,7 +164,7 @@ fn emit_step(
 ) -> Result<Evaluated, AllocError>
     ensures { IfOk result (λ r. IsStepped naming.now place operator (site_of x) number r (emission_of out.old) (emission_of out.new)) }
 {
-    let name = naming.home(out.alloc(), x.variable)?;
+    let name = naming.home(x.variable)?;
     let old = set_temporary(out, place, Kind::Integer, number, Expr::Ref(name))?;
     let value = operand_pair(out.alloc(), operator, old.operand, Operand::Int(1))?;
     let new = set_temporary(out, place, Kind::Integer, old.next, value)?;
@@ -290,7 +290,7 @@ fn emit_sequential(
     ensures { IfOk result (λ r. IsCombined naming.now place (op_of op) (operand_of left) (expr_of right.now) number r (emission_of out.old) (emission_of out.new)) }
 {
     let target = plus(number, made(right)?)?;
-    let value = operand_expr(out.alloc(), left)?;
+    let value = operand_expr(left)?;
     let first = set_temporary(out, place, Kind::Logical, target, value)?;
     let label = out.fresh_label(naming)?;
     let test = decided(out.alloc(), op, first.operand)?;
@@ -312,7 +312,7 @@ fn emit_last(
     ensures { IfOk result (λ r. IsLast naming.now place (expr_of right.now) number r (emission_of out.old) (emission_of out.new)) }
 {
     let right = emit_expression(out, naming, place, right, number)?;
-    let value = operand_expr(out.alloc(), right.operand)?;
+    let value = operand_expr(right.operand)?;
     set_temporary(out, place, Kind::Logical, right.next, value)
 }
 
@@ -321,7 +321,7 @@ fn decided(alloc: Global, op: TypedOp, value: Operand) -> Result<Expr, AllocErro
     ensures { IfOk result (λ e. formula_of e ≡ decided (op_of op) (operand_of value)) }
 {
     match op {
-        TypedOp::OrElse => operand_expr(alloc, value),
+        TypedOp::OrElse => operand_expr(value),
         TypedOp::AndThen | TypedOp::Plain(_) => operand_not(alloc, value),
     }
 }
@@ -342,7 +342,7 @@ fn emit_call(
     let actuals = emit_actuals(out, naming, place, list, number)?;
     let next = actuals.next;
     let list = or_one(actuals.list)?;
-    let name = naming.callee(out.alloc(), procedure)?;
+    let name = naming.callee(procedure)?;
     set_temporary(out, place, kind, next, Expr::Item(name, list))
 }
 
@@ -378,7 +378,7 @@ fn emit_all(
     for e in list {
         let value = emit_expression(out, naming, place, e, next)?;
         next = value.next;
-        values.push(operand_expr(out.alloc(), value.operand)?)?;
+        values.push(operand_expr(value.operand)?)?;
     }
     Ok(Arguments { list: values, next })
 }
@@ -420,7 +420,7 @@ fn emit_actual(
 {
     match place_in(e) {
         Some(x) => {
-            let name = naming.home(out.alloc(), x.variable)?;
+            let name = naming.home(x.variable)?;
             Ok((Expr::Ref(name), number))
         }
         None => {

@@ -46,7 +46,7 @@ fn with_room(
     }
     let so_far = set_group(out, place, intrinsic, number, group)?;
     let mut more = Vec::new(out.alloc());
-    more.push(operand_expr(out.alloc(), so_far.operand)?)?;
+    more.push(operand_expr(so_far.operand)?)?;
     Ok(more)
 }
 

@@ -24,7 +24,7 @@ pub fn set_temporary(
     ensures { IfOk result (λ r. IsSet place kind number (formula_of value) r (emission_of out.old) (emission_of out.new)) }
 {
     let next = plus(number, 1)?;
-    let name = temporary(out.alloc(), kind, number)?;
+    let name = temporary(kind, number);
     out.put(place, StmtKind::Assign(Expr::Ref(name), value))?;
     let operand = Operand::Temp(kind, number);
     Ok(Evaluated { operand, next })
@@ -40,7 +40,7 @@ pub fn load(
 ) -> Result<Evaluated, AllocError>
     ensures { IfOk result (λ r. IsSet place variable.kind number (place_formula naming.now (site_of variable)) r (emission_of out.old) (emission_of out.new)) }
 {
-    let name = naming.home(out.alloc(), variable.variable)?;
+    let name = naming.home(variable.variable)?;
     set_temporary(out, place, variable.kind, number, Expr::Ref(name))
 }
 
@@ -54,8 +54,8 @@ pub fn store(
 ) -> Result<(), AllocError>
     ensures { OnOk result (Puts (unlabelled_line place (Assign (Ref (home_of naming.now variable)) (operand_of operand))) (emission_of out.old) (emission_of out.new)) }
 {
-    let name = naming.home(out.alloc(), variable)?;
-    let value = operand_expr(out.alloc(), operand)?;
+    let name = naming.home(variable)?;
+    let value = operand_expr(operand)?;
     out.put(place, StmtKind::Assign(Expr::Ref(name), value))
 }
 

@@ -24,16 +24,16 @@ pub struct Naming<'a> {
 }
 
 impl<'a> Naming<'a> {
-    pub fn home(&self, alloc: Global, variable: usize) -> Result<Name, AllocError>
+    pub fn home(&self, variable: usize) -> Result<Name, AllocError>
         ensures { IfOk result (λ name. name ≡ home_of self.now variable) }
     {
-        name_at(alloc, &self.homes, variable)
+        name_at(&self.homes, variable)
     }
 
-    pub fn callee(&self, alloc: Global, procedure: usize) -> Result<Name, AllocError>
+    pub fn callee(&self, procedure: usize) -> Result<Name, AllocError>
         ensures { IfOk result (λ name. name ≡ callee_of self.now procedure) }
     {
-        name_at(alloc, &self.callees, procedure)
+        name_at(&self.callees, procedure)
     }
 
     pub fn own(&self) -> Result<Name, AllocError>
@@ -53,27 +53,29 @@ impl<'a> Naming<'a> {
 }
 
 // The name with this number, and the empty one past the last.
-fn name_at(alloc: Global, names: &[Name], number: usize) -> Result<Name, AllocError>
+fn name_at(names: &[Name], number: usize) -> Result<Name, AllocError>
     ensures { IfOk result (λ name. name ≡ name_at names.now number) }
 {
     match names.get(number) {
-        None => Ok(Name::new(Text::new(Vec::new(alloc)))),
+        None => Ok(Name::new(Text::empty())),
         Some(name) => name.copy(),
     }
 }
 
 /// The name of a temporary.
-pub fn temporary(alloc: Global, kind: Kind, number: usize) -> Result<Name, AllocError>
-    ensures { IfOk result (λ name. name ≡ temp_of kind number) }
+pub fn temporary(kind: Kind, number: usize) -> Name
+    ensures { result ≡ temp_of kind number }
 {
     let number = last_digits(kind, number);
-    let mut text = Vec::from_slice(alloc, b"Z00000".as_slice())?;
-    text[1] = digit(number, 10_000);
-    text[2] = digit(number, 1_000);
-    text[3] = digit(number, 100);
-    text[4] = digit(number, 10);
-    text[5] = digit(number, 1);
-    Ok(Name::new(Text::new(text)))
+    let text = [
+        b'Z',
+        digit(number, 10_000),
+        digit(number, 1_000),
+        digit(number, 100),
+        digit(number, 10),
+        digit(number, 1),
+    ];
+    Name::new(Text::short(&text))
 }
 
 // The last five digits of the number in a temporary's name.
@@ -112,5 +114,5 @@ pub fn intrinsic_name(alloc: Global, intrinsic: Intrinsic) -> Result<Name, Alloc
         Intrinsic::Max0 => b"MAX0".as_slice(),
         Intrinsic::Min0 => b"MIN0".as_slice(),
     };
-    Ok(Name::new(Text::new(Vec::from_slice(alloc, word)?)))
+    Ok(Name::new(Text::from_slice(alloc, word)?))
 }

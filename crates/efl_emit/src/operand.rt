@@ -25,13 +25,13 @@ pub struct Evaluated {
 }
 
 /// An operand as an expression of FORTRAN.
-pub fn operand_expr(alloc: Global, operand: Operand) -> Result<Expr, AllocError>
+pub fn operand_expr(operand: Operand) -> Result<Expr, AllocError>
     ensures { IfOk result (λ e. formula_of e ≡ operand_of operand) }
 {
     match operand {
         Operand::Int(value) => Ok(Expr::Int(value)),
         Operand::Truth(value) => Ok(Expr::Truth(value)),
-        Operand::Temp(kind, number) => Ok(Expr::Ref(temporary(alloc, kind, number)?)),
+        Operand::Temp(kind, number) => Ok(Expr::Ref(temporary(kind, number))),
     }
 }
 
@@ -39,7 +39,7 @@ pub fn operand_expr(alloc: Global, operand: Operand) -> Result<Expr, AllocError>
 pub fn boxed_operand(alloc: Global, operand: Operand) -> Result<Box<Expr>, AllocError>
     ensures { IfOk result (λ e. formula_of e.value ≡ operand_of operand) }
 {
-    Ok(Box::new(alloc, operand_expr(alloc, operand)?)?)
+    Ok(Box::new(alloc, operand_expr(operand)?)?)
 }
 
 /// Two operands with an operator between them.

@@ -49,7 +49,7 @@ fn put_write(
 ) -> Result<(), AllocError>
     ensures { OnOk result (Puts (unlabelled_line place (Write (unit_of unit) label (entries_of list.items))) (emission_of out.old) (emission_of out.new)) }
 {
-    let unit = operand_par(out.alloc(), unit)?;
+    let unit = operand_par(unit)?;
     out.put(place, StmtKind::Write(unit, label, list))
 }
 
@@ -63,18 +63,18 @@ fn put_read(
 ) -> Result<(), AllocError>
     ensures { OnOk result (Puts (unlabelled_line place (Read (unit_of unit) label (entries_of list.items))) (emission_of out.old) (emission_of out.new)) }
 {
-    let unit = operand_par(out.alloc(), unit)?;
+    let unit = operand_par(unit)?;
     out.put(place, StmtKind::Read(unit, label, list))
 }
 
 // The unit of a READ or WRITE.
-fn operand_par(alloc: Global, operand: Operand) -> Result<Par, AllocError>
+fn operand_par(operand: Operand) -> Result<Par, AllocError>
     ensures { IfOk result (λ par. par_of par ≡ unit_of operand) }
 {
     match operand {
         Operand::Int(value) => Ok(Par::Number(value)),
         Operand::Truth(_) => Ok(Par::Number(0)),
-        Operand::Temp(kind, number) => Ok(Par::Variable(temporary(alloc, kind, number)?)),
+        Operand::Temp(kind, number) => Ok(Par::Variable(temporary(kind, number))),
     }
 }
 
@@ -110,7 +110,7 @@ fn emit_item(
     match item {
         TypedWriteItem::Value(e, edit) => {
             let value = emit_value(out, naming, place, e, *edit, number)?;
-            list.push(Entry::Item(operand_expr(out.alloc(), value.operand)?))?;
+            list.push(Entry::Item(operand_expr(value.operand)?))?;
             Ok(value.next)
         }
         TypedWriteItem::Skip(_) | TypedWriteItem::Chars(_) => Ok(number),
@@ -129,7 +129,7 @@ fn emit_value(
     ensures { IfOk result (λ r. IsItem naming.now place (expr_of e.now) (edit_of edit) number r (emission_of out.old) (emission_of out.new)) }
 {
     let value = emit_expression(out, naming, place, e, number)?;
-    let whole = operand_expr(out.alloc(), value.operand)?;
+    let whole = operand_expr(value.operand)?;
     set_temporary(out, place, kind_by(edit), value.next, whole)
 }
 
@@ -232,14 +232,13 @@ fn read_entries(
     let mut list = Vec::new(alloc);
     let mut next = number;
     for item in items {
-        next = read_entry(alloc, *item, &mut list, next)?;
+        next = read_entry(*item, &mut list, next)?;
     }
     Ok(list)
 }
 
 // The temporary of one item of a `read`, and the number of the next one.
 fn read_entry(
-    alloc: Global,
     item: TypedReadItem,
     list: &mut List<Entry>,
     number: usize,
@@ -249,7 +248,7 @@ fn read_entry(
     match item {
         TypedReadItem::Take(_, edit) => {
             let next = plus(number, 1)?;
-            let name = temporary(alloc, kind_by(edit), number)?;
+            let name = temporary(kind_by(edit), number);
             list.push(Entry::Item(Expr::Ref(name)))?;
             Ok(next)
         }

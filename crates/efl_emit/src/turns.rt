@@ -96,7 +96,7 @@ fn emit_limit(
 ) -> Result<(), AllocError>
     ensures { OnOk result (LeavesOne (made_of naming.now) (limit_of naming.now place variable (operand_of limit) number) label (emission_of out.old) (emission_of out.new)) }
 {
-    let name = naming.home(out.alloc(), variable)?;
+    let name = naming.home(variable)?;
     let value = set_temporary(out, place, Kind::Integer, number, Expr::Ref(name))?;
     let test = operand_pair(out.alloc(), Operator::Le, value.operand, limit)?;
     let within = set_temporary(out, place, Kind::Logical, value.next, test)?;
@@ -115,7 +115,7 @@ fn emit_step(
 ) -> Result<(), AllocError>
     ensures { OnOk result (Emitted (made_of naming.now) (step_of naming.now place variable (operand_of by) number) (emission_of out.old) (emission_of out.new)) }
 {
-    let name = naming.home(out.alloc(), variable)?;
+    let name = naming.home(variable)?;
     let value = set_temporary(out, place, Kind::Integer, number, Expr::Ref(name))?;
     let sum = operand_pair(out.alloc(), Operator::Add, value.operand, by)?;
     let next = set_temporary(out, place, Kind::Integer, value.next, sum)?;

@@ -68,7 +68,7 @@ pub fn named_by(alloc: Global, parts: &mut Vec<Value>) -> Result<Value, AllocErr
     ensures { IfOk result (λ v. value v ≡ expr (completed (name_in (at 1 (values parts.old.items))) (as_rest (at 0 (values parts.old.items))))) }
 {
     let rest = into_rest(alloc, pop_value(parts));
-    let name = into_name(alloc, pop_value(parts));
+    let name = into_name(pop_value(parts));
     Ok(Value::Expression(ExpressionValue::Expr(complete(alloc, name, rest)?)))
 }
 

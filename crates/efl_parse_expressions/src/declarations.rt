@@ -99,7 +99,7 @@ pub fn struct_named_by(alloc: Global, parts: &mut Vec<Value>) -> Value
 {
     let (groups, mut list) = into_outline(alloc, pop_value(parts));
     list.reverse();
-    let name = into_name(alloc, pop_value(parts));
+    let name = into_name(pop_value(parts));
     declared_value(outlined(name, groups, list))
 }
 
@@ -128,11 +128,11 @@ fn letters(first: u8, last: Option<u8>) -> (u8, u8)
     }
 }
 
-pub fn range_by(alloc: Global, parts: &mut Vec<Value>) -> Value
+pub fn range_by(parts: &mut Vec<Value>) -> Value
     ensures { value result ≡ range (letters_so (letter_in (at 1 (values parts.old.items))) (letter_part (at 0 (values parts.old.items)))) }
 {
-    let last = take_letter_if_any(alloc, pop_value(parts));
-    let first = take_letter(alloc, pop_value(parts));
+    let last = take_letter_if_any(pop_value(parts));
+    let first = take_letter(pop_value(parts));
     Value::Count(CountValue::Range(letters(first, last)))
 }
 

@@ -250,7 +250,7 @@ pub fn path_by(alloc: Global, parts: &mut Vec<Value>) -> Value
 {
     let steps = ordered_steps(alloc, pop_value(parts));
     let subscripts = ordered::<EflExpr>(alloc, pop_value(parts));
-    let first = into_name(alloc, pop_value(parts));
+    let first = into_name(pop_value(parts));
     Value::Expression(ExpressionValue::Path(EflPlace {
         first,
         subscripts,
@@ -289,7 +289,7 @@ pub fn member_by(alloc: Global, parts: &mut Vec<Value>) -> Result<Value, AllocEr
 {
     let rest = into_steps(alloc, pop_value(parts));
     let subscripts = ordered::<EflExpr>(alloc, pop_value(parts));
-    let name = into_name(alloc, pop_value(parts));
+    let name = into_name(pop_value(parts));
     more_steps(member(name, subscripts), rest)
 }
 
@@ -297,6 +297,6 @@ pub fn overlay_by(alloc: Global, parts: &mut Vec<Value>) -> Result<Value, AllocE
     ensures { IfOk result (λ v. value v ≡ steps (Overlay (name_in (at 1 (values parts.old.items))) (as_steps (at 0 (values parts.old.items))))) }
 {
     let rest = into_steps(alloc, pop_value(parts));
-    let name = into_name(alloc, pop_value(parts));
+    let name = into_name(pop_value(parts));
     more_steps(EflStep::Overlay(name), rest)
 }

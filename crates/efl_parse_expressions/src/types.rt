@@ -57,24 +57,24 @@ pub fn long_by(parts: &mut Vec<Value>) -> Value
 }
 
 /// The type that a name is.
-fn named_value(alloc: Global, part: Value) -> Value
+fn named_value(part: Value) -> Value
     ensures { value result ≡ typed (place_in (value part)) (Named (name_in (value part))) }
 {
     let place = place_of(&part);
-    typed_value(place, EflType::Named(into_name(alloc, part)))
+    typed_value(place, EflType::Named(into_name(part)))
 }
 
-pub fn named_by(alloc: Global, parts: &mut Vec<Value>) -> Value
+pub fn named_by(parts: &mut Vec<Value>) -> Value
     ensures { value result ≡ typed (place_in (at 0 (values parts.old.items))) (Named (name_in (at 0 (values parts.old.items)))) }
 {
-    named_value(alloc, pop_value(parts))
+    named_value(pop_value(parts))
 }
 
-pub fn named_before_by(alloc: Global, parts: &mut Vec<Value>) -> Value
+pub fn named_before_by(parts: &mut Vec<Value>) -> Value
     ensures { value result ≡ typed (place_in (at 1 (values parts.old.items))) (Named (name_in (at 1 (values parts.old.items)))) }
 {
     skip(parts);
-    named_value(alloc, pop_value(parts))
+    named_value(pop_value(parts))
 }
 
 /// A type behind `struct`.
@@ -109,13 +109,13 @@ fn type_named(name: EflName, groups: Option<List<EflGroup>>) -> EflType
     }
 }
 
-pub fn type_named_by(alloc: Global, parts: &mut Vec<Value>) -> Value
+pub fn type_named_by(parts: &mut Vec<Value>) -> Value
     ensures { value result ≡ typed (place_in (at 1 (values parts.old.items))) (type_named_so (name_in (at 1 (values parts.old.items))) (groups_part (at 0 (values parts.old.items)))) }
 {
     let groups = into_groups_if_any(pop_value(parts));
     let part = pop_value(parts);
     let place = place_of(&part);
-    typed_value(place, type_named(into_name(alloc, part), groups))
+    typed_value(place, type_named(into_name(part), groups))
 }
 
 /// Members or variables of one type.
@@ -138,7 +138,7 @@ pub fn variable_by(alloc: Global, parts: &mut Vec<Value>) -> Value
     ensures { value result ≡ var (record { name = name_in (at 1 (values parts.old.items)); bounds = as_bounds (at 0 (values parts.old.items)) }) }
 {
     let bounds = ordered::<EflBound>(alloc, pop_value(parts));
-    let name = into_name(alloc, pop_value(parts));
+    let name = into_name(pop_value(parts));
     Value::Type(TypeValue::Var(EflVar { name, bounds }))
 }
 

@@ -119,7 +119,7 @@ fn common(alloc: Global, parts: &mut Vec<Value>) -> EflDecl
 {
     let part = pop_value(parts);
     skip(parts);
-    let name = into_word(alloc, pop_value(parts));
+    let name = into_word(pop_value(parts));
     let kind = shared(alloc, name, part);
     skip(parts);
     let place = take_place(pop_value(parts));
@@ -182,7 +182,7 @@ pub fn begun_by(alloc: Global, parts: &mut Vec<Value>) -> Result<Value, AllocErr
     let part = pop_value(parts);
     let first = pop_value(parts);
     let place = place_of(&first);
-    let word = into_word(alloc, first);
+    let word = into_word(first);
     begun(alloc, place, word, part)
 }
 
@@ -317,6 +317,6 @@ pub fn opened_by(alloc: Global, parts: &mut Vec<Value>) -> Result<Value, AllocEr
     let part = pop_value(parts);
     let first = pop_value(parts);
     let place = place_of(&first);
-    let word = into_word(alloc, first);
+    let word = into_word(first);
     opened(alloc, place, word, part)
 }

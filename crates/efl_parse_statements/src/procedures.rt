@@ -103,7 +103,7 @@ pub fn typed_header_by(alloc: Global, parts: &mut Vec<Value>) -> Result<Value, A
     ensures { IfOk result (λ v. value v ≡ header_val (place_in (at 3 (values parts.old.items))) (Some (type_in (at 3 (values parts.old.items)))) (Some (name_in (at 1 (values parts.old.items)))) (as_names (at 0 (values parts.old.items)))) }
 {
     let formals = EflName::into_list(alloc, pop_value(parts));
-    let name = into_name(alloc, pop_value(parts));
+    let name = into_name(pop_value(parts));
     skip(parts);
     let kind = pop_value(parts);
     let place = place_of(&kind);
@@ -132,7 +132,7 @@ pub fn named_heading_by(alloc: Global, parts: &mut Vec<Value>) -> Result<Value, 
     ensures { IfOk result (λ v. value v ≡ heading_val (Some (name_in (at 1 (values parts.old.items)))) (as_names (at 0 (values parts.old.items)))) }
 {
     let formals = EflName::into_list(alloc, pop_value(parts));
-    let name = into_name(alloc, pop_value(parts));
+    let name = into_name(pop_value(parts));
     Ok(Value::Procedure(ProcedureValue::Heading(Some(name), formals)))
 }
 

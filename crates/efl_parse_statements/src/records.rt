@@ -70,10 +70,10 @@ pub fn skip_write_by(parts: &mut Vec<Value>) -> Result<Value, AllocError>
     Ok(write_item(WriteItem::Skip(count)))
 }
 
-pub fn chars_by(alloc: Global, parts: &mut Vec<Value>) -> Result<Value, AllocError>
+pub fn chars_by(parts: &mut Vec<Value>) -> Result<Value, AllocError>
     ensures { IfOk result (λ v. value v ≡ write_item_val (Chars (text_in (at 0 (values parts.old.items))))) }
 {
-    let text = into_text(alloc, pop_value(parts));
+    let text = into_text(pop_value(parts));
     Ok(write_item(WriteItem::Chars(text)))
 }
 

@@ -203,7 +203,7 @@ pub fn do_by(alloc: Global, parts: &mut Vec<Value>) -> Result<Value, AllocError>
     skip(parts);
     let first = into_expr(pop_value(parts));
     skip(parts);
-    let variable = into_name(alloc, pop_value(parts));
+    let variable = into_name(pop_value(parts));
     let place = take_place(pop_value(parts));
     stated(alloc, place, EflKind::Do(variable, first, last, step, body))
 }
@@ -348,7 +348,7 @@ pub fn goto_by(alloc: Global, parts: &mut Vec<Value>) -> Result<Value, AllocErro
     ensures { IfOk result (λ v. value v ≡ placed (at 2 (values parts.old.items)) (Goto (name_in (at 1 (values parts.old.items))))) }
 {
     skip(parts);
-    let label = into_word(alloc, pop_value(parts));
+    let label = into_word(pop_value(parts));
     let place = take_place(pop_value(parts));
     stated(alloc, place, EflKind::Goto(label))
 }
@@ -357,7 +357,7 @@ pub fn go_to_by(alloc: Global, parts: &mut Vec<Value>) -> Result<Value, AllocErr
     ensures { IfOk result (λ v. value v ≡ placed (at 3 (values parts.old.items)) (Goto (name_in (at 1 (values parts.old.items))))) }
 {
     skip(parts);
-    let label = into_word(alloc, pop_value(parts));
+    let label = into_word(pop_value(parts));
     skip(parts);
     let place = take_place(pop_value(parts));
     stated(alloc, place, EflKind::Goto(label))

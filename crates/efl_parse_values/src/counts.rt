@@ -28,7 +28,7 @@ impl Item for EflName {
     fn into_item(alloc: Global, part: Value) -> EflName
         ensures { (rest : List Word) → result ∷ rest ≡ name_in (value part) ∷ rest }
     {
-        into_name(alloc, part)
+        into_name(part)
     }
 
     fn into_list(alloc: Global, part: Value) -> Vec<EflName>

@@ -252,7 +252,7 @@ fn into_var(alloc: Global, part: Value) -> EflVar
         other => {
             drop(other);
             EflVar {
-                name: EflName::new(Text::new(Vec::new(alloc))),
+                name: EflName::new(Text::empty()),
                 bounds: Vec::new(alloc),
             }
         }

@@ -135,7 +135,7 @@ pub fn into_path(alloc: Global, part: Value) -> EflPlace
         other => {
             drop(other);
             EflPlace {
-                first: EflName::new(Text::new(Vec::new(alloc))),
+                first: EflName::new(Text::empty()),
                 subscripts: Vec::new(alloc),
                 steps: Vec::new(alloc),
             }

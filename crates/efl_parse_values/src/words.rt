@@ -39,78 +39,74 @@ pub fn take_place(part: Value) -> Place
 }
 
 /// A word in capitals.
-pub fn into_word(alloc: Global, part: Value) -> Text
+pub fn into_word(part: Value) -> Text
     ensures { result ≡ name_in (value part) }
 {
     match part {
-        Value::Token(token) => word_of_kind(alloc, token.kind),
+        Value::Token(token) => word_of_kind(token.kind),
         other => {
             drop(other);
-            Text::new(Vec::new(alloc))
+            Text::empty()
         }
     }
 }
 
-fn word_of_kind(alloc: Global, kind: TokenKind) -> Text
+fn word_of_kind(kind: TokenKind) -> Text
     ensures { result ≡ kind_name kind }
 {
     match kind {
-        TokenKind::Word(word) => {
-            let mut bytes = word.into_bytes();
-            bytes.make_ascii_uppercase();
-            Text::new(bytes)
-        }
+        TokenKind::Word(word) => word.into_capitals(),
         other => {
             drop(other);
-            Text::new(Vec::new(alloc))
+            Text::empty()
         }
     }
 }
 
-pub fn into_name(alloc: Global, part: Value) -> EflName
+pub fn into_name(part: Value) -> EflName
     ensures { result ≡ name_in (value part) }
 {
-    EflName::new(into_word(alloc, part))
+    EflName::new(into_word(part))
 }
 
 /// A quoted text.
-pub fn into_text(alloc: Global, part: Value) -> Text
+pub fn into_text(part: Value) -> Text
     ensures { result ≡ text_in (value part) }
 {
     match part {
-        Value::Token(token) => text_of_kind(alloc, token.kind),
+        Value::Token(token) => text_of_kind(token.kind),
         other => {
             drop(other);
-            Text::new(Vec::new(alloc))
+            Text::empty()
         }
     }
 }
 
-fn text_of_kind(alloc: Global, kind: TokenKind) -> Text
+fn text_of_kind(kind: TokenKind) -> Text
     ensures { result ≡ kind_text kind }
 {
     match kind {
         TokenKind::Quoted(text) => text,
         other => {
             drop(other);
-            Text::new(Vec::new(alloc))
+            Text::empty()
         }
     }
 }
 
 /// The first letter of a name, as a capital.
-pub fn take_letter(alloc: Global, part: Value) -> u8
+pub fn take_letter(part: Value) -> u8
     ensures { result ≡ letter_in (value part) }
 {
-    first_of(&into_word(alloc, part))
+    first_of(&into_word(part))
 }
 
 /// The first letter of a name, if the part is one.
-pub fn take_letter_if_any(alloc: Global, part: Value) -> Option<u8>
+pub fn take_letter_if_any(part: Value) -> Option<u8>
     ensures { result ≡ letter_part (value part) }
 {
     match part {
-        Value::Token(token) => Some(first_of(&word_of_kind(alloc, token.kind))),
+        Value::Token(token) => Some(first_of(&word_of_kind(token.kind))),
         other => {
             drop(other);
             None

@@ -41,7 +41,7 @@ fn home(
     if keeps_name(numbers, variable) {
         copied_name(alloc, variable.name.as_bytes())
     } else {
-        made_name(alloc, b'Y', number)
+        Ok(made_name(b'Y', number))
     }
 }
 
@@ -69,7 +69,7 @@ fn callee(alloc: Global, number: usize, name: &Option<EflName>) -> Result<Name, 
     ensures { IfOk result (λ given. given ≡ name_or_made number name.now) }
 {
     match name {
-        None => made_name(alloc, b'X', number),
+        None => Ok(made_name(b'X', number)),
         Some(name) => kept_or_made(alloc, number, name),
     }
 }
@@ -80,6 +80,6 @@ fn kept_or_made(alloc: Global, number: usize, name: &EflName) -> Result<Name, Al
     if is_kept(name.as_bytes()) {
         copied_name(alloc, name.as_bytes())
     } else {
-        made_name(alloc, b'X', number)
+        Ok(made_name(b'X', number))
     }
 }

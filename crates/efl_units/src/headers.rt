@@ -36,19 +36,11 @@ pub fn header(
         return Ok(Header::Main);
     }
     let list = dummies(alloc, naming, variables, unit, &procedure.formals)?;
-    named_header(
-        alloc,
-        naming,
-        unit,
-        given_kind(&procedure.result),
-        list,
-        room,
-    )
+    named_header(naming, unit, given_kind(&procedure.result), list, room)
 }
 
 // The first line of the unit of a procedure that has a name.
 fn named_header(
-    alloc: Global,
     naming: &Naming,
     unit: usize,
     given: Option<Kind>,
@@ -57,21 +49,21 @@ fn named_header(
 ) -> Result<Header, AllocError>
     ensures { IfOk result (λ header. (r : Given) → kind_given r ≡ given → header_seen header ≡ named_header (naming_in naming.now room) unit r list.items) }
 {
-    let name = naming.callee(alloc, unit)?;
+    let name = naming.callee(unit)?;
     match given {
         None => Ok(Header::Sub(name, list)),
-        Some(kind) => Ok(Header::Func(Some(word_of(kind)), name, or_spare(alloc, list, room)?)),
+        Some(kind) => Ok(Header::Func(Some(word_of(kind)), name, or_spare(list, room)?)),
     }
 }
 
 // A function of FORTRAN has a dummy at least: one that nothing uses, behind the temporaries.
-fn or_spare(alloc: Global, mut list: List<Name>, room: usize) -> Result<List<Name>, AllocError>
+fn or_spare(mut list: List<Name>, room: usize) -> Result<List<Name>, AllocError>
     ensures { IfOk result (λ all. all.items ≡ or_spare (temp_of kinds.Integer room) list.items) }
 {
     if !list.is_empty() {
         return Ok(list);
     }
-    list.push(temporary(alloc, Kind::Integer, room)?)?;
+    list.push(temporary(Kind::Integer, room))?;
     Ok(list)
 }
 
@@ -88,7 +80,7 @@ fn dummies(
     let mut names = Vec::new(alloc);
     for formal in formals {
         let number = formal_number(variables, unit, formal.as_bytes());
-        let name = naming.home(alloc, number)?;
+        let name = naming.home(number)?;
         names.push(name)?;
     }
     Ok(names)

@@ -8,22 +8,23 @@ use ground::Text;
 use std::alloc::{AllocError, Global};
 
 /// A letter and the last five digits of a number.
-pub fn made_name(alloc: Global, letter: u8, number: usize) -> Result<Name, AllocError>
-    ensures { IfOk result (λ name. name ≡ made letter number) }
+pub fn made_name(letter: u8, number: usize) -> Name
+    ensures { result ≡ made letter number }
 {
-    let mut text = Vec::from_slice(alloc, b"X00000".as_slice())?;
-    text[0] = letter;
-    text[1] = digit(number, 10_000);
-    text[2] = digit(number, 1_000);
-    text[3] = digit(number, 100);
-    text[4] = digit(number, 10);
-    text[5] = digit(number, 1);
-    Ok(Name::new(Text::new(text)))
+    let text = [
+        letter,
+        digit(number, 10_000),
+        digit(number, 1_000),
+        digit(number, 100),
+        digit(number, 10),
+        digit(number, 1),
+    ];
+    Name::new(Text::short(&text))
 }
 
 /// The name with these bytes.
 pub fn copied_name(alloc: Global, bytes: &[u8]) -> Result<Name, AllocError>
     ensures { IfOk result (λ name. name ≡ bytes.now) }
 {
-    Ok(Name::new(Text::new(Vec::from_slice(alloc, bytes)?)))
+    Ok(Name::new(Text::from_slice(alloc, bytes)?))
 }

@@ -22,37 +22,27 @@ pub fn typed_names(
     ensures { IfOk result (λ names. names.items ≡ map (home_of naming.now) variables.now ++ map (temp_of kind) (range_with_len 0 (room + 1)) ++ map (callee_of naming.now) (each_once functions.now)) }
 {
     let mut names = Vec::new(alloc);
-    add_homes(alloc, naming, variables, &mut names)?;
-    add_temporaries(alloc, kind, plus(room, 1)?, &mut names)?;
-    add_callees(alloc, naming, functions, &mut names)?;
+    add_homes(naming, variables, &mut names)?;
+    add_temporaries(kind, plus(room, 1)?, &mut names)?;
+    add_callees(naming, functions, &mut names)?;
     Ok(names)
 }
 
-fn add_homes(
-    alloc: Global,
-    naming: &Naming,
-    variables: &[usize],
-    names: &mut List<Name>,
-) -> Result<(), AllocError>
+fn add_homes(naming: &Naming, variables: &[usize], names: &mut List<Name>) -> Result<(), AllocError>
     ensures { OnOk result (names.new.items ≡ names.old.items ++ map (home_of naming.now) variables.now) }
 {
     for variable in variables {
-        let name = naming.home(alloc, *variable)?;
+        let name = naming.home(*variable)?;
         names.push(name)?;
     }
     Ok(())
 }
 
-fn add_temporaries(
-    alloc: Global,
-    kind: Kind,
-    count: usize,
-    names: &mut List<Name>,
-) -> Result<(), AllocError>
+fn add_temporaries(kind: Kind, count: usize, names: &mut List<Name>) -> Result<(), AllocError>
     ensures { OnOk result (names.new.items ≡ names.old.items ++ map (temp_of kind) (range_with_len 0 count)) }
 {
     for number in 0..count {
-        let name = temporary(alloc, kind, number)?;
+        let name = temporary(kind, number);
         names.push(name)?;
     }
     Ok(())
@@ -60,7 +50,6 @@ fn add_temporaries(
 
 // Each function once.
 fn add_callees(
-    alloc: Global,
     naming: &Naming,
     functions: &[usize],
     names: &mut List<Name>,
@@ -70,7 +59,7 @@ fn add_callees(
     let mut last = None;
     for function in functions {
         if !is_that(last, *function) {
-            let name = naming.callee(alloc, *function)?;
+            let name = naming.callee(*function)?;
             names.push(name)?;
         }
         last = Some(*function);

@@ -36,7 +36,7 @@ pub fn program_naming<'a>(
     Ok(Naming {
         homes,
         callees,
-        own: Name::new(Text::new(Vec::new(alloc))),
+        own: Name::new(Text::empty()),
         labels: HashMap::new(alloc),
         first: 0,
     })
@@ -55,7 +55,7 @@ pub fn name_unit<'a>(
     ensures labels { OnOk result ((l : Text) → label_of naming.new l ≡ label_in (all_labels (stmts_of body.now)) l) }
     ensures made { OnOk result ((i : ℕ) → made_of naming.new i ≡ length (all_labels (stmts_of body.now)) + 1 + i) }
 {
-    let own = naming.callee(alloc, number)?;
+    let own = naming.callee(number)?;
     let labels = labels_in(alloc, body)?;
     let first = labels.first_free()?;
     naming.own = own;

@@ -59,7 +59,7 @@ impl Variables {
         if self.seen.contains_key(&number) {
             return Ok(false);
         }
-        let name = Text::new(name.to_vec(alloc)?);
+        let name = Text::from_slice(alloc, name)?;
         self.add(
             number,
             Variable {

@@ -161,7 +161,7 @@ fn run_deck<L: Library, S: Source, K: Sink>(
 fn only_file(alloc: Global, file: &str) -> Result<List<Text>, AllocError>
     ensures { IfOk result (λ files. files.items ≡ file.now ∷ []) }
 {
-    let name = Text::new(Vec::from_slice(alloc, file.as_bytes())?);
+    let name = Text::from_slice(alloc, file.as_bytes())?;
     let mut files = Vec::new(alloc);
     files.push(name)?;
     Ok(files)

@@ -30,7 +30,7 @@ impl Written {
 
     fn end_text(&mut self, alloc: Global) -> Result<(), AllocError> {
         let text = replace(&mut self.text, Vec::new(alloc));
-        self.field(Field::Chars(Text::new(text)))
+        self.field(Field::Chars(Text::new(text)?))
     }
 
     fn character(&mut self, alloc: Global, byte: u8) -> Result<(), AllocError> {

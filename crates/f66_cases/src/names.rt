@@ -55,7 +55,7 @@ fn expect_name(
     source: &str,
     wanted: &str,
 ) -> Result<(), Fail> {
-    let source = Text::new(source.as_bytes().to_vec(alloc)?);
+    let source = Text::from_slice(alloc, source.as_bytes())?;
     assert!(rt; names.made() < 10, "few made");
     assert!(rt; names.taken() < 10, "few taken");
     let name = names.keep_or_rename(&source).ok().ok_or("memory")?;

@@ -103,8 +103,7 @@ pub fn statement(alloc: Global, text: &str, line: u32) -> Result<Stmt, AllocErro
 
 /// A name.
 pub fn name(alloc: Global, word: &str) -> Result<Name, AllocError> {
-    let bytes = word.as_bytes().to_vec(alloc)?;
-    Ok(Name::new(Text::new(bytes)))
+    Ok(Name::new(Text::from_slice(alloc, word.as_bytes())?))
 }
 
 /// The first word of a text, and what stands behind it.

@@ -60,7 +60,7 @@ fn word(alloc: Global, characters: &[Character]) -> Result<Lexeme, AllocError>
     if size > LONGEST_TEXT {
         return Ok(Lexeme::Wrong(FaultKind::Limit, TEXT_LIMIT));
     }
-    let text = Text::new(bytes(alloc, characters, size)?);
+    let text = Text::new(bytes(alloc, characters, size)?)?;
     Ok(Lexeme::Found(TokenKind::Word(text), size.saturating_sub(1)))
 }
 
@@ -119,7 +119,7 @@ fn quotation(alloc: Global, dialect: Dialect, quote: u8, rest: &[u8]) -> Result<
     if text.len() > LONGEST_TEXT {
         return Ok(Lexeme::Wrong(FaultKind::Limit, TEXT_LIMIT));
     }
-    Ok(Lexeme::Found(TokenKind::Quoted(Text::new(text)), 0))
+    Ok(Lexeme::Found(TokenKind::Quoted(Text::new(text)?), 0))
 }
 
 fn sign(dialect: Dialect, characters: &[Character]) -> Lexeme

@@ -148,7 +148,7 @@ fn add_line(
     let line = begun(characters);
     match include_at(start.continues, line) {
         Some((first, last)) => {
-            let word = Text::new(bytes(alloc, line, 7)?);
+            let word = Text::new(bytes(alloc, line, 7)?)?;
             include_line(alloc, text, file, word, first, last, tokens)
         }
         None => plain_line(
@@ -194,7 +194,7 @@ fn include_line(
         };
         return Ok(Outcome::Stops(Fault::new(place, FaultKind::BadByte)));
     }
-    let name = Text::new(Vec::from_slice(alloc, name)?);
+    let name = Text::from_slice(alloc, name)?;
     tokens.push(token_at(file, last.line, TokenKind::Quoted(name)))?;
     tokens.push(token_at(file, last.line, TokenKind::LineEnd))?;
     Ok(Outcome::Goes(line_after(last, rest)))

@@ -62,8 +62,8 @@ fn named(alloc: Global, files: &[Text], refusal: Refusal) -> TextRefusal
     ensures { IsNamed files.now refusal result }
 {
     match refusal {
-        Refusal::Fault(fault) => match name_of(files, fault.place.file).to_vec(alloc) {
-            Ok(name) => TextRefusal::Fault(fault, Text::new(name)),
+        Refusal::Fault(fault) => match Text::from_slice(alloc, name_of(files, fault.place.file)) {
+            Ok(name) => TextRefusal::Fault(fault, name),
             Err(_) => TextRefusal::Memory,
         },
         Refusal::Memory => TextRefusal::Memory,

@@ -63,7 +63,7 @@ fn join(alloc: Global, production: Production, values: &[Text]) -> Result<Text, 
         }
         _ => append_all(&mut text, values)?,
     }
-    Ok(Text::new(text))
+    Text::new(text)
 }
 
 impl Language for Outline {
@@ -114,8 +114,8 @@ impl Language for Outline {
 
     fn token_value(alloc: Global, token: &Token) -> Result<Text, AllocError> {
         match &token.kind {
-            TokenKind::Word(word) => Ok(Text::new(word.as_bytes().to_vec(alloc)?)),
-            _ => Ok(Text::new(Vec::new(alloc))),
+            TokenKind::Word(word) => Text::from_slice(alloc, word.as_bytes()),
+            _ => Ok(Text::empty()),
         }
     }
 

@@ -19,7 +19,7 @@ fn token_of(alloc: Global, character: u8, line: u32) -> Result<Token, AllocError
         b'+' => TokenKind::Sign(Sign::Plus),
         b';' => TokenKind::Semicolon,
         b'/' => TokenKind::LineEnd,
-        _ => TokenKind::Word(Text::new([character].to_vec(alloc)?)),
+        _ => TokenKind::Word(Text::from_slice(alloc, &[character])?),
     };
     let place = Place { file: 0, line };
     Ok(Token { kind, place })

@@ -3,4 +3,5 @@ pub mod Arithmetic
 pub mod Content
 pub mod FaultNames
 pub mod Faults
+pub mod Texts
 pub mod TrapNames

@@ -132,8 +132,8 @@ pub fn file_number(files: &IndexSet<Vec<u8>>, name: &[u8]) -> u16
 pub fn fault_in(alloc: Global, name: &[u8], fault: Fault) -> TextRefusal
     ensures { IsInFile name.now (Faulty fault) result }
 {
-    match Vec::from_slice(alloc, name) {
-        Ok(name) => TextRefusal::Fault(fault, Text::new(name)),
+    match Text::from_slice(alloc, name) {
+        Ok(name) => TextRefusal::Fault(fault, name),
         Err(_) => TextRefusal::Memory,
     }
 }

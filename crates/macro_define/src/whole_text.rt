@@ -75,5 +75,17 @@ fn add_text<L: Library>(
 fn texts(alloc: Global, names: IndexSet<Vec<u8>>) -> Result<List<Text>, AllocError>
     ensures { IfOk result (λ all. all.items ≡ map (λ k. k.items) names.keys) }
 {
-    names.into_iter().map(Text::new).collect(alloc)
+    let names: Vec<Vec<u8>> = names.into_iter().collect(alloc)?;
+    texts_of(alloc, &names)
+}
+
+fn texts_of(alloc: Global, names: &[Vec<u8>]) -> Result<List<Text>, AllocError>
+    ensures { IfOk result (λ all. all.items ≡ map (λ k. k.items) names.now) }
+{
+    let mut texts = Vec::new(alloc);
+    for name in names {
+        let text = Text::from_slice(alloc, name)?;
+        texts.push(text)?;
+    }
+    Ok(texts)
 }

@@ -14,7 +14,6 @@ use std::marker::Model;
 /// The names and labels in use in a unit. Made names are a letter with five digits, made labels are from 23000 on.
 #[derive(Debug, Drop)]
 pub struct Names {
-    alloc: Global,
     letter: u8,
     kept: Vec<Name>,
     numbers: Numbers,
@@ -38,7 +37,6 @@ impl Names {
         ensures { result ≡ unused }
     {
         Names {
-            alloc,
             letter: b'Z',
             kept: Vec::new(alloc),
             numbers: Numbers::new(alloc, 1),
@@ -54,7 +52,6 @@ impl Names {
         ensures labels { result.labels ≡ starting 23000 }
     {
         Names {
-            alloc,
             letter: b'X',
             kept: Vec::new(alloc),
             numbers: Numbers::new(alloc, 1),
@@ -157,9 +154,8 @@ impl Names {
         ensures used { OnOk result (self.new ≡ naming self.old) }
         ensures kept { OnErr result (self.new ≡ self.old) }
     {
-        let bytes = vec![in self.alloc; self.letter, 0, 0, 0, 0, 0].map_err(AllocError::from)?;
         let number = self.numbers.make()?;
-        Ok(numbered(self.letter, number, bytes))
+        Ok(numbered(self.letter, number))
     }
 
     fn can_keep(&self, name: &[u8]) -> bool
@@ -199,17 +195,19 @@ fn name_of(text: &Text) -> Result<Name, AllocError>
     Ok(Name::new(text.clone()?))
 }
 
-// The made name with this number, in a buffer of six bytes.
-fn numbered(letter: u8, number: u32, mut buffer: Vec<u8>) -> Name
-    requires { buffer.items ≡ letter ∷ 0 ∷ 0 ∷ 0 ∷ 0 ∷ 0 ∷ [] }
+// The made name with this number.
+fn numbered(letter: u8, number: u32) -> Name
     ensures { result ≡ made_name letter number }
 {
-    buffer[1] = digit(number, 10_000);
-    buffer[2] = digit(number, 1_000);
-    buffer[3] = digit(number, 100);
-    buffer[4] = digit(number, 10);
-    buffer[5] = digit(number, 1);
-    Name::new(Text::new(buffer))
+    let text = [
+        letter,
+        digit(number, 10_000),
+        digit(number, 1_000),
+        digit(number, 100),
+        digit(number, 10),
+        digit(number, 1),
+    ];
+    Name::new(Text::short(&text))
 }
 
 fn has_name(names: &[Name], name: &[u8]) -> bool

@@ -53,7 +53,7 @@ impl Maker {
     {
         let spare = names.fresh_name()?;
         keep_labels(&mut names, taken)?;
-        let own = own_name(alloc, header)?;
+        let own = own_name(header)?;
         Ok(Maker {
             alloc,
             names,
@@ -108,11 +108,11 @@ fn keep_labels(names: &mut Names, taken: &[u32]) -> Result<(), Memory>
 }
 
 // The name of a unit, which a main lacks.
-fn own_name(alloc: Global, header: &Header) -> Result<Name, AllocError>
+fn own_name(header: &Header) -> Result<Name, AllocError>
     ensures { IfOk result (λ name. name ≡ name_of (header_of header.now)) }
 {
     match header {
         Header::Sub(name, _) | Header::Func(_, name, _) => name.copy(),
-        Header::Main | Header::Block => Ok(Name::new(Text::new(Vec::new(alloc)))),
+        Header::Main | Header::Block => Ok(Name::new(Text::empty())),
     }
 }

@@ -83,11 +83,11 @@ pub fn build(
         | Production::NoMoreActual
         | Production::NoMoreRef
         | Production::NoMoreExpr => empty::no_exprs(alloc),
-        Production::LetterActual | Production::LetterConstant => letter_by(alloc, parts),
+        Production::LetterActual | Production::LetterConstant => letter_by(parts),
         Production::MoreActual | Production::MoreRef | Production::MoreExpr =>
             expressions::more_exprs_by(alloc, parts),
         Production::NumberPar => declarations::number_par_by(parts),
-        Production::NamePar => declarations::name_par_by(alloc, parts),
+        Production::NamePar => declarations::name_par_by(parts),
         Production::Range => declarations::range_by(alloc, parts),
         Production::SomeEntries | Production::MoreEntry => transfers::more_entries_by(alloc, parts),
         Production::NoEntries | Production::NoMoreEntry => empty::no_entries(alloc),
@@ -131,10 +131,10 @@ pub fn build(
         Production::NoFields | Production::EditDone | Production::SlashDone => empty::no_fields(
             alloc,
         ),
-        Production::CountedEdit => formats::counted_edit_by(alloc, parts),
-        Production::WordEdit => formats::word_edit_by(alloc, parts),
+        Production::CountedEdit => formats::counted_edit_by(parts),
+        Production::WordEdit => formats::word_edit_by(parts),
         Production::GroupEdit => formats::group_edit_by(alloc, parts),
-        Production::LetterEdit | Production::CharsEdit => formats::text_edit_by(alloc, parts),
+        Production::LetterEdit | Production::CharsEdit => formats::text_edit_by(parts),
         Production::Expr
         | Production::Conjunction
         | Production::Relational
@@ -241,8 +241,8 @@ fn truth_by(parts: &mut Vec<Value>) -> Result<Value, AllocError>
     Ok(truth(pop_value(parts)))
 }
 
-fn letter_by(alloc: Global, parts: &mut Vec<Value>) -> Result<Value, AllocError>
+fn letter_by(parts: &mut Vec<Value>) -> Result<Value, AllocError>
     ensures { IfOk result (λ v. value v ≡ letter_seen (last_of (values parts.old.items))) }
 {
-    Ok(letter(alloc, pop_value(parts)))
+    Ok(letter(pop_value(parts)))
 }

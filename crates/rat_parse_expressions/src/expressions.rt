@@ -60,10 +60,10 @@ fn apply(alloc: Global, name: Name, part: Value) -> Expr
 }
 
 /// A text of one character.
-pub fn letter(alloc: Global, part: Value) -> Value
+pub fn letter(part: Value) -> Value
     ensures { value result ≡ letter_seen (value part) }
 {
-    let text = into_text(alloc, part);
+    let text = into_text(part);
     Value::Expression(ExpressionValue::Expr(Expr::Letter(letter_of(&text))))
 }
 
@@ -153,7 +153,7 @@ pub fn ref_by(alloc: Global, parts: &mut Vec<Value>) -> Result<Value, AllocError
     let last = pop_value(parts);
     let second = pop_value(parts);
     let place = place_of(&second);
-    let name = into_name(alloc, second);
+    let name = into_name(second);
     Ok(Value::Expression(ExpressionValue::Located(place, apply(alloc, name, last))))
 }
 

@@ -43,7 +43,8 @@ fn lettered(letter: u8, count: u16, width: u16) -> Field
     }
 }
 
-fn word_field(count: u16, name: &Name) -> Field
+/// What a word of a format is, with what a count before it says.
+pub fn word_field(count: u16, name: &Name) -> Field
     ensures { field_then result ≡ worded count name.now }
 {
     match name.as_bytes() {
@@ -59,30 +60,30 @@ fn group(count: u16, mut list: Vec<Field>) -> Field
     Field::Group(count, list)
 }
 
-fn counted_field(alloc: Global, count: u16, part: Value) -> Field
+fn counted_field(count: u16, part: Value) -> Field
     ensures { field_then result ≡ counted count (value part) }
 {
     match part {
         Value::Transfer(TransferValue::Fields(list)) => group(count, list),
         other => {
-            let name = into_name(alloc, other);
+            let name = into_name(other);
             word_field(count, &name)
         }
     }
 }
 
-pub fn counted_edit_by(alloc: Global, parts: &mut Vec<Value>) -> Result<Value, AllocError>
+pub fn counted_edit_by(parts: &mut Vec<Value>) -> Result<Value, AllocError>
     ensures { IfOk result (λ v. value v ≡ field (counted (count_in (at 1 (values parts.old.items))) (at 0 (values parts.old.items)))) }
 {
     let last = pop_value(parts);
     let second = take_count(pop_value(parts));
-    Ok(Value::Transfer(TransferValue::Field(counted_field(alloc, second, last))))
+    Ok(Value::Transfer(TransferValue::Field(counted_field(second, last))))
 }
 
-pub fn word_edit_by(alloc: Global, parts: &mut Vec<Value>) -> Result<Value, AllocError>
+pub fn word_edit_by(parts: &mut Vec<Value>) -> Result<Value, AllocError>
     ensures { IfOk result (λ v. value v ≡ field (worded 1 (name_in (at 0 (values parts.old.items))))) }
 {
-    let name = into_name(alloc, pop_value(parts));
+    let name = into_name(pop_value(parts));
     Ok(Value::Transfer(TransferValue::Field(word_field(1, &name))))
 }
 
@@ -94,10 +95,10 @@ pub fn group_edit_by(alloc: Global, parts: &mut Vec<Value>) -> Result<Value, All
     Ok(Value::Transfer(TransferValue::Field(group(1, second))))
 }
 
-pub fn text_edit_by(alloc: Global, parts: &mut Vec<Value>) -> Result<Value, AllocError>
+pub fn text_edit_by(parts: &mut Vec<Value>) -> Result<Value, AllocError>
     ensures { IfOk result (λ v. value v ≡ field (Single 1 (Chars (text_in (at 0 (values parts.old.items)))))) }
 {
-    Ok(Value::Transfer(TransferValue::Field(Field::Chars(into_text(alloc, pop_value(parts))))))
+    Ok(Value::Transfer(TransferValue::Field(Field::Chars(into_text(pop_value(parts))))))
 }
 
 pub fn more_fields_by(alloc: Global, parts: &mut Vec<Value>) -> Result<Value, AllocError>

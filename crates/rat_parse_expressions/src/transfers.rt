@@ -187,7 +187,7 @@ pub fn loop_name_by(alloc: Global, parts: &mut Vec<Value>) -> Result<Value, Allo
     ensures { IfOk result (λ v. value v ≡ begun (name_in (at 1 (values parts.old.items))) (at 0 (values parts.old.items))) }
 {
     let last = pop_value(parts);
-    let second = into_name(alloc, pop_value(parts));
+    let second = into_name(pop_value(parts));
     name_rest(alloc, second, last)
 }
 

@@ -23,7 +23,7 @@ pub fn declared_by(alloc: Global, parts: &mut Vec<Value>) -> Result<Value, Alloc
     ensures { IfOk result (λ v. value v ≡ declared (record { name = name_in (at 1 (values parts.old.items)); sizes = as_pars (at 0 (values parts.old.items)) })) }
 {
     let sizes = ordered_pars(alloc, pop_value(parts));
-    let name = into_name(alloc, pop_value(parts));
+    let name = into_name(pop_value(parts));
     Ok(Value::Declaration(DeclarationValue::Declared(Declared { name, sizes })))
 }
 
@@ -41,10 +41,10 @@ pub fn number_par_by(parts: &mut Vec<Value>) -> Result<Value, AllocError>
     Ok(Value::Parameter(ParameterValue::Par(Par::Number(take_integer(pop_value(parts))))))
 }
 
-pub fn name_par_by(alloc: Global, parts: &mut Vec<Value>) -> Result<Value, AllocError>
+pub fn name_par_by(parts: &mut Vec<Value>) -> Result<Value, AllocError>
     ensures { IfOk result (λ v. value v ≡ par (Named (name_in (at 0 (values parts.old.items))))) }
 {
-    Ok(Value::Parameter(ParameterValue::Par(Par::Variable(into_name(alloc, pop_value(parts))))))
+    Ok(Value::Parameter(ParameterValue::Par(Par::Variable(into_name(pop_value(parts))))))
 }
 
 pub fn range_by(alloc: Global, parts: &mut Vec<Value>) -> Result<Value, AllocError>
@@ -87,7 +87,7 @@ pub fn area_by(alloc: Global, parts: &mut Vec<Value>) -> Result<Value, AllocErro
 {
     let list = ordered_declareds(alloc, pop_value(parts));
     skip(parts);
-    let name = into_name_if_any(alloc, pop_value(parts));
+    let name = into_name_if_any(pop_value(parts));
     Ok(Value::Declaration(DeclarationValue::Area(Area { name, list })))
 }
 
@@ -207,7 +207,7 @@ pub fn listed_names_by(alloc: Global, parts: &mut Vec<Value>) -> Result<Value, A
 {
     skip(parts);
     let second = pop_value(parts);
-    let third = into_name(alloc, pop_value(parts));
+    let third = into_name(pop_value(parts));
     more_names(alloc, third, second)
 }
 
@@ -215,7 +215,7 @@ pub fn more_names_by(alloc: Global, parts: &mut Vec<Value>) -> Result<Value, All
     ensures { IfOk result (λ v. value v ≡ names (name_in (at 1 (values parts.old.items)) ∷ as_names (at 0 (values parts.old.items)))) }
 {
     let last = pop_value(parts);
-    let second = into_name(alloc, pop_value(parts));
+    let second = into_name(pop_value(parts));
     more_names(alloc, second, last)
 }
 

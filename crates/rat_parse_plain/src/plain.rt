@@ -138,7 +138,7 @@ pub fn invocation_by(alloc: Global, parts: &mut Vec<Value>) -> Result<Value, All
     ensures { IfOk result (λ v. value v ≡ deed_val (place_in (at 2 (values parts.old.items))) (Invoke (name_in (at 1 (values parts.old.items))) (chained (as_exprs (at 0 (values parts.old.items)))))) }
 {
     let list = ordered_exprs(alloc, pop_value(parts));
-    let name = into_name(alloc, pop_value(parts));
+    let name = into_name(pop_value(parts));
     let place = take_place(pop_value(parts));
     deed(alloc, place, StmtKind::Invoke(name, list))
 }
@@ -155,7 +155,7 @@ pub fn one_target_by(alloc: Global, parts: &mut Vec<Value>) -> Result<Value, All
 pub fn computed_target_by(alloc: Global, parts: &mut Vec<Value>) -> Result<Value, AllocError>
     ensures { IfOk result (λ v. value v ≡ deed_val (place_in (at 5 (values parts.old.items))) (Computed (number_in (at 4 (values parts.old.items)) ∷ as_numbers (at 3 (values parts.old.items))) (name_in (at 0 (values parts.old.items))))) }
 {
-    let index = into_name(alloc, pop_value(parts));
+    let index = into_name(pop_value(parts));
     skip(parts);
     skip(parts);
     let labels = pop_value(parts);

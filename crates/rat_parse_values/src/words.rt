@@ -26,40 +26,36 @@ pub fn place_of(part: &Value) -> Place
 }
 
 /// A name in capitals.
-pub fn into_name(alloc: Global, part: Value) -> Name
+pub fn into_name(part: Value) -> Name
     ensures { result ≡ name_in (value part) }
 {
     match part {
-        Value::Token(token) => name_of_kind(alloc, token.kind),
+        Value::Token(token) => name_of_kind(token.kind),
         other => {
             drop(other);
-            Name::new(Text::new(Vec::new(alloc)))
+            Name::new(Text::empty())
         }
     }
 }
 
 /// The name that a token is, in capitals.
-pub fn name_of_kind(alloc: Global, kind: TokenKind) -> Name
+pub fn name_of_kind(kind: TokenKind) -> Name
     ensures { result ≡ kind_name kind }
 {
     match kind {
-        TokenKind::Word(word) => {
-            let mut bytes = word.into_bytes();
-            bytes.make_ascii_uppercase();
-            Name::new(Text::new(bytes))
-        }
+        TokenKind::Word(word) => Name::new(word.into_capitals()),
         other => {
             drop(other);
-            Name::new(Text::new(Vec::new(alloc)))
+            Name::new(Text::empty())
         }
     }
 }
 
-pub fn into_name_if_any(alloc: Global, part: Value) -> Option<Name>
+pub fn into_name_if_any(part: Value) -> Option<Name>
     ensures { result ≡ name_if_any (value part) }
 {
     match part {
-        Value::Token(token) => Some(name_of_kind(alloc, token.kind)),
+        Value::Token(token) => Some(name_of_kind(token.kind)),
         other => {
             drop(other);
             None
@@ -68,26 +64,26 @@ pub fn into_name_if_any(alloc: Global, part: Value) -> Option<Name>
 }
 
 /// A quoted text.
-pub fn into_text(alloc: Global, part: Value) -> Text
+pub fn into_text(part: Value) -> Text
     ensures { result ≡ text_in (value part) }
 {
     match part {
-        Value::Token(token) => text_of_kind(alloc, token.kind),
+        Value::Token(token) => text_of_kind(token.kind),
         other => {
             drop(other);
-            Text::new(Vec::new(alloc))
+            Text::empty()
         }
     }
 }
 
-fn text_of_kind(alloc: Global, kind: TokenKind) -> Text
+fn text_of_kind(kind: TokenKind) -> Text
     ensures { result ≡ kind_text kind }
 {
     match kind {
         TokenKind::Quoted(text) => text,
         other => {
             drop(other);
-            Text::new(Vec::new(alloc))
+            Text::empty()
         }
     }
 }

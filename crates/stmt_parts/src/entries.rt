@@ -29,15 +29,15 @@ pub fn read_entries(alloc: Global, tokens: &[Token]) -> Result<Option<List<Entry
     for token in tokens {
         stage = step(alloc, &mut lists, stage, token)?;
     }
-    finish(alloc, lists, stage)
+    finish(alloc, lists, &stage)
 }
 
-fn finish(alloc: Global, mut lists: Lists, stage: Stage) -> Result<Option<List<Entry>>, AllocError>
-    ensures { IfOk result (λ r. entries_if r ≡ final (state_of stage (lists_of lists))) }
+fn finish(alloc: Global, mut lists: Lists, stage: &Stage) -> Result<Option<List<Entry>>, AllocError>
+    ensures { IfOk result (λ r. entries_if r ≡ final (state_of stage.now (lists_of lists))) }
 {
     match stage {
         Stage::Within(0, tokens) => {
-            if add_item(alloc, &mut lists, &tokens)? {
+            if add_item(alloc, &mut lists, tokens)? {
                 Ok(lists.into_entries())
             } else {
                 Ok(None)

@@ -33,9 +33,7 @@ impl Member for Groups {
         match tokens {
             [Token::Open, ..] => {
                 let mut all = Vec::new(alloc);
-                let mut letter = Vec::new(alloc);
-                letter.push(b'E')?;
-                all.push(Token::Word(Text::new(letter)))?;
+                all.push(Token::Word(Text::from_slice(alloc, b"E".as_slice())?))?;
                 add_copies(&mut all, tokens)?;
                 match read_expression(alloc, &all)? {
                     None => Ok(None),

@@ -11,5 +11,5 @@ loop-number-preserved c =
     let f = temp_of c.args.kind in
     let at : 0 + n ≡ n = omega arith in
     let old = c.args.names.now.items in
-    c.in_ok-push.ensures.items ∙ ap (λ x. c.loop-number.names.items ++ x ∷ []) c.in_ok-name.ensures ∙ ap (λ xs. xs ++ f n ∷ []) c.loop-number.invariant
+    c.in_ok-push.ensures.items ∙ ap (λ x. c.loop-number.names.items ++ x ∷ []) c.temporary-name.ensures ∙ ap (λ xs. xs ++ f n ∷ []) c.loop-number.invariant
     ∙ append_assoc old (map f (range_with_len 0 n)) (f n ∷ []) ∙ ap (λ xs. old ++ xs) (sym (map-range_with_len_more f 0 n n at))

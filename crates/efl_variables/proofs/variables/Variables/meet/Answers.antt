@@ -21,7 +21,7 @@ returns c = λ xs x unit home name kind known.
     (record {
       unit = sym unit;
       home = list_grows f g given.grows x.variable.home c.args.home home;
-      name = c.new-name.ensures ∙ c.in_ok-to_vec.ensures.items_if_clones_equal (λ y z e. e) ∙ sym name;
+      name = c.in_ok-name.ensures ∙ sym name;
       kind = sym kind;
     })
     also)
