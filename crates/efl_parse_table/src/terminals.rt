@@ -21,6 +21,9 @@ pub fn terminal_at(token: &Token) -> Terminal
     }
 }
 
+/// How many letters each reserved word has at least.
+const SHORTEST: usize = 2;
+
 /// A reserved word in capitals, and its terminal.
 type Reserved = (&'static [u8], Terminal);
 
@@ -76,6 +79,9 @@ fn word_at(word: &[u8]) -> Terminal
 fn reserved_at(word: &[u8]) -> Option<Terminal>
     ensures { result ≡ terminal_in reserved word.now }
 {
+    if word.len() < SHORTEST {
+        return None;
+    }
     for (spelling, terminal) in words() {
         if is_spelled(spelling, word) {
             return Some(*terminal);
@@ -88,12 +94,18 @@ fn reserved_at(word: &[u8]) -> Option<Terminal>
 pub fn is_spelled(spelling: &[u8], word: &[u8]) -> bool
     ensures { result ≡ spells spelling.now word.now }
 {
+    spelling.len() == word.len() && are_its_letters(spelling, word)
+}
+
+fn are_its_letters(spelling: &[u8], word: &[u8]) -> bool
+    ensures { result ≡ spells spelling.now word.now }
+{
     match spelling {
         [] => word.is_empty(),
         [first, spelling @ ..] => match word {
             [] => false,
             [byte, word @ ..] => {
-                *first == byte.to_ascii_uppercase() && is_spelled(spelling, word)
+                *first == byte.to_ascii_uppercase() && are_its_letters(spelling, word)
             }
         },
     }

@@ -8,3 +8,4 @@ pub mod DeclaredLemmas
 pub mod EntryLemmas
 pub mod FormatLemmas
 pub mod JumpLemmas
+pub mod IntrinsicLemmas

@@ -119,7 +119,18 @@ fn is_text(name: &Name, text: &[u8]) -> bool
     text == name.as_bytes()
 }
 
+// Intrinsic functions have names of three to five letters.
 fn intrinsic_form(name: &Name) -> NameForm
+    ensures { result ≡ form_by (known intrinsics name.now) }
+{
+    let size = name.as_bytes().len();
+    if size < 3 || 5 < size {
+        return NameForm::Plain;
+    }
+    listed_form(name)
+}
+
+fn listed_form(name: &Name) -> NameForm
     ensures { result ≡ form_by (known intrinsics name.now) }
 {
     if is_text(name, b"IABS") {

@@ -1,2 +1,3 @@
 -- The lemmas of rat_parse_table.
 pub mod TableLemmas
+pub mod WordLemmas
