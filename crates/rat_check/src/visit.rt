@@ -40,8 +40,9 @@ fn visit<'a>(
             survey.note(&*around, label, place, Form::Condition(test))?;
             visit(body, &inside, survey)
         }
-        RatKind::For(first, test, step, body) => {
-            survey.note(&*around, label, place, Form::ForHead(first, test, step))?;
+        RatKind::For(head, body) => {
+            let form = Form::ForHead(&head.first, &head.test, &head.step);
+            survey.note(&*around, label, place, form)?;
             visit(body, &inside, survey)
         }
         RatKind::Repeat(body, until) => {

@@ -3,10 +3,11 @@ use Rattle.std.proofs.Common.{◌≡◌, List, [], ◌∷◌, ◌++◌, Option, 
 use Rattle.ground.specs.declared.place.Place.{Place}
 use Rattle.grammar.specs.declared.language.Symbol.TheVariants.{Terminal as terminal_symbol, Nonterminal as nonterminal_symbol}
 use Rattle.f66_tree.specs.Syntax.{Formula, Act}
+use Rattle.rat_tree.specs.declared.program.ForHead.{ForHead}
 use Rattle.rat_tree.specs.declared.program.RatStmt.{RatStmt}
 use Rattle.rat_tree.specs.declared.program.RatCase.{RatCase}
 use Rattle.rat_tree.specs.Syntax.{Command, For, Commands, NoCommand, AndCommand, Clauses, NoClause}
-use Rattle.rat_tree.specs.Views.{command as command_seen, commands as commands_of, clauses as clauses_of, clause_then}
+use Rattle.rat_tree.specs.Views.{act_if_any, formula_if_any, command as command_seen, commands as commands_of, clauses as clauses_of, clause_then}
 use Rattle.rat_parse_table.specs.declared.table.Terminal.TheVariants as terminals
 use Rattle.rat_parse_table.specs.declared.table.Nonterminal.TheVariants as nonterminals
 use Rattle.rat_parse_table.specs.declared.table.Production.TheVariants as productions
@@ -101,6 +102,11 @@ statements_moved {others = others} {r = r} {s = s} {all = all} there same more =
 -- A loop of `for` by its three parts.
 pub for_value : (p : Place) (c : Command) {a a' b b' : Option Act} {e e' : Option Formula} → a ≡ a' → e ≡ e' → b ≡ b' → For p a e b c ≡ For p a' e' b' c
 for_value p c {a' = a'} {b = b} {e = e} {e' = e'} first test step = ap (λ x. For p x e b c) first ∙ (ap (λ x. For p a' x b c) test ∙ ap (λ x. For p a' e' x c) step)
+
+-- A loop of `for` by what lies apart from it.
+pub for_head : (p : Place) (c : Command) {h h' : ForHead} → h ≡ h' →
+    For p (act_if_any h.first) (formula_if_any h.test) (act_if_any h.step) c ≡ For p (act_if_any h'.first) (formula_if_any h'.test) (act_if_any h'.step) c
+for_head p c e = ap (λ (h : ForHead). For p (act_if_any h.first) (formula_if_any h.test) (act_if_any h.step) c) e
 
 -- A `repeat` by its `until`.
 pub repetition_is : (p : Place) (c : Command) (v : Val) → repetition p c v ≡ repeated_so p c (until_in v)

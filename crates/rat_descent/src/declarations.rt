@@ -24,48 +24,48 @@ pub fn formals(alloc: Global, reader: &mut Reader<'_>) -> Result<List<Name>, Giv
 {
     take_token(reader, Terminal::Open)?;
     let mut list = Vec::new(alloc);
-    list.push(name_of(alloc, name_token(reader)?)?)?;
+    list.push(name_of(name_token(reader)?)?)?;
     'more: for _ in 0..reader.rest.len() {
         if !is_at(reader, Terminal::Comma) {
             take_token(reader, Terminal::Close)?;
             return Ok(list);
         }
         take_token(reader, Terminal::Comma)?;
-        list.push(name_of(alloc, name_token(reader)?)?)?;
+        list.push(name_of(name_token(reader)?)?)?;
     }
     Err(GiveUp)
 }
 
 /// A constant or a variable.
-pub fn parameter(alloc: Global, reader: &mut Reader<'_>) -> Result<Par, GiveUp>
+pub fn parameter(reader: &mut Reader<'_>) -> Result<Par, GiveUp>
     ensures { IfOk result (λ p. Reads (nonterminal_symbol nonterminals.Par) reader.old (par (par_of p)) reader.new) }
 {
     match reader.seen {
         Terminal::Octal | Terminal::Number => Ok(Par::Number(integer_of_kind(
             &number_token(reader)?.kind,
         ))),
-        _ => Ok(Par::Variable(name_of(alloc, name_token(reader)?)?)),
+        _ => Ok(Par::Variable(name_of(name_token(reader)?)?)),
     }
 }
 
-fn step(alloc: Global, reader: &mut Reader<'_>) -> Result<Par, GiveUp>
+fn step(reader: &mut Reader<'_>) -> Result<Par, GiveUp>
     ensures { IfOk result (λ p. Gives nonterminals.StepPart step_or_one reader.old (par_of p) reader.new) }
 {
     if !is_at(reader, Terminal::Comma) {
         return Ok(Par::Number(1));
     }
     take_token(reader, Terminal::Comma)?;
-    Ok(parameter(alloc, reader)?)
+    Ok(parameter(reader)?)
 }
 
 /// The parameters of a DO.
-pub fn do_range(alloc: Global, reader: &mut Reader<'_>) -> Result<Range, GiveUp>
+pub fn do_range(reader: &mut Reader<'_>) -> Result<Range, GiveUp>
     ensures { IfOk result (λ r. Reads (nonterminal_symbol nonterminals.Range) reader.old (range (range_of r)) reader.new) }
 {
-    let first = parameter(alloc, reader)?;
+    let first = parameter(reader)?;
     take_token(reader, Terminal::Comma)?;
-    let last = parameter(alloc, reader)?;
-    let step = step(alloc, reader)?;
+    let last = parameter(reader)?;
+    let step = step(reader)?;
     Ok(Range { first, last, step })
 }
 
@@ -77,14 +77,14 @@ fn sizes(alloc: Global, reader: &mut Reader<'_>) -> Result<List<Par>, GiveUp>
         return Ok(list);
     }
     take_token(reader, Terminal::Open)?;
-    list.push(parameter(alloc, reader)?)?;
+    list.push(parameter(reader)?)?;
     'more: for _ in 0..reader.rest.len() {
         if !is_at(reader, Terminal::Comma) {
             take_token(reader, Terminal::Close)?;
             return Ok(list);
         }
         take_token(reader, Terminal::Comma)?;
-        list.push(parameter(alloc, reader)?)?;
+        list.push(parameter(reader)?)?;
     }
     Err(GiveUp)
 }
@@ -92,7 +92,7 @@ fn sizes(alloc: Global, reader: &mut Reader<'_>) -> Result<List<Par>, GiveUp>
 fn declared(alloc: Global, reader: &mut Reader<'_>) -> Result<Declared, GiveUp>
     ensures { IfOk result (λ d. Reads (nonterminal_symbol nonterminals.Declared) reader.old (declared_value (declared_of d)) reader.new) }
 {
-    let name = name_of(alloc, name_token(reader)?)?;
+    let name = name_of(name_token(reader)?)?;
     let sizes = sizes(alloc, reader)?;
     Ok(Declared { name, sizes })
 }
@@ -113,12 +113,12 @@ pub fn declared_list(alloc: Global, reader: &mut Reader<'_>) -> Result<List<Decl
     Err(GiveUp)
 }
 
-fn area_name(alloc: Global, reader: &mut Reader<'_>) -> Result<Option<Name>, GiveUp>
+fn area_name(reader: &mut Reader<'_>) -> Result<Option<Name>, GiveUp>
     ensures { IfOk result (λ name. Gives nonterminals.AreaName name_if_any reader.old name reader.new) }
 {
     match reader.seen {
         Terminal::Slash => Ok(None),
-        _ => Ok(Some(name_of(alloc, name_token(reader)?)?)),
+        _ => Ok(Some(name_of(name_token(reader)?)?)),
     }
 }
 
@@ -126,7 +126,7 @@ fn area(alloc: Global, reader: &mut Reader<'_>) -> Result<Area, GiveUp>
     ensures { IfOk result (λ a. Reads (nonterminal_symbol nonterminals.Area) reader.old (area_value (area_of a)) reader.new) }
 {
     take_token(reader, Terminal::Slash)?;
-    let name = area_name(alloc, reader)?;
+    let name = area_name(reader)?;
     take_token(reader, Terminal::Slash)?;
     let list = declared_list(alloc, reader)?;
     Ok(Area { name, list })

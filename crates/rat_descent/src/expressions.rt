@@ -53,7 +53,8 @@ pub fn signed(alloc: Global, sign: &Token, e: Expr) -> Result<Expr, AllocError>
     }
 }
 
-fn element(name: Name, list: List<Expr>) -> Expr
+/// An element of an array, or a function of arguments.
+pub fn element(name: Name, list: List<Expr>) -> Expr
     ensures { formula_of result ≡ Item name (formulas_of list.items) }
 {
     Expr::Item(name, list)
@@ -227,7 +228,7 @@ pub fn reference(
 {
     open_production(reader, Production::Ref);
     let token = name_token(reader)?;
-    let name = name_of(alloc, token)?;
+    let name = name_of(token)?;
     if !is_at(reader, Terminal::Open) {
         close_production(reader, Production::Ref);
         return Ok((token.place, Expr::Ref(name)));

@@ -7,56 +7,19 @@ ghost use Rattle.f66_tree.specs.Views.{field_then, fields_of};
 ghost use Rattle.rat_parse_table.specs.declared.table.Nonterminal.TheVariants as nonterminals;
 ghost use Rattle.rat_parse_values.specs.Values.{tok, field, fields as fields_value};
 ghost use Rattle.rat_parse_values.specs.Parts.{as_fields, kind_text, count_in};
-ghost use Rattle.rat_parse_expressions.specs.Phrases.{width as width_of, lettered as lettered_so, worded, counted_field};
+ghost use Rattle.rat_parse_expressions.specs.Phrases.{counted_field};
 ghost use Rattle.rat_descent.specs.Reading.{Reads, Gives};
 ghost use Rattle.rat_descent.specs.Formats.{Enclosed};
 
 use crate::reader::{Reader, is_at, take_token};
 use crate::tokens::{name_of, number_token};
 use descent::GiveUp;
-use f66_tree::{Field, Name};
+use f66_tree::Field;
 use ground::{List, Token, TokenKind};
+use rat_parse_expressions::formats::word_field;
 use rat_parse_table::Terminal;
 use rat_parse_values::{capped_count, integer_of_kind};
 use std::alloc::Global;
-
-/// The value of digits, at most 65,535.
-fn width(digits: &[u8]) -> u16
-    ensures { result ≡ width_of digits.now }
-{
-    let mut width: u32 = 0;
-    for digit in digits {
-        let longer = width * 10 + u32::from(digit.saturating_sub(b'0'));
-        if longer > 65_535 {
-            return 65_535;
-        }
-        width = longer;
-    }
-    width as u16
-}
-
-fn lettered(letter: u8, count: u16, width: u16) -> Field
-    ensures { field_then result ≡ lettered_so letter count width }
-{
-    if letter == b'I' {
-        Field::Whole(count, width)
-    } else if letter == b'L' {
-        Field::Truth(count, width)
-    } else if letter == b'X' {
-        Field::Skip(count)
-    } else {
-        Field::Letter(count)
-    }
-}
-
-fn word_field(count: u16, name: &Name) -> Field
-    ensures { field_then result ≡ worded count name.now }
-{
-    match name.as_bytes() {
-        [] => Field::Letter(count),
-        [letter, digits @ ..] => lettered(*letter, count, width(digits)),
-    }
-}
 
 fn count_of(token: &Token) -> u16
     ensures { result ≡ count_in (tok token.now) }
@@ -142,7 +105,7 @@ fn edit(alloc: Global, reader: &mut Reader<'_>, room: usize) -> Result<Field, Gi
         Terminal::Letter => Ok(text_field(take_token(reader, Terminal::Letter)?)?),
         Terminal::Chars => Ok(text_field(take_token(reader, Terminal::Chars)?)?),
         _ => {
-            let name = name_of(alloc, take_token(reader, Terminal::FieldWord)?)?;
+            let name = name_of(take_token(reader, Terminal::FieldWord)?)?;
             Ok(word_field(1, &name))
         }
     }
@@ -156,7 +119,7 @@ fn counted(alloc: Global, reader: &mut Reader<'_>, room: usize, count: u16) -> R
     if is_at(reader, Terminal::Open) {
         return Ok(group(count, enclosed(alloc, reader, room)?));
     }
-    let name = name_of(alloc, take_token(reader, Terminal::FieldWord)?)?;
+    let name = name_of(take_token(reader, Terminal::FieldWord)?)?;
     Ok(word_field(count, &name))
 }
 

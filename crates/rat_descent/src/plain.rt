@@ -74,7 +74,7 @@ fn invocation(
     ensures { IfOk result (λ s. Reads (nonterminal_symbol nonterminals.Simple) reader.old (deed s.0 (act_of s.1)) reader.new) }
 {
     let place = take_token(reader, Terminal::Call)?.place;
-    let name = name_of(alloc, name_token(reader)?)?;
+    let name = name_of(name_token(reader)?)?;
     let list = actuals(alloc, reader, room)?;
     Ok((place, StmtKind::Invoke(name, list)))
 }
@@ -116,7 +116,7 @@ fn computed(alloc: Global, reader: &mut Reader<'_>) -> Result<StmtKind, GiveUp>
         if !is_at(reader, Terminal::Comma) {
             take_token(reader, Terminal::Close)?;
             take_token(reader, Terminal::Comma)?;
-            let index = name_of(alloc, name_token(reader)?)?;
+            let index = name_of(name_token(reader)?)?;
             return Ok(StmtKind::Computed(list, index));
         }
         take_token(reader, Terminal::Comma)?;
@@ -181,7 +181,7 @@ fn transfer(
 {
     let word = take_token(reader, Terminal::Transfer)?;
     take_token(reader, Terminal::Open)?;
-    let unit = parameter(alloc, reader)?;
+    let unit = parameter(reader)?;
     take_token(reader, Terminal::Comma)?;
     let format = number_of(number_token(reader)?);
     take_token(reader, Terminal::Close)?;

@@ -24,7 +24,7 @@ use descent::GiveUp;
 use f66_tree::{Expr, StmtKind};
 use ground::{List, Place};
 use rat_parse_table::{Nonterminal, Production, Terminal};
-use rat_tree::{RatCase, RatKind, RatStmt};
+use rat_tree::{ForHead, RatCase, RatKind, RatStmt};
 use std::alloc::Global;
 
 /// The end of a statement.
@@ -283,7 +283,8 @@ fn for_loop(alloc: Global, reader: &mut Reader<'_>, room: usize) -> Result<(Plac
     take_token(reader, Terminal::Close)?;
     let body = statement(alloc, reader, room)?;
     close_production(reader, Production::ForStatement);
-    Ok((place, RatKind::For(first, test, step, body)))
+    let head = Box::new(alloc, ForHead { first, test, step })?;
+    Ok((place, RatKind::For(head, body)))
 }
 
 fn until_part(
@@ -338,9 +339,9 @@ fn do_loop(alloc: Global, reader: &mut Reader<'_>, room: usize) -> Result<(Place
 {
     open_production(reader, Production::DoStatement);
     let place = take_token(reader, Terminal::Do)?.place;
-    let variable = name_of(alloc, name_token(reader)?)?;
+    let variable = name_of(name_token(reader)?)?;
     take_token(reader, Terminal::Assign)?;
-    let range = do_range(alloc, reader)?;
+    let range = do_range(reader)?;
     let body = statement(alloc, reader, room)?;
     close_production(reader, Production::DoStatement);
     Ok(count(place, variable, range, body))

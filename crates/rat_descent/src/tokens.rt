@@ -38,10 +38,10 @@ pub fn number_token<'a>(reader: &mut Reader<'a>) -> Result<&'a Token, GiveUp>
 }
 
 /// A name in capitals.
-pub fn name_of(alloc: Global, token: &Token) -> Result<Name, AllocError>
+pub fn name_of(token: &Token) -> Result<Name, AllocError>
     ensures { IfOk result (λ name. name ≡ kind_name token.now.kind) }
 {
-    Ok(name_of_kind(alloc, token.kind.clone()?))
+    Ok(name_of_kind(token.kind.clone()?))
 }
 
 pub fn operator_at(token: &Token) -> Operator

@@ -2,15 +2,15 @@
 
 ghost use Rattle.std.specs.Prelude.{◌≡◌, IfOk, map};
 ghost use Rattle.grammar.specs.declared.language.Symbol.TheVariants.{Nonterminal as nonterminal_symbol};
-ghost use Rattle.f66_tree.specs.Syntax.{Item, Many};
-ghost use Rattle.f66_tree.specs.Views.{formula_of, formulas_of, entry_of, entries_of};
+ghost use Rattle.f66_tree.specs.Syntax.{Many};
+ghost use Rattle.f66_tree.specs.Views.{entry_of, entries_of};
 ghost use Rattle.rat_parse_table.specs.declared.table.Nonterminal.TheVariants as nonterminals;
 ghost use Rattle.rat_parse_values.specs.Values.{entry as entry_value, range_of};
 ghost use Rattle.rat_parse_values.specs.Parts.{as_entries};
 ghost use Rattle.rat_descent.specs.Reading.{Reads, Gives};
 
 use crate::declarations::do_range;
-use crate::expressions::{reference, subscripts};
+use crate::expressions::{element, reference, subscripts};
 use crate::reader::{Reader, close_production, is_at, is_predicted, open_production, take_token};
 use crate::tokens::{name_of, name_token};
 use descent::GiveUp;
@@ -19,12 +19,6 @@ use ground::List;
 use rat_parse_table::{Nonterminal, Production, Terminal};
 use rat_parse_values::Range;
 use std::alloc::Global;
-
-fn element(name: Name, list: List<Expr>) -> Expr
-    ensures { formula_of result ≡ Item name (formulas_of list.items) }
-{
-    Expr::Item(name, list)
-}
 
 fn many(list: List<Entry>, variable: Name, range: Range) -> Entry
     ensures { entry_of result ≡ Many (entries_of list.items) variable (range_of range).first (range_of range).last (range_of range).step }
@@ -62,11 +56,11 @@ fn looped(alloc: Global, reader: &mut Reader<'_>, room: usize) -> Result<Entry, 
         if is_at(reader, Terminal::Open) {
             list.push(looped(alloc, reader, room)?)?;
         } else {
-            let name = name_of(alloc, name_token(reader)?)?;
+            let name = name_of(name_token(reader)?)?;
             match reader.seen {
                 Terminal::Assign => {
                     take_token(reader, Terminal::Assign)?;
-                    let range = do_range(alloc, reader)?;
+                    let range = do_range(reader)?;
                     take_token(reader, Terminal::Close)?;
                     return Ok(many(list, name, range));
                 }

@@ -34,7 +34,7 @@ fn subroutine(alloc: Global, reader: &mut Reader<'_>) -> Result<(Place, Header),
     ensures { IfOk result (λ h. Reads (nonterminal_symbol nonterminals.Header) reader.old (heading h.0 (header_of h.1)) reader.new) }
 {
     let place = take_token(reader, Terminal::Subroutine)?.place;
-    let name = name_of(alloc, name_token(reader)?)?;
+    let name = name_of(name_token(reader)?)?;
     let list = formals_if_any(alloc, reader)?;
     Ok((place, Header::Sub(name, list)))
 }
@@ -51,7 +51,7 @@ fn header(alloc: Global, reader: &mut Reader<'_>) -> Result<(Place, Header), Giv
         return Ok((place, Header::Block));
     }
     let place = take_token(reader, Terminal::Function)?.place;
-    let name = name_of(alloc, name_token(reader)?)?;
+    let name = name_of(name_token(reader)?)?;
     let list = formals(alloc, reader)?;
     Ok((place, Header::Func(None, name, list)))
 }
@@ -105,7 +105,7 @@ fn typed_unit(alloc: Global, reader: &mut Reader<'_>) -> Result<RatUnit, GiveUp>
     let word = type_at(token);
     if is_at(reader, Terminal::Function) {
         take_token(reader, Terminal::Function)?;
-        let name = name_of(alloc, name_token(reader)?)?;
+        let name = name_of(name_token(reader)?)?;
         let list = formals(alloc, reader)?;
         ending(reader)?;
         let body = body(alloc, reader, Vec::new(alloc))?;

@@ -35,9 +35,10 @@ fn emit(
             emit_either(maker, code, place, e, body, other, around)
         }
         RatKind::While(e, body) => emit_loop(maker, code, place, Turn::While(e), body, around),
-        RatKind::For(first, e, step, body) => {
-            put_act(maker.alloc(), code, place, first)?;
-            emit_loop(maker, code, place, Turn::For(e, step), body, around)
+        RatKind::For(head, body) => {
+            put_act(maker.alloc(), code, place, &head.first)?;
+            let turn = Turn::For(&head.test, &head.step);
+            emit_loop(maker, code, place, turn, body, around)
         }
         RatKind::Repeat(body, None) => emit_loop(maker, code, place, Turn::Always, body, around),
         RatKind::Repeat(body, Some((e, at))) => {

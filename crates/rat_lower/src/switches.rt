@@ -27,7 +27,7 @@ fn has_switch(statement: &RatStmt) -> bool
         RatKind::If(_, body, Some(other)) => has_switch(body) || has_switch(other),
         RatKind::If(_, body, None)
         | RatKind::While(_, body)
-        | RatKind::For(_, _, _, body)
+        | RatKind::For(_, body)
         | RatKind::Repeat(body, _)
         | RatKind::Do(_, _, _, _, body) => has_switch(body),
         RatKind::Switch(_, _) => true,

@@ -19,7 +19,7 @@ use rat_parse_values::{
     into_expr_if_any, into_name, into_range, is_word, more_exprs, ordered_declareds, ordered_exprs,
     place_of, pop_value, skip, take_count_or_one, take_number, take_place, type_of,
 };
-use rat_tree::{RatCase, RatKind, RatStmt};
+use rat_tree::{ForHead, RatCase, RatKind, RatStmt};
 use std::alloc::{AllocError, Global};
 
 /// A statement without a label.
@@ -182,7 +182,8 @@ pub fn for_by(alloc: Global, parts: &mut Vec<Value>) -> Result<Value, AllocError
     let first = into_act_if_any(pop_value(parts));
     skip(parts);
     let place = take_place(pop_value(parts));
-    stated(alloc, place, RatKind::For(first, test, step, body))
+    let head = Box::new(alloc, ForHead { first, test, step })?;
+    stated(alloc, place, RatKind::For(head, body))
 }
 
 pub fn repeat_by(alloc: Global, parts: &mut Vec<Value>) -> Result<Value, AllocError>
@@ -213,7 +214,7 @@ pub fn do_by(alloc: Global, parts: &mut Vec<Value>) -> Result<Value, AllocError>
     let body = boxed(alloc, pop_value(parts))?;
     let range = into_range(pop_value(parts));
     skip(parts);
-    let variable = into_name(alloc, pop_value(parts));
+    let variable = into_name(pop_value(parts));
     let place = take_place(pop_value(parts));
     count(alloc, place, variable, range, body)
 }

@@ -176,7 +176,7 @@ pub fn subroutine_by(alloc: Global, parts: &mut Vec<Value>) -> Result<Value, All
     ensures { IfOk result (λ v. value v ≡ heading (place_in (at 2 (values parts.old.items))) (SubUnit (name_in (at 1 (values parts.old.items))) (as_names (at 0 (values parts.old.items))))) }
 {
     let formals = ordered_names(alloc, pop_value(parts));
-    let name = into_name(alloc, pop_value(parts));
+    let name = into_name(pop_value(parts));
     let place = take_place(pop_value(parts));
     Ok(Value::Unit(UnitValue::Header(place, Header::Sub(name, formals))))
 }
@@ -185,7 +185,7 @@ pub fn function_by(alloc: Global, parts: &mut Vec<Value>) -> Result<Value, Alloc
     ensures { IfOk result (λ v. value v ≡ heading (place_in (at 2 (values parts.old.items))) (FuncUnit None (name_in (at 1 (values parts.old.items))) (as_names (at 0 (values parts.old.items))))) }
 {
     let formals = ordered_names(alloc, pop_value(parts));
-    let name = into_name(alloc, pop_value(parts));
+    let name = into_name(pop_value(parts));
     let place = take_place(pop_value(parts));
     Ok(Value::Unit(UnitValue::Header(place, Header::Func(None, name, formals))))
 }

@@ -5,4 +5,4 @@ mod laws;
 mod program;
 
 pub use laws::{meanings_extend, places_tell_traps_alone, unasked_change_nothing};
-pub use program::{RatCase, RatKind, RatProgram, RatStmt, RatUnit};
+pub use program::{ForHead, RatCase, RatKind, RatProgram, RatStmt, RatUnit};

@@ -36,8 +36,7 @@ pub enum RatKind {
     Block(List<RatStmt>),
     If(Expr, Box<RatStmt>, Option<Box<RatStmt>>),
     While(Expr, Box<RatStmt>),
-    /// The first part, the condition, the step, and the body.
-    For(Option<StmtKind>, Option<Expr>, Option<StmtKind>, Box<RatStmt>),
+    For(Box<ForHead>, Box<RatStmt>),
     /// The body, and the condition of `until` with the place of that word.
     Repeat(Box<RatStmt>, Option<(Expr, Place)>),
     /// The variable, the three parameters, and the body.
@@ -50,6 +49,14 @@ pub enum RatKind {
     Return(Option<Expr>),
     /// A statement of FORTRAN that is none of the above.
     Plain(StmtKind),
+}
+
+/// What a `for` says before its body. It lies apart, since it is three times as large as any other statement.
+#[derive(Drop)]
+pub struct ForHead {
+    pub first: Option<StmtKind>,
+    pub test: Option<Expr>,
+    pub step: Option<StmtKind>,
 }
 
 /// A clause of a switch: its case expressions, whether it is the default, and its statements.

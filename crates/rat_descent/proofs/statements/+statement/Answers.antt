@@ -17,7 +17,7 @@ use Rattle.descent.specs.Reading.{done, next}
 use Rattle.rat_descent.specs.Statements.{stated, unlabelled, repeated_so}
 use Rattle.rat_descent.proofs.Productions.{production, nothing, otherwise, as_value, lengthens_nothing, lengthens_more, viewed_more}
 use Rattle.rat_descent.proofs.ListItems.{behind_first}
-use Rattle.rat_descent.proofs.StatementLists.{statements_more, statements_line, statements_none, statements_all, clauses_more, clauses_none, clauses_all, statements_moved, for_value, repetition_is}
+use Rattle.rat_descent.proofs.StatementLists.{statements_more, statements_line, statements_none, statements_all, clauses_more, clauses_none, clauses_all, statements_moved, for_value, for_head, repetition_is}
 use Rattle.rat_descent.proofs.statements.+statement.Goals.{statements-in-LineEnd+in_ok-take_token-in-LineEnd, statements-in_default-seen+in_ok-item-in_default-seen+in_ok-push-in_default-seen}
 use Rattle.rat_descent.proofs.statements.+statement.Goals as goal
 
@@ -108,7 +108,8 @@ for_loop-returns t c =
     let first = c.in_ok-first.ensures in
     let test = c.in_ok-test.ensures in
     let step = c.in_ok-step.ensures in
-    as_value (ap (command p) (for_value p (command_seen c.in_ok-body.body.value) first.is test.is step.is))
+    let body = command_seen c.in_ok-body.body.value in
+    as_value (ap (command p) (for_value p body first.is test.is step.is ∙ for_head p body (sym c.in_ok-head.ensures.ok)))
     (production productions.ForStatement refl refl c.open_production.ensures c.close_production.ensures (next c.in_ok-place.ensures (next c.in_ok-take_token.ensures
     (next first.reads (next c.in_ok-take_token-2.ensures (next test.reads (next c.in_ok-take_token-3.ensures (next step.reads
     (next c.in_ok-take_token-4.ensures (next c.in_ok-body.ensures done))))))))))
