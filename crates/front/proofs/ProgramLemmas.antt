@@ -1,13 +1,9 @@
 -- The units of an accepted program are a program of what it means.
-use Rattle.std.proofs.Common.{◌≡◌, ◌≤◌, ◌<◌, ℕ, arith, List, [], ◌∷◌, length, map, Option, Some, None, refl, ap, ◌∙◌, subst}
-use Rattle.std.specs.Prelude.{All, Err, Vec}
-use Rattle.std.specs.declared.alloc.Global.{Global}
+use Rattle.std.proofs.Common.{◌≡◌, ◌≤◌, ◌<◌, ℕ, arith, List, [], ◌∷◌, length, map, Option, Some, None, refl, ap, ◌∙◌}
+use Rattle.std.specs.Prelude.{All}
 use Rattle.std.specs.List.{slice_get}
 use Rattle.std.proofs.lemmas.List.Elements.{All-nil, All-cons, All-head, All-tail}
 use Rattle.ground.specs.declared.place.Place.{Place}
-use Rattle.ground.specs.declared.fault.Fault.{Fault}
-use Rattle.ground.specs.declared.fault.Refusal.{Refusal}
-use Rattle.ground.specs.declared.fault.Refusal.TheVariants as refusals
 use Rattle.f66_tree.specs.declared.unit.Unit.{Unit as AUnit}
 use Rattle.f66_tree.specs.Syntax.{Line, Routine}
 use Rattle.f66_tree.specs.Views.{routine_of}
@@ -17,7 +13,7 @@ use Rattle.ground.specs.declared.fault.FaultKind.TheVariants.{MainCount}
 use Rattle.f66_program.specs.Linking.{IsWhole, at_part, none}
 use Rattle.linked_soundness.specs.Laws.{AreCodes}
 use Rattle.rat_tree.specs.Syntax.{RatRoutine, RatProgram}
-use Rattle.rat_check.specs.FirstFault.{or_else, first_fault_of, Tells}
+use Rattle.rat_check.specs.FirstFault.{or_else, first_fault_of}
 use Rattle.rat_link.specs.Linking.{IsClean, AreClean, IsAccepted}
 use Rattle.rat_lower.specs.Served.{AllServe}
 use Rattle.front.specs.Checked.{Meaning, Means}
@@ -29,10 +25,6 @@ use Rattle.front.specs.Laws.{UnitsServe}
 pub no_first : (us : List RatRoutine) → AreClean us → first_fault_of us ≡ None
 no_first [] h = refl
 no_first (u ∷ us) h = ap (λ o. or_else o (first_fault_of us)) (All-head IsClean u us h).rules ∙ no_first us (All-tail IsClean u us h)
-
--- a refusal of the checks tells their first fault
-pub told_of : (o : Option Fault) (r : Refusal) (f : Fault) → r ≡ refusals.Fault f → Tells {A = Vec AUnit Global} (Err r) o → o ≡ Some f
-told_of o r f e h = subst (λ (s : Refusal). Tells {A = Vec AUnit Global} (Err s) o) e h
 
 pub all_sound : (us : List RatRoutine) (finish : Place) (made : List AUnit) → AllServe us finish made → All IsSoundUnit (map routine_of made)
 all_sound [] finish [] h = All-nil IsSoundUnit

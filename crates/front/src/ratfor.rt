@@ -1,9 +1,7 @@
 // From the tokens of a Ratfor text to its units.
-ghost use Rattle.std.specs.Prelude.{◌≤◌, length, IfOk};
+ghost use Rattle.std.specs.Prelude.{◌≤◌, length};
 ghost use Rattle.rat_tree.specs.Views.{program_of as tree_of};
 ghost use Rattle.rat_lower.specs.Lowered.{AllHaveRoom};
-ghost use Rattle.rat_lower.specs.Served.{AllServe};
-ghost use Rattle.rat_link.specs.Linking.{IsAccepted};
 ghost use Rattle.macro_define.specs.GatherAnswers.{EndsText};
 ghost use Rattle.front.specs.Programs.{PassWhereServed};
 ghost use Rattle.front.specs.Ratfor.{IsJudged, IsRatfor};
@@ -12,11 +10,10 @@ ghost use Rattle.front.specs.Translated.{Finds};
 use crate::Made;
 use crate::laws::units_serve;
 use deck_room::serving_units_pass_no_limit;
-use f66_tree::Unit;
-use ground::{List, Memory, Refusal, Token};
+use ground::{List, Refusal, Token};
 use rat_grammar::{answers_are_published, parse};
 use rat_link::check_program;
-use rat_lower::lower;
+use rat_lower::lower_accepted;
 use rat_room::{parsed_has_few_units, parsed_has_room};
 use rat_tree::RatProgram;
 use std::alloc::Global;
@@ -46,22 +43,9 @@ fn made_of(alloc: Global, program: &RatProgram) -> Result<Made, Refusal>
 {
     check_program(alloc, program)?;
     units_serve();
-    let units = lowered_units(alloc, program)?;
+    let units = lower_accepted(alloc, program)?;
     Ok(Made {
         units,
         finish: program.finish,
     })
-}
-
-/// The units of a tree that is accepted. An error is want of memory.
-fn lowered_units(alloc: Global, program: &RatProgram) -> Result<List<Unit>, Memory>
-    requires room { AllHaveRoom (tree_of program.now).routines }
-    requires accepted { IsAccepted (tree_of program.now) }
-    ensures { IfOk result (λ made. AllServe (tree_of program.now).routines program.now.finish made.items) }
-{
-    match lower(alloc, program) {
-        Ok(units) => Ok(units),
-        Err(Refusal::Memory) => Err(Memory),
-        Err(Refusal::Fault(_)) => unreachable!(),
-    }
 }

@@ -42,9 +42,6 @@ impl Before {
     {
         self.begun = self.begun || part.form.begins(part.label);
         self.said += said;
-        match part.label {
-            None => Ok(()),
-            Some(label) => self.labels.insert(label),
-        }
+        self.labels.insert_if(part.label)
     }
 }

@@ -1,6 +1,6 @@
 // Sets of labels.
 ghost use Rattle.std.specs.Prelude.{◌≡◌, [], length, take, OnOk, IfOk};
-ghost use Rattle.rat_check.specs.Survey.{is_among, adding};
+ghost use Rattle.rat_check.specs.Survey.{is_among, adding, adding_if};
 
 use ground::List;
 use indexmap::IndexSet;
@@ -48,6 +48,15 @@ impl LabelSet {
     {
         self.labels.insert(label)?;
         Ok(())
+    }
+
+    pub fn insert_if(&mut self, label: Option<u32>) -> Result<(), AllocError>
+        ensures { OnOk result (self.new ≡ adding_if label self.old) }
+    {
+        match label {
+            None => Ok(()),
+            Some(label) => self.insert(label),
+        }
     }
 
     /// The labels as a list.

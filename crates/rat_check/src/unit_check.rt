@@ -35,6 +35,25 @@ pub fn check(alloc: Global, unit: &RatUnit) -> Result<List<u32>, Refusal>
     check_rules(alloc, &names, unit.place, &parts)
 }
 
+/// The labels of a unit's statements, each once.
+pub fn labels_of(alloc: Global, body: &[RatStmt]) -> Result<List<u32>, AllocError>
+    ensures { IfOk result (λ labels. labels.items ≡ own_labels (unit_parts (commands body.now)) []) }
+{
+    let parts = parts_of(alloc, body)?;
+    let labels = labels_in(alloc, &parts)?;
+    labels.into_list(alloc)
+}
+
+fn labels_in(alloc: Global, parts: &[Part]) -> Result<LabelSet, AllocError>
+    ensures { IfOk result (λ labels. labels ≡ own_labels (parts_seen parts.now) []) }
+{
+    let mut labels = LabelSet::new(alloc);
+    for part in parts {
+        labels.insert_if(part.label)?;
+    }
+    Ok(labels)
+}
+
 /// Checks a unit at this place of these parts by the rules.
 fn check_rules(
     alloc: Global,

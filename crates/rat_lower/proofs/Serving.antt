@@ -1,5 +1,5 @@
 -- One unit more: its room, the faults of those that are left, and what serves for those so far.
-use Rattle.std.proofs.Common.{◌≡◌, ◌+◌, ◌<◌, ℕ, zero, suc, arith, add-one, List, [], ◌∷◌, ◌++◌, length, get_or, take, drop, map, Some, None, sym, ap, ◌∙◌, subst}
+use Rattle.std.proofs.Common.{◌≡◌, ◌+◌, ◌<◌, ℕ, zero, suc, arith, add-one, List, [], ◌∷◌, ◌++◌, length, get_or, take, drop, map, Option, Some, None, refl, sym, ap, ◌∙◌, subst}
 use Rattle.std.proofs.lemmas.List.{get_or-map, length-map}
 use Rattle.std.specs.Prelude.{Err}
 use Rattle.ground.specs.declared.place.Place.{Place}
@@ -34,6 +34,25 @@ fault_behind_all (v ∷ us) (suc i) u f within here told = fault_behind_all us i
 pub fault_told : (A B : Type 0) (us : List RatUnit) (i : ℕ) (u : RatUnit) (r : Refusal) → i < length us → u ≡ get_or us i u → Tells {A = A} (Err r) (unit_fault (rat_routine_of u)) → Tells {A = B} (Err r) (first_fault_of (map rat_routine_of (drop i us)))
 fault_told A B us i u (Faulty f) within here told = fault_behind_all us i u f within here told
 fault_told A B us i u Memory within here told = tt
+
+-- a refusal tells the same of any result
+pub told_as : (A B : Type 0) (r : Refusal) (o : Option Fault) → Tells {A = A} (Err r) o → Tells {A = B} (Err r) o
+told_as A B (Faulty f) o told = told
+told_as A B Memory o told = tt
+
+first_none : (o p : Option Fault) → or_else o p ≡ None → o ≡ None
+first_none None p none = refl
+first_none (Some f) p none = cc
+
+other_none : (o p : Option Fault) → or_else o p ≡ None → p ≡ None
+other_none None p none = none
+other_none (Some f) p none = cc
+
+-- where no unit has a fault, each has none
+pub none_told : (us : List RatUnit) (i : ℕ) (u : RatUnit) → i < length us → u ≡ get_or us i u → first_fault_of (map rat_routine_of us) ≡ None → unit_fault (rat_routine_of u) ≡ None
+none_told [] i u within here none = absurd (omega arith)
+none_told (v ∷ us) zero u within here none = subst (λ (w : RatUnit). unit_fault (rat_routine_of w) ≡ None) (sym here) (first_none _ _ none)
+none_told (v ∷ us) (suc i) u within here none = none_told us i u (omega arith) here (other_none _ _ none)
 
 serves_behind : (us : List RatUnit) (finish : Place) (made : List AUnit) (i : ℕ) (u : RatUnit) (unit : AUnit) → i < length us → u ≡ get_or us i u → AllServe (map rat_routine_of (take i us)) finish made → Serves (rat_routine_of u) finish unit
     → AllServe (map rat_routine_of (take (suc i) us)) finish (made ++ unit ∷ [])

@@ -21,7 +21,7 @@ use lines::{
 };
 use maker::Maker;
 use names::names_in;
-pub use program::lower;
+pub use program::{lower, lower_accepted};
 use routine::lower_unit;
 use switches::have_switch;
 use unit::lower_body;

@@ -1,14 +1,15 @@
 // From a program of Ratfor to units of FORTRAN.
-ghost use Rattle.std.specs.Prelude.{IfOk};
-ghost use Rattle.rat_tree.specs.Views.{program_of};
-ghost use Rattle.rat_check.specs.FirstFault.{Tells, first_fault};
+ghost use Rattle.std.specs.Prelude.{◌≡◌, map, None, IfOk};
+ghost use Rattle.rat_tree.specs.Views.{program_of, rat_routine_of};
+ghost use Rattle.rat_check.specs.FirstFault.{Tells, first_fault, first_fault_of};
 ghost use Rattle.rat_lower.specs.Lowered.{AllHaveRoom};
 ghost use Rattle.rat_lower.specs.Served.{AllServe};
 
 use crate::lower_unit;
 use f66_tree::Unit;
-use ground::{List, Refusal};
-use rat_tree::RatProgram;
+use ground::{List, Memory, Refusal};
+use rat_check::check;
+use rat_tree::{RatProgram, RatUnit};
 use std::alloc::Global;
 
 /// The units of FORTRAN that do what those of a program do, each in its place, or the first fault of the checks. Each is sound
@@ -18,11 +19,36 @@ pub fn lower(alloc: Global, program: &RatProgram) -> Result<List<Unit>, Refusal>
     ensures fault { Tells result (first_fault (program_of program.now)) }
     ensures serves { IfOk result (λ made. AllServe (program_of program.now).routines program.now.finish made.items) }
 {
+    match check_units(alloc, &program.units) {
+        Ok(()) => Ok(lower_accepted(alloc, program)?),
+        Err(refusal) => Err(refusal),
+    }
+}
+
+/// Checks the units one by one.
+fn check_units(alloc: Global, units: &[RatUnit]) -> Result<(), Refusal>
+    ensures { Tells result (first_fault_of (map rat_routine_of units.now)) }
+{
+    for unit in units {
+        match check(alloc, unit) {
+            Ok(_) => {}
+            Err(refusal) => return Err(refusal),
+        }
+    }
+    Ok(())
+}
+
+/// The same of a program in which the checks find no fault, which are not made again.
+pub fn lower_accepted(alloc: Global, program: &RatProgram) -> Result<List<Unit>, Memory>
+    requires room { AllHaveRoom (program_of program.now).routines }
+    requires accepted { first_fault (program_of program.now) ≡ None }
+    ensures { IfOk result (λ made. AllServe (program_of program.now).routines program.now.finish made.items) }
+{
     let mut made = Vec::new(alloc);
     for unit in &program.units {
         let unit = lower_unit(alloc, unit, program.finish)?;
         let Ok(()) = made.push(unit) else {
-            return Err(Refusal::Memory);
+            return Err(Memory);
         };
     }
     Ok(made)

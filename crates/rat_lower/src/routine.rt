@@ -1,24 +1,24 @@
 // From a unit of Ratfor to one of FORTRAN.
-ghost use Rattle.std.specs.Prelude.{IfOk};
+ghost use Rattle.std.specs.Prelude.{◌≡◌, None, IfOk};
 ghost use Rattle.rat_tree.specs.Views.{rat_routine_of};
-ghost use Rattle.rat_check.specs.FirstFault.{Tells, unit_fault};
+ghost use Rattle.rat_check.specs.FirstFault.{unit_fault};
 ghost use Rattle.rat_lower.specs.Lowered.{HasRoom};
 ghost use Rattle.rat_lower.specs.Served.{Serves};
 
 use crate::{copy_header, lower_body, names_in};
 use f66_tree::Unit;
-use ground::{Place, Refusal};
-use rat_check::check;
+use ground::{Memory, Place};
+use rat_check::labels_of;
 use rat_tree::RatUnit;
 use std::alloc::Global;
 
-/// The unit of FORTRAN that does what a unit does whose text ends at `finish`, or the unit's fault.
-pub fn lower_unit(alloc: Global, unit: &RatUnit, finish: Place) -> Result<Unit, Refusal>
+/// The unit of FORTRAN that does what a unit does in which the checks find no fault and whose text ends at `finish`.
+pub fn lower_unit(alloc: Global, unit: &RatUnit, finish: Place) -> Result<Unit, Memory>
     requires room { HasRoom (rat_routine_of unit.now) }
-    ensures fault { Tells result (unit_fault (rat_routine_of unit.now)) }
-    ensures serves { IfOk result (λ made. Serves (rat_routine_of unit.now) finish made) }
+    requires accepted { unit_fault (rat_routine_of unit.now) ≡ None }
+    ensures { IfOk result (λ made. Serves (rat_routine_of unit.now) finish made) }
 {
-    let labels = check(alloc, unit)?;
+    let labels = labels_of(alloc, &unit.body)?;
     let names = names_in(alloc, unit)?;
     let statements = lower_body(alloc, names, &labels, unit, finish)?;
     let header = copy_header(alloc, &unit.header)?;
