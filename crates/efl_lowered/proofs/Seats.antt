@@ -1,11 +1,10 @@
 -- The names that have a place of a unit's own: its variables that are no formals, its temporaries, and a function's own name. Each has a
 -- storage unit that no other has.
-use Rattle.std.proofs.Common.{◌≡◌, ℕ, zero, suc, ◌≤◌, ℤ, pos, ◌-ℤ◌, Bool, true, false, true≢false, List, [], ◌∷◌, map, Option, None, Some, refl, sym, ap, ◌∙◌, subst, arith, if◌then◌else◌, ◌||◌, ◌&&◌, not}
+use Rattle.std.proofs.Common.{◌≡◌, ℕ, zero, suc, ◌≤◌, pos, ◌-ℤ◌, Bool, true, false, true≢false, List, [], ◌∷◌, map, Option, None, Some, refl, sym, ap, ◌∙◌, subst, arith, if◌then◌else◌, ◌||◌, ◌&&◌, not}
 use Rattle.std.specs.Prelude.{nat_eq, nat_le, nat_lt, is_none, is_some, unwrap_or}
 use Rattle.std.specs.List.{list_any, slice_get}
 use Rattle.std.specs.Option.{option_map}
 use Rattle.std.specs.Str.{bytes_eq}
-use Rattle.std.proofs.lemmas.Int.{ints}
 use Rattle.std.proofs.lemmas.Bool.{and_parts, and_from, eqb-true, eq-eqb, ltb-true, le-leb}
 use Rattle.rule_table.specs.Words.{is_some_and}
 use Rattle.std.proofs.lemmas.Option.{none-some, same_Some}
@@ -15,8 +14,9 @@ use Rattle.f66_tree.specs.Syntax.{Text, MainUnit}
 use Rattle.f66_tree.specs.Units.{Context, dummies_of, places_of, Linkage}
 use Rattle.f66_tree.specs.Evaluation.{Intrinsic}
 use Rattle.f66_program.specs.Mentions.{context_of, has_places, is_dummy, is_own_value, is_variable, is_function as names_function, mentioned, declares}
-use Rattle.f66_program.specs.Association.{Row, Own, Block, IsSame, by_tie, itself, back, onward, size_in, IsReal}
+use Rattle.f66_program.specs.Association.{Row, Own, Block, IsSame, size_in, IsReal}
 use Rattle.f66_program.specs.Linking.{IsLinkage}
+use Rattle.f66_program.proofs.Untied.{not_tied}
 use Rattle.efl_tree.specs.Syntax.{EflProcedure, EflProgram}
 use Rattle.efl_scope.specs.Marks.{program_variables}
 use Rattle.efl_types.specs.Signatures.{Result, Nothing, Gives, Unknown, result_of}
@@ -31,12 +31,6 @@ use Rattle.efl_lowered.proofs.UnitLemmas.{Rs, unit_at, no_dummy, unit_declares, 
 use Rattle.efl_lowered.proofs.Apart.{is_typed, is_kind, same_kind, typed_in, unlike, same_variable, same_temporary, variable_no_temporary, variable_no_procedure, variable_no_intrinsic, temporary_no_procedure, temporary_no_intrinsic}
 
 -- ---- rows ----
-
-not_tied : {a b : Row} {d : ℤ} → IsSame [] a b d → (a ≡ b) × (d ≡ pos 0)
-not_tied (by_tie t c) = absurd (omega (arith, c.1))
-not_tied (itself a) = (refl, refl)
-not_tied (back h) = (let w = not_tied h in (sym w.0, omega (arith, ints, w.1)))
-not_tied (onward h k) = (let v = not_tied h in let w = not_tied k in (v.0 ∙ w.0, omega (arith, ints, v.1, w.1)))
 
 abbrev unit_in : Row → ℕ
 unit_in (Own u x) = u

@@ -13,7 +13,7 @@ use Rattle.plain_units.proofs.Places.{first_at, first_some, first_is}
 use Rattle.efl_typed.proofs.Each.{Each}
 use Rattle.efl_lowered.proofs.Lists.{same_text, text_is}
 use Rattle.efl_lowered.proofs.TypedChecks.{at_each}
-use Rattle.efl_plain.proofs.Associated.{not_tied}
+use Rattle.f66_program.proofs.Untied.{not_tied}
 use Rattle.efl_plain.proofs.Distinct.{IsOther, Distinct, one_place}
 
 -- ---- the texts of a list that pass, each once ----

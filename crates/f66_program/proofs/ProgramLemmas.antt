@@ -1,15 +1,15 @@
 -- A program of units of which none is bad is not bad.
-use Rattle.std.proofs.Common.{◌≡◌, ◌≤◌, ℕ, suc, ℤ, pos, List, [], ◌∷◌, cond, sym, ◌∙◌, refl, arith, inl, inr, subst, eqb}
-use Rattle.std.proofs.lemmas.Int.{ints}
+use Rattle.std.proofs.Common.{◌≡◌, ◌≤◌, ℕ, suc, List, [], ◌∷◌, cond, sym, refl, arith, inl, inr, subst, eqb}
 use Rattle.std.proofs.lemmas.Bool.{eq-eqb, ne_eqb}
 use Rattle.std.proofs.lemmas.Bool.{cases_eq}
 use Rattle.std.proofs.lemmas.List.Elements.{All-nil, All-head, All-tail, All-contains, Contains-append_cases}
 use Rattle.std.specs.List.{All, Contains}
 use Rattle.f66_tree.specs.Syntax.{Routine}
 use Rattle.f66_program.specs.Mentions.{context_of}
-use Rattle.f66_program.specs.Association.{Row, Tie, IsSame, by_tie, itself, back, onward, AreBad, twice, joined, before, IsBadUnit, not_filled, unit_ties, ties_from, ties_of}
+use Rattle.f66_program.specs.Association.{Tie, AreBad, IsBadUnit, not_filled, unit_ties, ties_from, ties_of}
 use Rattle.f66_program.proofs.WholeLemmas.{whole_good}
 use Rattle.f66_program.proofs.TieLemmas.{IsOwnTie, own_lines, bad_unit}
+use Rattle.f66_program.proofs.Untied.{none_bad}
 
 -- the ties of the unit with a number, where the first has the number s
 ties_in : ℕ → List Routine → ℕ → List Tie
@@ -39,20 +39,9 @@ owned s (r ∷ rs) u = elim (cases_eq u s) [
   | inr ne ↦ (let t = ne_eqb u s ne in rw t (owned (suc s) rs u))
 ]
 
-not_tied : {a b : Row} {d : ℤ} → IsSame [] a b d → (a ≡ b) × (d ≡ pos 0)
-not_tied (by_tie t c) = absurd (omega (arith, c.1))
-not_tied (itself a) = (refl, refl)
-not_tied (back h) = (let w = not_tied h in (sym w.0, omega (arith, ints, w.1)))
-not_tied (onward h k) = (let v = not_tied h in let w = not_tied k in (v.0 ∙ w.0, omega (arith, ints, v.1, w.1)))
-
-not_bad : ¬ AreBad []
-not_bad (twice ne h) = ne (not_tied h).1
-not_bad (joined ne h) = ne (let e = (not_tied h).0 in cc)
-not_bad (before less h) = (let e = (not_tied h).1 in absurd (omega (arith, ints, less, e)))
-
 good : (s : ℕ) (rs : List Routine) → All (λ r. ¬ IsBadUnit r) rs → (u : ℕ) → ¬ AreBad (ties_in s rs u)
 unfolding ties_in
-good s [] w u b = not_bad b
+good s [] w u b = none_bad b
 good s (r ∷ rs) w u b = elim (cases_eq u s) [
   | inl e ↦ (let t = eq-eqb u s e in All-head (λ r. ¬ IsBadUnit r) r rs w (bad_unit u r (rw t at b)))
   | inr ne ↦ (let t = ne_eqb u s ne in good (suc s) rs (All-tail (λ r. ¬ IsBadUnit r) r rs w) u (rw t at b))
