@@ -43,7 +43,8 @@ use Rattle.code_validity.proofs.Values as values
 use Rattle.code_validity.proofs.Values.{arguments_stand}
 use Rattle.code_validity.proofs.Pieces as pieces
 use Rattle.code_validity.proofs.Lists as lists
-use Rattle.code_validity.proofs.Lists.{FitEntries, counts_of}
+use Rattle.f66_soundness.proofs.FitLemmas.{FitEntries}
+use Rattle.code_validity.proofs.Lists.{counts_of}
 
 module _ (plans : List Fields) (callee : ℕ → ℕ → Type 0) (units n : ℕ) (y : Layout) (u : ℕ) (c : Context) (site : Site callee (length plans) units n y u c) where
   abbrev d : Context

@@ -1,5 +1,5 @@
 -- The code of a READ or WRITE, and of its list, leaves what it found: each item is taken or put while the record statement is open.
-use Rattle.std.proofs.Common.{◌≡◌, ℕ, suc, ◌+◌, ◌<◌, ◌≤◌, Bool, true, false, true≢false, not, ◌&&◌, ◌||◌, List, [], ◌∷◌, ◌++◌, length, Some, None, refl, sym, ap, ◌∙◌, subst, arith}
+use Rattle.std.proofs.Common.{◌≡◌, ℕ, suc, ◌+◌, ◌<◌, ◌≤◌, true, false, true≢false, ◌&&◌, List, [], ◌∷◌, ◌++◌, length, Some, None, refl, sym, ap, ◌∙◌, subst, arith}
 use Rattle.std.proofs.lemmas.Bool.{and_parts, or_parts, eqb-true}
 use Rattle.ground.specs.declared.value.Kind.{Kind}
 use Rattle.f66_tree.specs.declared.editing.Way.{Way}
@@ -7,14 +7,11 @@ use Rattle.f66_tree.specs.declared.editing.Way.TheVariants.{Reading, Writing}
 use Rattle.f66_tree.specs.Syntax.{Text, Formula, Ref, Item, Formulas, Par, Entry, One, Many, Entries, NoEntry, AndEntry}
 use Rattle.f66_tree.specs.Units.{Context, kind_of, sizes_of}
 use Rattle.f66_tree.specs.Evaluation.{Sort, AnArray, AnIntrinsic, AFunction, sort_of}
-use Rattle.f66_names.specs.Shapes.{stand_all, is_parameter, is_item, are_items, are_some_items}
+use Rattle.f66_names.specs.Shapes.{stand_all, is_parameter, are_some_items}
 use Rattle.f66_names.specs.Sorts.{form_by, name_form, is_array_form, is_array_name, is_integer, takes}
-use Rattle.f66_names.specs.Uses.{many, uses_of_entry, uses_of_entries}
-use Rattle.f66_names.specs.Kinds.{are_subscripts, is_counting, is_listed, counts, is_entry, are_entries}
-use Rattle.f66_names.specs.NameRules.{miscounts}
-use Rattle.f66_names.specs.StoreRules.{stores_item, stores_entry, store_entries}
-use Rattle.f66_soundness.proofs.KindLemmas.{none_of_both}
-use Rattle.f66_soundness.proofs.ValueLemmas.{FitCounts}
+use Rattle.f66_names.specs.Uses.{many}
+use Rattle.f66_names.specs.Kinds.{are_subscripts, is_counting, counts, are_entries}
+use Rattle.f66_soundness.proofs.FitLemmas.{FitEntries, FitEntry, first_fit, others_fit, inner_fit, element_fit}
 use Rattle.f66_soundness.proofs.StatementLemmas.{stored_takes}
 use Rattle.stack_code.specs.declared.shape.EntryKind.{EntryKind}
 use Rattle.stack_code.specs.declared.shape.EntryKind.TheVariants as e
@@ -43,56 +40,7 @@ after_row Reading k m n plan s =
 after_row Writing k m n plan s =
     ap (λ q. and_then (and_then q (λ t. and_then (pops e.Log 0 t) (pops e.Spot 1))) (λ t. Some (fact n (Some (plan, Writing)) t))) (pops_more e.Int m (e.Spot ∷ s))
 
--- ---- what the rules say of a list ----
-
-pub record FitEntries (way : Way) (c : Context) (es : Entries) : Type 0 where
-  pub shapes : are_items es ≡ true
-  pub kinds : are_entries way c es ≡ true
-  pub stores : store_entries way c es ≡ true
-  pub counts : FitCounts c (uses_of_entries es)
-
-record FitEntry (way : Way) (c : Context) (a : Entry) : Type 0 where
-  shape : is_item a ≡ true
-  kind : is_entry way c a ≡ true
-  store : stores_entry way c a ≡ true
-  count : FitCounts c (uses_of_entry a)
-
-first_fit : (way : Way) (c : Context) (a : Entry) (es : Entries) → FitEntries way c (AndEntry a es) → FitEntry way c a
-first_fit way c a es h = record {
-  shape = (and_parts (is_item a) _ h.shapes).0;
-  kind = (and_parts (is_entry way c a) _ h.kinds).0;
-  store = (and_parts (stores_entry way c a) _ h.stores).0;
-  count = (none_of_both (miscounts c) (uses_of_entry a) (uses_of_entries es) h.counts).0;
-}
-
-others_fit : (way : Way) (c : Context) (a : Entry) (es : Entries) → FitEntries way c (AndEntry a es) → FitEntries way c es
-others_fit way c a es h = record {
-  shapes = (and_parts (is_item a) _ h.shapes).1;
-  kinds = (and_parts (is_entry way c a) _ h.kinds).1;
-  stores = (and_parts (stores_entry way c a) _ h.stores).1;
-  counts = (none_of_both (miscounts c) (uses_of_entry a) (uses_of_entries es) h.counts).1;
-}
-
-some_are_items : (es : Entries) → are_some_items es ≡ true → are_items es ≡ true
-some_are_items NoEntry h = refl
-some_are_items (AndEntry a es) h = h
-
-inner_fit : (way : Way) (c : Context) (es : Entries) (x : Text) (p q r : Par) → FitEntry way c (Many es x p q r) → FitEntries way c es
-inner_fit way c es x p q r h = record {
-  shapes = some_are_items es (and_parts (are_some_items es) _ h.shape).0;
-  kinds = (and_parts (are_entries way c es) _ h.kind).0;
-  stores = (and_parts (store_entries way c es) _ h.store).0;
-  counts = (none_of_both (miscounts c) (uses_of_entries es) _ h.count).0;
-}
-
--- an item with parentheses is an element, with fit subscripts
-element_fit : (way : Way) (c : Context) (x : Text) (es : Formulas) → is_listed way c (Item x es) ≡ true → stores_item way c (Item x es) ≡ true → (is_array_name c x ≡ true) × (are_subscripts c es ≡ true)
-element_fit Writing c x es h g = and_parts (is_array_name c x) _ h
-element_fit Reading c x es h g = (g, subscripted (is_array_name c x) _ g h)
-  where
-    subscripted : (b d : Bool) → b ≡ true → (not b || d) ≡ true → d ≡ true
-    subscripted true d p q = q
-    subscripted false d p q = absurd (true≢false (sym p))
+-- ---- what the rules say of a DO ----
 
 -- the variable and the parameters of a DO
 pub record Counts (c : Context) (p q r : Par) : Type 0 where

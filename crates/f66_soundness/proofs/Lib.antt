@@ -3,6 +3,8 @@ pub mod RightlyLemmas
 pub mod KindLemmas
 pub mod ContentLemmas
 pub mod ValueLemmas
+pub mod StepLemmas
+pub mod FitLemmas
 pub mod StatementLemmas
 pub mod RecordLemmas
 pub mod RunLemmas

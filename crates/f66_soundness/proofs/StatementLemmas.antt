@@ -1,16 +1,15 @@
 -- In a main unit each plain statement that the rules let pass, the start and the turn of a DO among them, never ends Wrong.
-use Rattle.std.proofs.Common.{◌≡◌, ℕ, zero, suc, Bool, true, false, List, [], ◌∷◌, subst, ⊎_elim}
-use Rattle.std.specs.Prelude.{pos, negsuc, ◌+ℤ◌, int_le, not, ◌&&◌, ◌||◌, ⊤}
+use Rattle.std.proofs.Common.{◌≡◌, ℕ, Bool, true, false, List, subst, ⊎_elim}
+use Rattle.std.specs.Prelude.{◌+ℤ◌, int_le, not, ◌&&◌, ◌||◌, ⊤}
 use Rattle.std.proofs.lemmas.Bool.{and_parts, or_parts, or_cases, not-false, eqb-true}
-use Rattle.ground.specs.declared.trap.Trap.TheVariants.{BadDo}
 use Rattle.ground.specs.declared.value.Kind.{Kind}
 use Rattle.ground.specs.declared.value.Kind.TheVariants.{Integer, Logical}
 use Rattle.ground.specs.Content.{Content, Nothing, Whole}
 use Rattle.f66_tree.specs.Syntax.{Text, Formula, Ref, Item, Formulas, Par, Constant, Named}
-use Rattle.f66_tree.specs.World.{Store, World, Gives, bind, Yields, Traps, settle}
+use Rattle.f66_tree.specs.World.{Store, World, Gives, bind, settle}
 use Rattle.f66_tree.specs.Units.{Context, kind_of, sizes_of, Spot, Held, Lent, Linkage, Setting, Frame}
 use Rattle.f66_tree.specs.Evaluation.{Sort, AnArray, AnIntrinsic, AFunction, sort_of, ticked, load, store_at, stored, variable_in, par_in, place_by, value_of, values_of, locate}
-use Rattle.f66_tree.specs.Statements.{Normal, To, LoopParameters, fit_loop_in, loop_start, turn_of, loop_turn, nth, label_at, by_sign_of}
+use Rattle.f66_tree.specs.Statements.{Normal, To, LoopParameters, fit_loop_in, loop_start, turn_of, loop_turn, label_at, by_sign_of}
 use Rattle.f66_tree.proofs.Tries.{IsOfKind, TriesRightly, if_both}
 use Rattle.f66_names.specs.declared.name_form.NameForm.{NameForm}
 use Rattle.f66_names.specs.declared.name_form.NameForm.TheVariants as forms
@@ -25,34 +24,12 @@ use Rattle.f66_soundness.specs.SoundUnits.{in_main}
 use Rattle.f66_soundness.proofs.RightlyLemmas.{bind_rightly, bind_any, settle_rightly}
 use Rattle.f66_soundness.proofs.KindLemmas.{integer_only, subscripts_whole}
 use Rattle.f66_soundness.proofs.ContentLemmas.{AreWhole}
+use Rattle.f66_soundness.proofs.StepLemmas.{label_rightly, branch_rightly, loop_fits}
 use Rattle.f66_soundness.proofs.ValueLemmas.{FitSort, array_fit, Main, setting_of, FitCounts, load_rightly, variable_rightly, element_rightly, value_rightly, values_rightly}
 
 stored_rightly : (l : Linkage) (p : Spot) (v : Content) (st : Store) → TriesRightly (λ _. ⊤) (stored l p v st)
 stored_rightly l (Held u x o) v st = tt
 stored_rightly l (Lent c) v st = tt
-
-nth_rightly : (ls : List ℕ) (n : ℕ) → TriesRightly (λ _. ⊤) (nth ls n)
-nth_rightly [] n = tt
-nth_rightly (l ∷ ls) zero = tt
-nth_rightly (l ∷ ls) (suc n) = nth_rightly ls n
-
-label_rightly : (ls : List ℕ) (v : Content) → IsOfKind Integer v → TriesRightly (λ _. ⊤) (label_at ls v)
-label_rightly ls (Whole (pos (suc n))) h = nth_rightly ls n
-label_rightly ls (Whole (pos zero)) h = tt
-label_rightly ls (Whole (negsuc n)) h = tt
-label_rightly ls _ h = absurd h
-
-branch_rightly : (n m k : ℕ) (v : Content) → IsOfKind Integer v → TriesRightly (λ _. ⊤) (by_sign_of n m k v)
-branch_rightly n m k (Whole (negsuc z)) h = tt
-branch_rightly n m k (Whole (pos zero)) h = tt
-branch_rightly n m k (Whole (pos (suc z))) h = tt
-branch_rightly n m k _ h = absurd h
-
-loop_fits : (a b d : Content) → IsOfKind Integer a → IsOfKind Integer b → IsOfKind Integer d → TriesRightly (λ _. ⊤) (fit_loop_in a b d)
-loop_fits (Whole a) (Whole b) (Whole d) h i j = if_both (TriesRightly (λ _. ⊤)) (int_le (pos 1) a && int_le a b && int_le (pos 1) d) (Yields (record { limit = b; step = d })) (Traps BadDo) tt tt
-loop_fits (Whole a) (Whole b) d h i j = absurd j
-loop_fits (Whole a) b d h i j = absurd i
-loop_fits a b d h i j = absurd h
 
 pub stored_takes : (form : NameForm) (n : ℕ) → is_array_form form ≡ true → miscounts_by form (Stored n) ≡ false → takes form n ≡ true
 stored_takes (forms.Array k) n e h = not-false _ h

@@ -1,65 +1,40 @@
 -- A READ or WRITE that the rules let pass, by a FORMAT that is there, never ends Wrong, whatever its list is: items, whole arrays,
 -- adjustable ones among them, and implied DOs.
-use Rattle.std.proofs.Common.{◌≡◌, ℕ, zero, suc, ◌+◌, Bool, true, false, List, [], ◌∷◌, length, sym, subst}
-use Rattle.std.specs.Prelude.{ℤ, is_some, not, ◌||◌, pos, negsuc, ◌*◌, ⊤, int_le, ◌&&◌}
+use Rattle.std.proofs.Common.{◌≡◌, ℕ, zero, suc, ◌+◌, true, List, [], ◌∷◌, length, sym, subst}
+use Rattle.std.specs.Prelude.{is_some, ⊤}
 use Rattle.std.specs.List.{list_all}
 use Rattle.std.proofs.lemmas.Bool.{and_parts, or_parts}
 use Rattle.ground.specs.declared.value.Kind.{Kind}
 use Rattle.ground.specs.declared.value.Kind.TheVariants.{Integer}
-use Rattle.ground.specs.Content.{Content, Whole}
-use Rattle.ground.specs.declared.trap.Trap.TheVariants.{BadUnit}
-use Rattle.ground.specs.declared.place.Place.{Place}
 use Rattle.f66_tree.specs.declared.editing.Way.{Way}
 use Rattle.f66_tree.specs.declared.editing.Way.TheVariants.{Reading, Writing}
-use Rattle.f66_tree.specs.Syntax.{Text, Formula, Ref, Item, Formulas, Par, Entry, One, Many, Entries, NoEntry, AndEntry}
-use Rattle.f66_tree.specs.World.{World, Out, Gives, Try, Yields, settle, Tape, Move, Moves, Breaks, Misses, moving, Traps}
+use Rattle.f66_tree.specs.Syntax.{Text, Formula, Ref, Item, Par, Entry, One, Many, Entries, NoEntry, AndEntry}
+use Rattle.f66_tree.specs.World.{World, Out, Gives, settle}
 use Rattle.f66_tree.specs.Records.{due, put, take, closed}
 use Rattle.f66_tree.specs.Units.{Context, kind_of, format_of, sizes_of, Spot, Setting, Frame, around}
 use Rattle.f66_tree.specs.Evaluation.{ticked, load, par_in, pars_in, moved, locate}
-use Rattle.f66_tree.specs.Statements.{LoopParameters, loop_start, loop_turn, taped, taken_content, transfer, edited, row, times, extent, one_or_row, item, item_turns, items, entry, on_unit, opened_by, record_by, unit_for}
-use Rattle.f66_tree.proofs.EditLemmas.{MovesRightly, Awaits, due_rightly, put_rightly, take_rightly, opened_rightly, closed_rightly}
-use Rattle.f66_tree.proofs.Tries.{if_both, IsOfKind, TriesRightly, then_rightly}
+use Rattle.f66_tree.specs.Statements.{LoopParameters, loop_start, loop_turn, taped, taken_content, transfer, edited, row, extent, one_or_row, item, item_turns, items, entry, on_unit, opened_by, record_by}
+use Rattle.f66_tree.proofs.EditLemmas.{Awaits, due_rightly, put_rightly, take_rightly, opened_rightly, closed_rightly}
+use Rattle.f66_tree.proofs.Tries.{IsOfKind}
 use Rattle.f66_names.specs.Shapes.{is_item, are_items, are_some_items}
-use Rattle.f66_names.specs.Sorts.{name_form, is_array_name, is_integer}
+use Rattle.f66_names.specs.Sorts.{name_form, is_integer}
 use Rattle.f66_names.specs.Uses.{many, uses_of_entry, uses_of_entries}
-use Rattle.f66_names.specs.Kinds.{are_subscripts, is_counting, is_listed, counts, is_entry, are_entries}
+use Rattle.f66_names.specs.Kinds.{is_counting, counts, is_entry, are_entries}
 use Rattle.f66_names.specs.NameRules.{miscounts}
-use Rattle.f66_names.specs.StoreRules.{stores_item, stores_entry, store_entries}
-use Rattle.f66_soundness.specs.Rightly.{NeverWrong, Rightly}
+use Rattle.f66_names.specs.StoreRules.{stores_entry, store_entries}
+use Rattle.f66_soundness.specs.Rightly.{NeverWrong}
 use Rattle.f66_soundness.proofs.RightlyLemmas.{bind_rightly, bind_any, settle_here, settle_rightly, choose_rightly}
 use Rattle.f66_soundness.proofs.KindLemmas.{none_of_both}
-use Rattle.f66_soundness.proofs.ContentLemmas.{AllWhole, AreWhole, asked_rightly, moved_rightly}
+use Rattle.f66_soundness.proofs.ContentLemmas.{AreWhole, asked_rightly, moved_rightly}
 use Rattle.f66_soundness.proofs.ValueLemmas.{FitCounts}
+use Rattle.f66_soundness.proofs.StepLemmas.{taped_rightly, unit_rightly, extent_rightly}
+use Rattle.f66_soundness.proofs.FitLemmas.{some_are_items, element_fit}
 use Rattle.f66_soundness.proofs.StatementLemmas.{stored_takes}
 use Rattle.f66_program.specs.Mentions.{mentions_of_entry, mentions_of_entries, mentions_of_counting}
 use Rattle.linked_soundness.proofs.PartLemmas.{all_parts}
 use Rattle.linked_soundness.proofs.PlaceLemmas.{IsSite, store_rightly, base_rightly, par_rightly, pars_rightly}
 use Rattle.linked_soundness.proofs.ValueLemmas.{IsRightly, AllCall}
 use Rattle.linked_soundness.proofs.StatementLemmas.{place_rightly, start_rightly, turn_rightly}
-
--- ---- a step with the records ----
-
-taped_rightly : (P : Tape → Type 0) (p : Place) (h : Tape → Move) (w : World) → MovesRightly P (h w.state.tape) → Rightly (λ _ v. P v.state.tape) (taped p h w)
-taped_rightly P p h w i = by_move (h w.state.tape) i
-  where
-    by_move : (step : Move) → MovesRightly P step → Rightly (λ _ v. P v.state.tape) (moving p step w)
-    by_move (Moves t) k = k
-    by_move (Breaks e t) k = tt
-    by_move Misses k = k
-
-unit_rightly : (way : Way) (v : Content) → IsOfKind Integer v → TriesRightly (λ _. ⊤) (on_unit way v)
-unit_rightly way (Whole z) h = if_both (TriesRightly (λ _. ⊤)) (int_le z (unit_for way) && int_le (unit_for way) z) (Yields tt) (Traps BadUnit) tt tt
-unit_rightly way _ h = absurd h
-
-times_rightly : (z : ℤ) (t : Try ℕ) → TriesRightly (λ _. ⊤) t → TriesRightly (λ _. ⊤) (times z t)
-times_rightly (pos zero) t h = tt
-times_rightly (pos (suc n)) t h = then_rightly (λ _. ⊤) (λ _. ⊤) t (λ k. Yields (suc n * k)) h (λ k _. tt)
-times_rightly (negsuc n) t h = tt
-
-extent_rightly : (ds : List Content) → AllWhole ds → TriesRightly (λ _. ⊤) (extent ds)
-extent_rightly [] h = tt
-extent_rightly (Whole d ∷ ds) h = times_rightly d (extent ds) (extent_rightly ds h.1)
-extent_rightly (d ∷ ds) h = absurd h.0
 
 -- ---- lists ----
 
@@ -97,10 +72,6 @@ others_fit way s c d e es h = record {
   calls = (all_parts (IsRightly s) (mentions_of_entry d e) (mentions_of_entries d es) h.calls).1;
 }
 
-some_are_items : (es : Entries) → are_some_items es ≡ true → are_items es ≡ true
-some_are_items NoEntry e = cc
-some_are_items (AndEntry a es) e = e
-
 inner_fit : (way : Way) (s : Setting) (c d : Context) (es : Entries) (x : Text) (p q r : Par) → FitEntry way s c d (Many es x p q r) → FitEntries way s c d es
 inner_fit way s c d es x p q r h = record {
   shapes = some_are_items es (and_parts (are_some_items es) _ h.shape).0;
@@ -109,15 +80,6 @@ inner_fit way s c d es x p q r h = record {
   counts = (none_of_both (miscounts c) (uses_of_entries es) _ h.count).0;
   calls = (all_parts (IsRightly s) (mentions_of_entries d es) (mentions_of_counting x p q r) h.calls).0;
 }
-
--- an item with parentheses is an element, with fit subscripts
-element_fit : (way : Way) (c : Context) (x : Text) (es : Formulas) → is_listed way c (Item x es) ≡ true → stores_item way c (Item x es) ≡ true → (is_array_name c x ≡ true) × (are_subscripts c es ≡ true)
-element_fit Writing c x es e h = and_parts (is_array_name c x) _ e
-element_fit Reading c x es e h = (h, subscripted (is_array_name c x) _ h e)
-  where
-    subscripted : (b d : Bool) → b ≡ true → (not b || d) ≡ true → d ≡ true
-    subscripted true d i j = j
-    subscripted false d i j = cc
 
 module _ (s : Setting) (f : Frame) (c : Context) (site : IsSite s f c) where
   -- ---- one place ----

@@ -1,17 +1,16 @@
 -- Plain statements that the rules let pass never end Wrong: assignments, CALL, branches, and the start and the turn of a DO.
-use Rattle.std.proofs.Common.{◌≡◌, ℕ, zero, suc, Bool, true, false, List, [], ◌∷◌, length, sym, subst, ⊎_elim}
-use Rattle.std.specs.Prelude.{pos, negsuc, ◌+ℤ◌, int_le, not, ◌&&◌, ◌||◌, ⊤}
+use Rattle.std.proofs.Common.{◌≡◌, ℕ, Bool, true, false, List, length, sym, subst, ⊎_elim}
+use Rattle.std.specs.Prelude.{◌+ℤ◌, int_le, not, ◌&&◌, ◌||◌, ⊤}
 use Rattle.std.proofs.lemmas.Bool.{and_parts, or_parts, or_cases, eqb-true}
-use Rattle.ground.specs.declared.trap.Trap.TheVariants.{BadDo}
 use Rattle.ground.specs.declared.value.Kind.{Kind}
 use Rattle.ground.specs.declared.value.Kind.TheVariants.{Integer, Logical}
 use Rattle.ground.specs.Content.{Content, Nothing, Whole}
 use Rattle.f66_tree.specs.Syntax.{Text, Formula, Ref, Item, Formulas, Par}
-use Rattle.f66_tree.specs.World.{World, Gives, bind, Yields, Traps, settle}
+use Rattle.f66_tree.specs.World.{World, Gives, bind, settle}
 use Rattle.f66_tree.specs.Units.{Context, Spot, Setting, Frame, around}
 use Rattle.f66_tree.specs.Evaluation.{Sort, AnArray, AnIntrinsic, AFunction, sort_of, base, ticked, load, store_at, variable_in, par_in, place_by, value_of, values_of, spots_of, locate}
-use Rattle.f66_tree.specs.Statements.{Normal, To, LoopParameters, fit_loop_in, loop_start, turn_of, loop_turn, nth, label_at, by_sign_of, invoked}
-use Rattle.f66_tree.proofs.Tries.{IsOfKind, TriesRightly, if_both}
+use Rattle.f66_tree.specs.Statements.{Normal, To, LoopParameters, fit_loop_in, loop_start, turn_of, loop_turn, label_at, by_sign_of, invoked}
+use Rattle.f66_tree.proofs.Tries.{IsOfKind, if_both}
 use Rattle.f66_names.specs.Sorts.{form_by, name_form, is_array_name, is_array_form, is_counter, takes}
 use Rattle.f66_names.specs.Uses.{many, uses_of, uses_of_all, uses_of_target}
 use Rattle.f66_names.specs.Kinds.{are_subscripts, takes_kind, is_counting}
@@ -20,37 +19,13 @@ use Rattle.f66_soundness.specs.Rightly.{Rightly, NeverWrong}
 use Rattle.f66_soundness.proofs.RightlyLemmas.{bind_rightly, bind_any, settle_rightly}
 use Rattle.f66_soundness.proofs.ContentLemmas.{AreWhole}
 use Rattle.f66_soundness.proofs.ValueLemmas.{FitCounts}
+use Rattle.f66_soundness.proofs.StepLemmas.{label_rightly, branch_rightly, loop_fits}
 use Rattle.f66_soundness.proofs.StatementLemmas.{stored_takes}
 use Rattle.unit_rules.specs.Types.{fits, assigns, are_passed}
 use Rattle.f66_program.specs.Mentions.{mentions_of, mentions_of_all}
 use Rattle.linked_soundness.proofs.KindLemmas.{subscripts_are_integers}
 use Rattle.linked_soundness.proofs.PlaceLemmas.{IsSite, AreCounting, load_rightly, store_rightly, base_rightly, counter_rightly, par_rightly, sort_counting, element_rightly}
 use Rattle.linked_soundness.proofs.ValueLemmas.{CallsRightly, AllCall, value_rightly, values_rightly, spots_rightly}
-
--- ---- branches and DO, by the contents that they take ----
-
-nth_rightly : (ls : List ℕ) (n : ℕ) → TriesRightly (λ _. ⊤) (nth ls n)
-nth_rightly [] n = tt
-nth_rightly (l ∷ ls) zero = tt
-nth_rightly (l ∷ ls) (suc n) = nth_rightly ls n
-
-label_rightly : (ls : List ℕ) (v : Content) → IsOfKind Integer v → TriesRightly (λ _. ⊤) (label_at ls v)
-label_rightly ls (Whole (pos (suc n))) h = nth_rightly ls n
-label_rightly ls (Whole (pos zero)) h = tt
-label_rightly ls (Whole (negsuc n)) h = tt
-label_rightly ls _ h = absurd h
-
-branch_rightly : (n m k : ℕ) (v : Content) → IsOfKind Integer v → TriesRightly (λ _. ⊤) (by_sign_of n m k v)
-branch_rightly n m k (Whole (negsuc z)) h = tt
-branch_rightly n m k (Whole (pos zero)) h = tt
-branch_rightly n m k (Whole (pos (suc z))) h = tt
-branch_rightly n m k _ h = absurd h
-
-loop_fits : (a b d : Content) → IsOfKind Integer a → IsOfKind Integer b → IsOfKind Integer d → TriesRightly (λ _. ⊤) (fit_loop_in a b d)
-loop_fits (Whole a) (Whole b) (Whole d) h i j = if_both (TriesRightly (λ _. ⊤)) (int_le (pos 1) a && int_le a b && int_le (pos 1) d) (Yields (record { limit = b; step = d })) (Traps BadDo) tt tt
-loop_fits (Whole a) (Whole b) d h i j = absurd j
-loop_fits (Whole a) b d h i j = absurd i
-loop_fits a b d h i j = absurd h
 
 module _ (s : Setting) (f : Frame) (c : Context) (site : IsSite s f c) where
   -- ---- assignments ----
