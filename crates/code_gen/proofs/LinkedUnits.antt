@@ -23,10 +23,10 @@ contains_at (x ∷ xs) zero s e = (0, omega arith, some_same e)
 contains_at (x ∷ xs) (suc i) s e = let c = contains_at xs i s e in let lt = c.1 in (suc c.0, omega (arith, lt), c.2)
 
 -- the unit of a name is there, and is called so
-abbrev IsNamed : Text → List Routine → ℕ → Type 0
+abbrev pub IsNamed : Text → List Routine → ℕ → Type 0
 IsNamed q rs v = (r : Routine) × (slice_get rs v ≡ Some r) × (is_called q r.header ≡ true)
 
-named_unit : (q : Text) (rs : List Routine) (v : ℕ) → unit_named q rs ≡ Some v → IsNamed q rs v
+pub named_unit : (q : Text) (rs : List Routine) (v : ℕ) → unit_named q rs ≡ Some v → IsNamed q rs v
 named_unit q [] v e = no_some _ e
 named_unit q (r ∷ rs) v e = by_name (is_called q r.header) refl (unit_named q rs) (named_unit q rs) e
   where
@@ -35,7 +35,7 @@ named_unit q (r ∷ rs) v e = by_name (is_called q r.header) refl (unit_named q 
     by_name false called None there is = no_some _ is
     by_name false called (Some w) there is = subst (IsNamed q (r ∷ rs)) (some_same is) (there w refl)
 
-no_main : (q : Text) (h : Header) → is_called q h ≡ true → is_main h ≡ false
+pub no_main : (q : Text) (h : Header) → is_called q h ≡ true → is_main h ≡ false
 no_main q MainUnit e = absurd (true≢false (sym e))
 no_main q (SubUnit x ds) e = refl
 no_main q (FuncUnit t x ds) e = refl

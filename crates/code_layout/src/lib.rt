@@ -7,6 +7,7 @@ mod compiling;
 mod dummies;
 mod entering;
 mod extents;
+mod implicit_types;
 mod keeping;
 mod laws;
 mod linked_unit;
@@ -23,7 +24,6 @@ mod spreading;
 mod sums;
 mod tabling;
 mod unit_tables;
-mod words;
 
 pub use compiling::compile;
 pub use extents::Extent;

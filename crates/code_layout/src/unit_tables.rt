@@ -13,9 +13,10 @@ ghost use Rattle.linker.specs.Types.{type_given};
 
 use crate::dummies::{dummies_of, positions_of};
 use crate::extents::{Extent, extents_of};
-use crate::words::{by_header, words_of};
+use crate::implicit_types::by_header;
 use f66_tree::{Name, Par, TypeWord, Unit};
 use ground::Kind;
+use linker::words_of;
 use std::alloc::{AllocError, Global};
 use std::collections::HashMap;
 

@@ -20,6 +20,7 @@ use Rattle.plain_units.specs.Plain.{name_of, IsLeaf, AreLeaves, ArePassed, IsFun
 use Rattle.routed_units.specs.Routed.{AllActs}
 use Rattle.efl_routes.specs.Expressions.{given_by, kind_by, type_of, intrinsic_name, made, made_in, made_for, count, variable_of, or_one, combined, first, further, gathered, formula, formulas, actuals, routes, all_routes, actual_routes, ScalarSite, Scalars, AllScalars}
 use Rattle.efl_routes.proofs.Calls.{scalar_site}
+use Rattle.efl_plain.proofs.Actuals.{by_actual}
 use Rattle.efl_plain.specs.Written.{side, IsWritten, AreWritten, AreIntegers}
 
 -- the two names of an intrinsic function are one
@@ -103,27 +104,6 @@ module _ (V F : Text → Kind → Type 0) (S : Text → Type 0) where
   combined_plain p OrElse left right e x rest h k v go ok = ((Logical, v, leaf_value left Logical h), ((λ l. v, go _ ((Logical, v, leaf_value e Logical k), tt)), ok))
 
 module _ (home : ℕ → Text) (temp : Kind → ℕ → Text) (callee : ℕ → Text) where
-  -- an actual that is no place
-  record IsNoPlace (e : Expr) : Type 0 where
-    makes : (es : Exprs) → made_for (AndExpr e es) ≡ made e + made_for es
-    passes : (es : Exprs) (n : ℕ) → actuals home temp callee (AndExpr e es) n ≡ AndFormula (f66.Group (formula home temp callee e n)) (actuals home temp callee es (n + made e))
-    goes : (p : Place) (es : Exprs) (n : ℕ) (rest : Routes) → actual_routes home temp callee p (AndExpr e es) n rest ≡ routes home temp callee p e n (actual_routes home temp callee p es (n + made e) rest)
-
-  by_actual : (P : Expr → Type 0) → ((x : Site) → P (At x)) → ((e : Expr) → IsNoPlace e → P e) → (e : Expr) → P e
-  by_actual P f g (At x) = f x
-  by_actual P f g (Int z) = g (Int z) (record { makes = λ es. refl; passes = λ es n. refl; goes = λ p es n rest. refl })
-  by_actual P f g (Truth b) = g (Truth b) (record { makes = λ es. refl; passes = λ es n. refl; goes = λ p es n rest. refl })
-  by_actual P f g (Call v k as') = g (Call v k as') (record { makes = λ es. refl; passes = λ es n. refl; goes = λ p es n rest. refl })
-  by_actual P f g (Known i as') = g (Known i as') (record { makes = λ es. refl; passes = λ es n. refl; goes = λ p es n rest. refl })
-  by_actual P f g (Group a) = g (Group a) (record { makes = λ es. refl; passes = λ es n. refl; goes = λ p es n rest. refl })
-  by_actual P f g (Plus a) = g (Plus a) (record { makes = λ es. refl; passes = λ es n. refl; goes = λ p es n rest. refl })
-  by_actual P f g (Minus a) = g (Minus a) (record { makes = λ es. refl; passes = λ es n. refl; goes = λ p es n rest. refl })
-  by_actual P f g (Not a) = g (Not a) (record { makes = λ es. refl; passes = λ es n. refl; goes = λ p es n rest. refl })
-  by_actual P f g (Up x) = g (Up x) (record { makes = λ es. refl; passes = λ es n. refl; goes = λ p es n rest. refl })
-  by_actual P f g (Down x) = g (Down x) (record { makes = λ es. refl; passes = λ es n. refl; goes = λ p es n rest. refl })
-  by_actual P f g (Pair op a b) = g (Pair op a b) (record { makes = λ es. refl; passes = λ es n. refl; goes = λ p es n rest. refl })
-  by_actual P f g (Assign op x a) = g (Assign op x a) (record { makes = λ es. refl; passes = λ es n. refl; goes = λ p es n rest. refl })
-
   pub many_formulas : (es : Exprs) (n : ℕ) → many (formulas home temp callee es n) ≡ count es
   many_formulas NoExpr n = refl
   many_formulas (AndExpr e es) n = omega (arith, many_formulas es (n + made e))
@@ -166,7 +146,7 @@ module _ (home : ℕ → Text) (temp : Kind → ℕ → Text) (callee : ℕ → 
     pub actuals_passed : (es : Exprs) (n : ℕ) → AllScalars M G es → AreWritten es → n + made_for es ≤ room → ArePassed V F S (actuals home temp callee es n)
     actuals_passed NoExpr n s w fit = tt
     actuals_passed (AndExpr e es) n s w fit =
-        by_actual (λ e1. Scalars M G e1 → IsWritten e1 → n + made_for (AndExpr e1 es) ≤ room → ArePassed V F S (actuals home temp callee (AndExpr e1 es) n)) (λ x s1 w1 fit1. ((kind_of (sort_of x), site_variable x s1), actuals_passed es n s.1 w.1 fit1))
+        by_actual home temp callee (λ e1. Scalars M G e1 → IsWritten e1 → n + made_for (AndExpr e1 es) ≤ room → ArePassed V F S (actuals home temp callee (AndExpr e1 es) n)) (λ x s1 w1 fit1. ((kind_of (sort_of x), site_variable x s1), actuals_passed es n s.1 w.1 fit1))
         (λ e1 no s1 w1 fit1.
         let all : n + (made e1 + made_for es) ≤ room = subst (λ m. n + m ≤ room) (no.makes es) fit1 in
         subst (λ fs. ArePassed V F S fs) (sym (no.passes es n)) ((type_of e1, leaf e1 n s1 w1 (omega (all, arith))), actuals_passed es (n + made e1) s.1 w.1 (omega (all, arith)))) e s.0 w.0 fit
@@ -266,7 +246,7 @@ module _ (home : ℕ → Text) (temp : Kind → ℕ → Text) (callee : ℕ → 
       pub actuals_plain : (es : Exprs) → AllScalars M G es → AreWritten es → (p : Place) (n : ℕ) (rest : Routes) → n + made_for es ≤ room → Acts rest → Acts (actual_routes home temp callee p es n rest)
       actuals_plain NoExpr s w p n rest fit ok = ok
       actuals_plain (AndExpr e es) s w p n rest fit ok =
-          by_actual (λ e1. Ahead e1 → Scalars M G e1 → IsWritten e1 → n + made_for (AndExpr e1 es) ≤ room → Acts (actual_routes home temp callee p (AndExpr e1 es) n rest)) (λ x go s1 w1 fit1. actuals_plain es s.1 w.1 p n rest fit1 ok)
+          by_actual home temp callee (λ e1. Ahead e1 → Scalars M G e1 → IsWritten e1 → n + made_for (AndExpr e1 es) ≤ room → Acts (actual_routes home temp callee p (AndExpr e1 es) n rest)) (λ x go s1 w1 fit1. actuals_plain es s.1 w.1 p n rest fit1 ok)
           (λ e1 no go s1 w1 fit1.
           let all : n + (made e1 + made_for es) ≤ room = subst (λ m. n + m ≤ room) (no.makes es) fit1 in
           subst Acts (sym (no.goes p es n rest)) (go s1 w1 p n _ (omega (all, arith)) (actuals_plain es s.1 w.1 p (n + made e1) rest (omega (all, arith)) ok))) e (expr_plain e) s.0 w.0 fit

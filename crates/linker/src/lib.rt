@@ -26,3 +26,4 @@ pub use mains::main_count;
 pub use missing::{missing_unit, wrong_count};
 pub use recursion::first_recursion;
 pub use site::Site;
+pub use types::words_of;

@@ -33,7 +33,7 @@ pub(crate) fn typed_of<'a>(alloc: Global, unit: &'a Unit) -> Result<TypedUnit<'a
 }
 
 /// The types that statements give names.
-fn words_of<'a>(
+pub fn words_of<'a>(
     alloc: Global,
     statements: &'a [Stmt],
 ) -> Result<HashMap<&'a [u8], TypeWord>, AllocError>
