@@ -9,6 +9,7 @@ ghost use Rattle.f66_names.specs.Sorts.{form_by, name_form, is_array_name, type_
 ghost use Rattle.f66_names.specs.DeclarationViews.{context_in};
 
 use crate::declarations::Declarations;
+use crate::tables::value_of;
 use crate::{Arity, NameForm};
 use f66_tree::{Header, Name, TypeWord};
 use ground::Kind;
@@ -17,7 +18,7 @@ use ground::Kind;
 pub fn form_of(declarations: &Declarations, name: &Name) -> NameForm
     ensures { result ≡ name_form (context_in declarations.now) name.now }
 {
-    match declarations.counts.get(name.as_bytes()) {
+    match value_of(&declarations.counts, name.as_bytes()) {
         Some(count) => NameForm::Array(*count),
         None => intrinsic_form(name),
     }
@@ -34,7 +35,7 @@ pub fn is_array(declarations: &Declarations, name: &Name) -> bool
 fn type_or(declarations: &Declarations, name: &Name, unsaid: TypeWord) -> TypeWord
     ensures { result ≡ type_in name.now (context_in declarations.now).notes unsaid }
 {
-    match declarations.words.get(name.as_bytes()) {
+    match value_of(&declarations.words, name.as_bytes()) {
         Some(word) => *word,
         None => unsaid,
     }

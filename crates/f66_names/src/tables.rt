@@ -2,7 +2,7 @@
 ghost use Rattle.std.specs.Prelude.{◌≡◌, List, ℕ, IfOk, OnOk, Some, None, if◌then◌else◌, ◌&&◌, map, filter};
 ghost use Rattle.std.specs.HashMap.{get_by};
 ghost use Rattle.std.specs.List.{list_any, flat_map};
-ghost use Rattle.std.specs.Option.{option_or};
+ghost use Rattle.std.specs.Option.{option_copied, option_or};
 ghost use Rattle.std.specs.Str.{bytes_eq};
 ghost use Rattle.rule_table.specs.Words.{first_place, find_map};
 ghost use Rattle.f66_tree.specs.Views.{declared_of, area_of, act_of};
@@ -52,6 +52,16 @@ pub fn tables_of<'a>(alloc: Global, sayings: &[Saying<'a>]) -> Result<Tables<'a>
         typed,
         sized,
     })
+}
+
+/// What a table has of a name. Most tables are empty, and take no hash of a name.
+pub(crate) fn value_of<'t, V>(table: &'t HashMap<&[u8], V>, name: &[u8]) -> Option<&'t V>
+    ensures value { option_copied result ≡ get_by (λ k. bytes_eq name.now k.now) table.now }
+{
+    if table.is_empty() {
+        return None;
+    }
+    table.get(name)
 }
 
 /// The names whose type a statement gives (X3.9-1966, section 7.2.1.6).

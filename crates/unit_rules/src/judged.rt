@@ -3,12 +3,13 @@ ghost use Rattle.std.specs.Prelude.{◌≡◌, ◌++◌, IfOk, OnOk, map};
 ghost use Rattle.f66_tree.specs.Views.{formula_of, entry_of, entries_of, par_of, act_of};
 ghost use Rattle.f66_names.specs.ActViews.{act_said};
 ghost use Rattle.f66_names.specs.DeclarationViews.{context_in};
-ghost use Rattle.f66_names.specs.Uses.{uses_of_par, uses_in};
+ghost use Rattle.f66_names.specs.Uses.{uses_of_par};
 ghost use Rattle.f66_names.specs.UseViews.{use_of};
 ghost use Rattle.unit_rules.specs.Judged.{judged_of_target, judged_of_entry, judged_of_entries, judged_uses};
 
 use f66_names::{
-    Declarations, Saying, Use, collect_pars, collect_target, is_array, uses_of_saying,
+    Declarations, Saying, Use, collect_in_saying, collect_pars, collect_target, is_array,
+    uses_of_saying,
 };
 use f66_tree::{Entry, Expr, Par, StmtKind};
 use std::alloc::{AllocError, Global};
@@ -23,7 +24,7 @@ pub fn judged_uses<'a>(
     ensures { IfOk result (λ v. map use_of v.items ≡ judged_uses (context_in declarations.now) (act_of kind.now)) }
 {
     let mut uses = Vec::new(alloc);
-    collect_judged(alloc, declarations, kind, &mut uses)?;
+    collect_judged(declarations, kind, &mut uses)?;
     Ok(uses)
 }
 
@@ -45,7 +46,6 @@ pub fn judged_uses_of_saying<'a>(
 }
 
 fn collect_judged<'a>(
-    alloc: Global,
     declarations: &Declarations<'a>,
     kind: &'a StmtKind,
     uses: &mut Vec<Use<'a>>,
@@ -56,34 +56,22 @@ fn collect_judged<'a>(
     match kind {
         StmtKind::Assign(target, value) => {
             collect_stored(declarations, target, uses)?;
-            collect_said(alloc, &Saying::Value(value), uses)
+            collect_in_saying(&Saying::Value(value), uses)
         }
         StmtKind::When(test, inner) => {
-            collect_said(alloc, &Saying::Value(test), uses)?;
-            collect_judged(alloc, declarations, inner, uses)
+            collect_in_saying(&Saying::Value(test), uses)?;
+            collect_judged(declarations, inner, uses)
         }
         StmtKind::Read(unit, _, list) => {
             collect_par(unit, uses)?;
-            collect_entries(alloc, declarations, list, uses)
+            collect_entries(declarations, list, uses)
         }
         StmtKind::Write(unit, _, list) => {
             collect_par(unit, uses)?;
-            collect_entries(alloc, declarations, list, uses)
+            collect_entries(declarations, list, uses)
         }
-        _ => collect_said(alloc, &Saying::Act(kind), uses),
+        _ => collect_in_saying(&Saying::Act(kind), uses),
     }
-}
-
-/// Adds all names that a statement or a part of one uses.
-fn collect_said<'a>(
-    alloc: Global,
-    saying: &Saying<'a>,
-    uses: &mut Vec<Use<'a>>,
-) -> Result<(), AllocError>
-    ensures { OnOk result (map use_of uses.new.items ≡ map use_of uses.old.items ++ uses_in (act_said saying.now)) }
-{
-    let mut said = uses_of_saying(alloc, saying)?;
-    uses.append(&mut said)
 }
 
 fn collect_par<'a>(par: &'a Par, uses: &mut Vec<Use<'a>>) -> Result<(), AllocError>
@@ -114,7 +102,6 @@ fn collect_stored<'a>(
 
 #[cycle(collect_entries)]
 fn collect_entry<'a>(
-    alloc: Global,
     declarations: &Declarations<'a>,
     entry: &'a Entry,
     uses: &mut Vec<Use<'a>>,
@@ -125,15 +112,14 @@ fn collect_entry<'a>(
     match entry {
         Entry::Item(e) => collect_stored(declarations, e, uses),
         Entry::Many(list, variable, first, last, step) => {
-            collect_entries(alloc, declarations, list, uses)?;
-            collect_said(alloc, &Saying::Counting(variable, first, last, step), uses)
+            collect_entries(declarations, list, uses)?;
+            collect_in_saying(&Saying::Counting(variable, first, last, step), uses)
         }
     }
 }
 
 #[cycle(collect_entries)]
 fn collect_entries<'a>(
-    alloc: Global,
     declarations: &Declarations<'a>,
     list: &'a [Entry],
     uses: &mut Vec<Use<'a>>,
@@ -143,7 +129,7 @@ fn collect_entries<'a>(
         ≡ map use_of uses.old.items ++ judged_of_entries (context_in declarations.now) (entries_of list.now)) }
 {
     for entry in list {
-        collect_entry(alloc, declarations, entry, uses)?;
+        collect_entry(declarations, entry, uses)?;
     }
     Ok(())
 }
