@@ -20,7 +20,7 @@ use Rattle.rat_tree.specs.Syntax.{RatRoutine, RatProgram}
 use Rattle.rat_tree.specs.Views.{rat_routine_of}
 use Rattle.rat_said.specs.Said.{said_routine, said_program}
 use Rattle.rat_link.specs.Limits.{HaveAtMost}
-use Rattle.rat_link.specs.Linking.{IsClean, IsUnitFault, IsFirstUnitFault, AreClean, IsLinkFault, IsFirstFaultOf, IsRefusalBy, is_limit_kind, is_limit_refusal, most_of_text}
+use Rattle.rat_link.specs.Linking.{IsClean, IsUnitFault, IsFirstUnitFault, AreClean, IsLinkFault, IsFirstFaultOf, IsRefusalBy, IsTextLimit, is_limit_kind, is_limit_refusal, most_of_text}
 use Rattle.rat_link.proofs.ReadyLemmas.{said_is_ready}
 
 -- ---- one unit ----
@@ -79,6 +79,10 @@ module _ (said : List AUnit) (us : List RatRoutine) (e : map routine_of said ≡
   well_units = each (λ r. ¬ IsBadUnit r) (λ u c. c.well)
 
 -- ---- linking ----
+
+pub limit_refusal : (p : Program) (e : Refusal) → IsRefusalBy (IsTextLimit p) e → IsRefusalBy (IsLinkFault p) e
+limit_refusal p (refusals.Fault f) h = inl h
+limit_refusal p refusals.Memory h = tt
 
 pub link_refusal : (p : Program) → HaveAtMost most_of_text p.units → (e : Refusal) → IsLinkRefusal p e → IsRefusalBy (IsLinkFault p) e
 link_refusal p few (refusals.Fault f) h = inr (few, h)

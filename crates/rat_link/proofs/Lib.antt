@@ -2,4 +2,5 @@
 pub mod LimitLemmas
 pub mod ReadyLemmas
 pub mod CheckLemmas
+pub mod UntiedLemmas
 pub mod OneFault

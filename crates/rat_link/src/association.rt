@@ -1,12 +1,14 @@
 // The association of a unit.
 ghost use Rattle.std.specs.Prelude.{◌≡◌, OnOk, IfErr};
-ghost use Rattle.f66_tree.specs.Views.{routine_of};
+ghost use Rattle.std.specs.List.{list_any};
+ghost use Rattle.f66_tree.specs.Views.{act_of, routine_of};
 ghost use Rattle.f66_program.specs.Association.{IsBadUnit};
 ghost use Rattle.storage_assoc.specs.Associating.{IsBadFault};
 ghost use Rattle.storage_assoc.specs.Naming.{IsReady};
 ghost use Rattle.rat_link.specs.Linking.{IsRefusalBy, is_limit_refusal};
+ghost use Rattle.rat_link.specs.Ties.{is_tying};
 
-use f66_tree::Unit;
+use f66_tree::{Stmt, StmtKind, Unit};
 use ground::{FaultKind, Refusal};
 use std::alloc::Global;
 use storage_assoc::associate;
@@ -19,6 +21,9 @@ pub fn check_association(alloc: Global, said: &Unit) -> Result<(), Refusal>
     ensures well { OnOk result (¬ IsBadUnit (routine_of said.now)) }
     ensures refused { IfErr result (IsRefusalBy (IsBadFault (routine_of said.now))) }
 {
+    if !has_ties(&said.statements) {
+        return Ok(());
+    }
     if let Err(refusal) = associate(alloc, said) {
         if is_limit(&refusal) {
             return Ok(());
@@ -26,6 +31,19 @@ pub fn check_association(alloc: Global, said: &Unit) -> Result<(), Refusal>
         return Err(refusal);
     }
     Ok(())
+}
+
+/// Whether a statement is a COMMON or an EQUIVALENCE.
+fn has_ties(statements: &[Stmt]) -> bool
+    ensures { result ≡ list_any (λ s. is_tying (act_of s.kind)) statements.now }
+{
+    statements.iter().any(|s| is_tying(&s.kind))
+}
+
+fn is_tying(kind: &StmtKind) -> bool
+    ensures { result ≡ is_tying (act_of kind.now) }
+{
+    matches!(kind, StmtKind::Common(_) | StmtKind::Equivalence(_))
 }
 
 fn is_limit(refusal: &Refusal) -> bool

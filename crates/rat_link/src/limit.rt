@@ -15,7 +15,8 @@ use program_storage::number_program;
 use std::alloc::{AllocError, Global};
 use storage_assoc::limit_fault;
 
-const MOST: usize = 1_000_000;
+/// The greatest number of storage units of a text.
+pub(crate) const MOST: usize = 1_000_000;
 
 /// The fault of units with more than 1,000,000 storage units, at the first statement of the first up to which there are too many; or
 /// none.

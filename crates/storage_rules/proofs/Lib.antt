@@ -3,6 +3,7 @@ pub mod EndLemmas
 pub mod ReachLemmas
 pub mod LabelLemmas
 pub mod SizeLemmas
+pub mod CommonLemmas
 pub mod FirstLemmas
 pub mod MismatchLemmas
 pub mod RuleLemmas

@@ -1,7 +1,11 @@
 -- The labelled common blocks of a unit with their sizes.
-use Rattle.std.specs.Prelude.{◌≡◌, ℕ, ℤ, pos, true, false, Option, Some, MatchOption}
-use Rattle.f66_tree.specs.Syntax.{Text, Routine}
+use Rattle.std.specs.Prelude.{◌≡◌, ℕ, ℤ, pos, Bool, true, false, Option, Some, MatchOption}
+use Rattle.f66_tree.specs.Syntax.{Text, Act, Common, Routine}
 use Rattle.f66_program.specs.Linking.{unit_names_block, IsBlockSize}
+
+abbrev pub is_common : Act → Bool
+is_common (Common areas) = true
+is_common a = false
 
 -- a block has this size in a unit
 abbrev pub HasSize : Routine → Text → ℤ → Type 0

@@ -3,19 +3,19 @@ ghost use Rattle.std.specs.Prelude.{◌≡◌, ◌<◌, ◌^◌, ◌≤ℤ◌, �
 ghost use Rattle.std.specs.List.{All, list_any};
 ghost use Rattle.std.specs.HashMap.{get_by};
 ghost use Rattle.std.specs.Str.{bytes_eq};
-ghost use Rattle.f66_tree.specs.Views.{par_of, routine_of};
+ghost use Rattle.f66_tree.specs.Views.{act_of, par_of, routine_of};
 ghost use Rattle.f66_program.specs.Association.{IsBadUnit};
 ghost use Rattle.f66_program.specs.Linking.{unit_names_block};
 ghost use Rattle.offset_classes.specs.Links.{class_in};
 ghost use Rattle.offset_classes.specs.Numbers.{AreNearSeats};
 ghost use Rattle.storage_assoc.specs.Naming.{IsReady};
 ghost use Rattle.storage_assoc.specs.Tables.{IsTableOf};
-ghost use Rattle.storage_rules.specs.Blocks.{AreSizes};
+ghost use Rattle.storage_rules.specs.Blocks.{AreSizes, is_common};
 ghost use Rattle.storage_rules.specs.Ends.{AreEnds};
 ghost use Rattle.storage_rules.specs.Reach.{AreLabelSizes, AreSeatsOf, IsGap, IsReach};
 
 use crate::ends::ends_of;
-use f66_tree::Unit;
+use f66_tree::{Stmt, StmtKind, Unit};
 use offset_classes::{Seat, seats_by};
 use rule_table::note;
 use std::alloc::{AllocError, Global};
@@ -36,6 +36,22 @@ pub(crate) fn blocks_of<'a>(alloc: Global, unit: &'a Unit) -> Result<UnitBlocks<
     ensures labels { IfOk result (λ b. (q : List ℕ) → list_any (bytes_eq q) (map (λ k. k.now) b.labels.items) ≡ unit_names_block (Some q) (routine_of unit.now)) }
     ensures sizes { IfOk result (λ b. AreSizes (routine_of unit.now) (λ q. get_by (λ k. bytes_eq q k.now) b.sizes)) }
 {
+    if has_common(&unit.statements) {
+        return blocks_by_table(alloc, unit);
+    }
+    Ok(UnitBlocks {
+        labels: Vec::new(alloc),
+        sizes: HashMap::new(alloc),
+    })
+}
+
+/// The same by the table of the unit's names.
+fn blocks_by_table<'a>(alloc: Global, unit: &'a Unit) -> Result<UnitBlocks<'a>, AllocError>
+    requires ready { IsReady (routine_of unit.now) }
+    requires well { ¬ IsBadUnit (routine_of unit.now) }
+    ensures labels { IfOk result (λ b. (q : List ℕ) → list_any (bytes_eq q) (map (λ k. k.now) b.labels.items) ≡ unit_names_block (Some q) (routine_of unit.now)) }
+    ensures sizes { IfOk result (λ b. AreSizes (routine_of unit.now) (λ q. get_by (λ k. bytes_eq q k.now) b.sizes)) }
+{
     let table = table_of(alloc, unit)?;
     let seats = seats_of(alloc, &table, unit)?;
     let ends = ends_of(alloc, &seats, &table.sizes)?;
@@ -44,6 +60,19 @@ pub(crate) fn blocks_of<'a>(alloc: Global, unit: &'a Unit) -> Result<UnitBlocks<
         labels: table.labels,
         sizes,
     })
+}
+
+/// Whether a statement is a COMMON.
+fn has_common(statements: &[Stmt]) -> bool
+    ensures { result ≡ list_any (λ s. is_common (act_of s.kind)) statements.now }
+{
+    statements.iter().any(|s| is_common(&s.kind))
+}
+
+fn is_common(kind: &StmtKind) -> bool
+    ensures { result ≡ is_common (act_of kind.now) }
+{
+    matches!(kind, StmtKind::Common(_))
 }
 
 /// The seats of the rows of a unit that is not bad, of whose names this is the table.
