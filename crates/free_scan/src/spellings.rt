@@ -1,5 +1,5 @@
 // The signs of each dialect as they are spelled.
-ghost use Rattle.std.specs.Prelude.{◌≡◌, ◌≤◌, length, map, IfSome, IsTrue};
+ghost use Rattle.std.specs.Prelude.{◌≡◌, ◌≤◌, false, length, map, IfSome, IsTrue};
 ghost use Rattle.free_scan.specs.Spellings.{is_spelled as is_spelled_by, longest_sign as longest_sign_of, spellings as spellings_of};
 
 use crate::lines::Character;
@@ -115,12 +115,25 @@ pub fn is_spelled(spelling: &[u8], characters: &[Character]) -> bool
     ensures value { result ≡ is_spelled_by spelling.now characters.now }
     ensures within { IsTrue result → length spelling.now ≤ length characters.now }
 {
+    if begins_otherwise(spelling, characters) {
+        return false;
+    }
     for (i, byte) in spelling.iter().enumerate() {
         if i >= characters.len() || characters[i].byte.to_ascii_lowercase() != *byte {
             return false;
         }
     }
     true
+}
+
+/// Whether the first character already tells that they do not. Most spellings of a table are told so.
+fn begins_otherwise(spelling: &[u8], characters: &[Character]) -> bool
+    ensures { IsTrue result → is_spelled_by spelling.now characters.now ≡ false }
+{
+    match (spelling, characters) {
+        ([byte, ..], [first, ..]) => first.byte.to_ascii_lowercase() != *byte,
+        _ => false,
+    }
 }
 
 /// The longest sign that a line's characters begin with, and how many characters it has.

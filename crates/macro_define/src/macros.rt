@@ -64,6 +64,9 @@ fn macro_of(
 {
     match kind {
         TokenKind::Word(name) => {
+            if macros.is_empty() {
+                return Ok(None);
+            }
             let key = key(alloc, dialect, name.as_bytes())?;
             Ok(number_of(macros, &key))
         }
