@@ -1,7 +1,8 @@
 #!/bin/sh
 # How fast texts become decks, and decks are read: `eft cards ratfor`, and `eft deck --steps 1` on the deck that it writes, over a
-# large text and one of a tenth, each of many units. `lines` are short assignments, 23,000 lines in 450 units; `formats` are FORMATs whose
-# quoted texts are one token each, with 4 MiB.
+# large text and one of a tenth, each of many units. `lines` are short assignments, 23,000 lines in 450 units; `programs` are as many
+# units and lines of three of the examples, as people write them; `formats` are FORMATs whose quoted texts are one token each, with
+# 4 MiB.
 # Wanted are at most eleven times the time for ten times the text, both without an empty run, and at most 40 times the text as memory,
 # without that of an empty run. f2c and ftnchek are compared with where they are there.
 . "$(dirname "$0")/common.sh"
@@ -18,6 +19,17 @@ lines() { # UNITS
             print "return\nend"
         }
     }'
+}
+
+# A main and so many subroutines, each the body of one of three examples in turn.
+programs() { # UNITS
+    awk -v n="$1" '
+        FNR == 1 { files++ }
+        { body[files] = body[files] $0 "\n" }
+        END {
+            print "k = 0\nend"
+            for (i = 1; i <= n; i++) printf "subroutine s%d\n%s", i, body[(i - 1) % files + 1]
+        }' "$here/examples/queens.r" "$here/examples/life.r" "$here/examples/calend.r"
 }
 
 # A main and so many subroutines of 107 FORMATs, each of which takes twenty cards.
@@ -98,5 +110,6 @@ measured() { # SHAPE LARGE SMALL
 }
 
 measured lines 450 45
+measured programs 450 45
 measured formats 30 3
 exit $status
