@@ -1,4 +1,4 @@
--- A unit that says or_parts COMMON nor EQUIVALENCE associates no places.
+-- A unit that says neither COMMON nor EQUIVALENCE associates no places.
 use Rattle.std.proofs.Common.{◌≡◌, ℕ, false, List, [], ◌∷◌, ◌++◌, refl, ap, ◌∙◌}
 use Rattle.std.specs.List.{list_any}
 use Rattle.std.proofs.lemmas.Bool.{or_parts}
