@@ -35,7 +35,7 @@ impl<'a> Labels<'a> {
     pub fn ending(&self, statement: &Stmt) -> &[Turn<'_>]
         ensures { (lines : List Line) → AreNoted self.now.turns 0 lines → map (closer_in lines) result.now ≡ ends_by (act_of statement.now.kind) (closers_at statement.now.label lines) }
     {
-        if let StmtKind::Loop(_, _, _, _, _) = statement.kind {
+        if let StmtKind::Loop(_, _) = statement.kind {
             return &[];
         }
         match statement.label {
@@ -94,7 +94,7 @@ fn loop_at(kind: &StmtKind) -> Option<(u32, &Name)>
     ensures { (l behind : ℕ) (found : List (Text × ℕ)) → loop_by l (act_of kind.now) behind found ≡ loop_of l result behind found }
 {
     match kind {
-        StmtKind::Loop(end, variable, _, _, _) => Some((*end, variable)),
+        StmtKind::Loop(end, counting) => Some((*end, &counting.variable)),
         _ => None,
     }
 }

@@ -65,9 +65,9 @@ fn put_item<U: NamedUnit>(unit: &U, ops: &mut Vec<Op>, way: Way, e: &Expr) -> Re
             put_base(unit, ops, name)?;
             put_whole(unit, ops, way, unit.kind(name), unit.sizes(name))
         }
-        Expr::Item(name, _) => {
+        Expr::Item(item) => {
             put_place(unit, ops, e)?;
-            put(ops, item_op(way, unit.kind(name)))
+            put(ops, item_op(way, unit.kind(&item.0)))
         }
         _ => Ok(()),
     }

@@ -60,7 +60,13 @@ fn act_size<U: NamedUnit>(unit: &U, kind: &StmtKind) -> Result<u32, AllocError>
             let both = plus(size, rest)?;
             plus(both, 2)
         }
-        StmtKind::Loop(_, variable, first, last, step) => {
+        StmtKind::Loop(_, counted) => {
+            let f66_tree::Counting {
+                variable,
+                first,
+                last,
+                step,
+            } = &**counted;
             let counting = Counting {
                 variable,
                 first,

@@ -50,7 +50,7 @@ fn put_reset<U: NamedUnit>(
     ensures { OnOk result (code_of ops.new.items ≡ code_of ops.old.items ++ reset_by (U.layout unit.now) (U.number unit.now) (act_of kind.now) (length (drop behind ((U.layout unit.now).lines (U.number unit.now)))) []) }
 {
     match kind {
-        StmtKind::Loop(_, _, _, _, _) => {
+        StmtKind::Loop(_, _) => {
             let key = count_from(unit, behind)?;
             let limit = limit_of(unit, key)?;
             let step = plus(limit, 1)?;
@@ -90,7 +90,7 @@ fn reset_size(kind: &StmtKind) -> u32
     ensures { (y : Layout) (u key : ℕ) → result ≡ length (reset_by y u (act_of kind.now) key []) }
 {
     match kind {
-        StmtKind::Loop(_, _, _, _, _) => 4,
+        StmtKind::Loop(_, _) => 4,
         _ => 0,
     }
 }

@@ -36,7 +36,7 @@ pub(crate) fn names_place<U: NamedUnit>(unit: &U, e: &Expr) -> bool
 {
     match e {
         Expr::Ref(_) => true,
-        Expr::Item(name, _) => matches!(sort(unit, name), NameSort::Array(_)),
+        Expr::Item(item) => matches!(sort(unit, &item.0), NameSort::Array(_)),
         _ => false,
     }
 }
@@ -47,7 +47,10 @@ pub fn room_of<U: NamedUnit>(unit: &U, e: &Expr) -> Result<u32, AllocError>
     ensures { IfOk result (λ n. n ≡ room_of ((U.layout unit.now).linked.context (U.number unit.now)) (formula_of e.now)) }
 {
     match e {
-        Expr::Item(name, list) => room_of_item(unit, name, list),
+        Expr::Item(item) => {
+            let (name, list) = &**item;
+            room_of_item(unit, name, list)
+        }
         Expr::Group(a) => room_of(unit, a),
         Expr::Plus(a) => room_of(unit, a),
         Expr::Minus(a) => room_of(unit, a),

@@ -48,7 +48,10 @@ pub(crate) fn value_size<U: NamedUnit>(unit: &U, e: &Expr) -> Result<u32, AllocE
     match e {
         Expr::Int(_) | Expr::Truth(_) | Expr::Letter(_) => Ok(1),
         Expr::Ref(_) => Ok(2),
-        Expr::Item(name, list) => applied_size(unit, name, list),
+        Expr::Item(item) => {
+            let (name, list) = &**item;
+            applied_size(unit, name, list)
+        }
         Expr::Group(a) => value_size(unit, a),
         Expr::Plus(a) => value_size(unit, a),
         Expr::Minus(a) => {
@@ -127,7 +130,10 @@ pub(crate) fn place_size<U: NamedUnit>(unit: &U, e: &Expr) -> Result<u32, AllocE
 {
     match e {
         Expr::Ref(_) => Ok(1),
-        Expr::Item(name, list) => item_place_size(unit, name, list),
+        Expr::Item(item) => {
+            let (name, list) = &**item;
+            item_place_size(unit, name, list)
+        }
         _ => Ok(0),
     }
 }
@@ -175,7 +181,7 @@ fn item_size<U: NamedUnit>(unit: &U, e: &Expr) -> Result<u32, AllocError>
             let size = pars_size(unit.sizes(name))?;
             plus(size, 2)
         }
-        Expr::Item(_, _) => {
+        Expr::Item(_) => {
             let size = place_size(unit, e)?;
             plus(size, 1)
         }

@@ -45,7 +45,13 @@ pub(crate) fn put_act<U: CodedUnit>(
             put(ops, Op::Begin(stand.place))?;
             put_act(alloc, unit, ops, stand, inner)
         }
-        StmtKind::Loop(_, variable, first, last, step) => {
+        StmtKind::Loop(_, counted) => {
+            let f66_tree::Counting {
+                variable,
+                first,
+                last,
+                step,
+            } = &**counted;
             let counting = Counting {
                 variable,
                 first,

@@ -58,7 +58,10 @@ pub(crate) fn put_value<U: NamedUnit>(
         Expr::Truth(value) => put(ops, Op::PushLog(*value)),
         Expr::Letter(code) => put(ops, Op::PushInt(i64::from(*code))),
         Expr::Ref(name) => put_variable(unit, ops, name),
-        Expr::Item(name, list) => put_applied(unit, ops, name, list),
+        Expr::Item(item) => {
+            let (name, list) = &**item;
+            put_applied(unit, ops, name, list)
+        }
         Expr::Group(a) => put_value(unit, ops, a),
         Expr::Plus(a) => put_value(unit, ops, a),
         Expr::Minus(a) => {
@@ -158,7 +161,10 @@ pub(crate) fn put_place<U: NamedUnit>(
 {
     match e {
         Expr::Ref(name) => put_base(unit, ops, name),
-        Expr::Item(name, list) => put_item_place(unit, ops, name, list),
+        Expr::Item(item) => {
+            let (name, list) = &**item;
+            put_item_place(unit, ops, name, list)
+        }
         _ => Ok(()),
     }
 }

@@ -1,5 +1,5 @@
 -- The forms of expressions, each of its parts.
-use Rattle.std.proofs.Common.{◌≡◌, ℕ, ◌+◌, ◌∷◌, Some, None, refl, ap, subst, ◌∙◌, arith, pos, Vec, Global}
+use Rattle.std.proofs.Common.{◌≡◌, ℕ, ◌+◌, ◌∷◌, Some, None, refl, ap, subst, ◌∙◌, arith, pos}
 use Rattle.ground.specs.declared.place.Place.{Place}
 use Rattle.ground.specs.declared.value.Kind.{Kind}
 use Rattle.ground.specs.declared.value.Kind.TheVariants.{Integer, Logical}
@@ -8,10 +8,7 @@ use Rattle.f66_tree.specs.declared.expression.Operator.TheVariants.{Add, Sub}
 use Rattle.f66_tree.specs.Evaluation.{Intrinsic}
 use Rattle.f66_tree.specs.Syntax as f66
 use Rattle.f66_tree.specs.Syntax.{Text, Formula, Formulas, Ref, Int, Assign, When, Goto, unlabelled_line}
-use Rattle.f66_tree.specs.declared.expression.Expr.{Expr as AnExpr}
-use Rattle.f66_tree.specs.declared.expression.Expr.TheVariants.{Item}
-use Rattle.f66_tree.specs.Views.{formula_of, formulas_of}
-use Rattle.f66_tree.proofs.Rows.{item_formula}
+use Rattle.f66_tree.specs.Views.{formulas_of}
 use Rattle.efl_program.specs.Typed as typed
 use Rattle.efl_program.specs.Typed.{Op, Plain, AndThen, OrElse, Expr, Exprs, NoExpr, Site, Variable, Scalar}
 use Rattle.routes.specs.Routes.{BreakIf, Ring, Routes, NoRoute, AndRoute, only}
@@ -171,8 +168,8 @@ sequential_done (Plain op) so em set is label choice is1 last end = absurd so
 sequential_done AndThen so em set is label choice is1 last end = record { emitted = ring_done (decided AndThen) em set is label choice is1 last end; operand = last.operand; next = last.next }
 sequential_done OrElse so em set is label choice is1 last end = record { emitted = ring_done (decided OrElse) em set is label choice is1 last end; operand = last.operand; next = last.next }
 
-pub item_is : (x y : Text) (list : Vec AnExpr Global) (fs : Formulas) → x ≡ y → formulas_of list.items ≡ fs → formula_of (Item x list) ≡ f66.Item y fs
-item_is x y list fs e same = item_formula x list ∙ ap (λ v. f66.Item v (formulas_of list.items)) e ∙ ap (f66.Item y) same
+pub item_is : {a : Formula} {x y : Text} {fs gs : Formulas} → a ≡ f66.Item x fs → x ≡ y → fs ≡ gs → a ≡ f66.Item y gs
+item_is {a} {x} {y} {fs} is e same = is ∙ ap (λ v. f66.Item v fs) e ∙ ap (f66.Item y) same
 
 pub call_done : {s : Naming} {p : Place} {v n : ℕ} {k : Kind} {es : Exprs} {r : Arguments} {q : Evaluated} {x : Formula} {a b c : Emission} →
     AreActuals s p es n r a b → IsSet p k r.next x q b c → x ≡ f66.Item (callee_of s v) (or_one (formulas_of r.list.items)) → IsEvaluated s p (typed.Call v k es) n q a c

@@ -13,7 +13,7 @@ use crate::{
     store,
 };
 use efl_typed_tree::{Intrinsic, Scalar, TypedExpr, TypedOp};
-use f66_tree::{Expr, Operator};
+use f66_tree::{Expr, Operator, applied};
 use ground::{Kind, Place};
 use std::alloc::{AllocError, Global};
 
@@ -343,7 +343,7 @@ fn emit_call(
     let next = actuals.next;
     let list = or_one(actuals.list)?;
     let name = naming.callee(procedure)?;
-    set_temporary(out, place, kind, next, Expr::Item(name, list))
+    set_temporary(out, place, kind, next, applied(name, list)?)
 }
 
 // A call of an intrinsic function.

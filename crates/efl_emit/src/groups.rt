@@ -8,7 +8,7 @@ ghost use Rattle.efl_emit.specs.Parts.{HasRoom, IsGathered, IsOfGroup};
 
 use crate::{Emitter, Evaluated, intrinsic_name, operand_expr, set_temporary};
 use efl_typed_tree::Intrinsic;
-use f66_tree::Expr;
+use f66_tree::{Expr, applied};
 use ground::{Kind, List, Place};
 use std::alloc::AllocError;
 
@@ -61,5 +61,5 @@ fn set_group(
     ensures { IfOk result (λ r. IsOfGroup place (name_of_intrinsic (intrinsic_of intrinsic)) number group.items r (emission_of out.old) (emission_of out.new)) }
 {
     let name = intrinsic_name(out.alloc(), intrinsic)?;
-    set_temporary(out, place, Kind::Integer, number, Expr::Item(name, group))
+    set_temporary(out, place, Kind::Integer, number, applied(name, group)?)
 }

@@ -22,8 +22,8 @@
 
 use crate::formats::fields_in;
 use f66_tree::{
-    Area, Declared, Entry, Expr, Header, Name, Operator, Par, PresetPart, Stmt, StmtKind, TypeWord,
-    Unit,
+    Area, Counting, Declared, Entry, Expr, Header, Name, Operator, Par, PresetPart, Stmt, StmtKind,
+    TypeWord, Unit, applied,
 };
 use ground::{List, Place, Text};
 use std::alloc::{AllocError, Global};
@@ -207,7 +207,13 @@ fn range(alloc: Global, text: &str) -> Result<(Name, Par, Par, Par), AllocError>
 fn counted_loop(alloc: Global, rest: &str) -> Result<StmtKind, AllocError> {
     let (label, rest) = cut(rest);
     let (variable, first, last, step) = range(alloc, rest)?;
-    Ok(StmtKind::Loop(number(label), variable, first, last, step))
+    let counting = Counting {
+        variable,
+        first,
+        last,
+        step,
+    };
+    Ok(StmtKind::Loop(number(label), Box::new(alloc, counting)?))
 }
 
 fn assignment(alloc: Global, rest: &str) -> Result<StmtKind, AllocError> {
@@ -428,5 +434,5 @@ fn item(alloc: Global, stack: &mut List<Expr>, word: &str, count: u32) -> Result
     }
     list.reverse();
     let name = name(alloc, word)?;
-    Ok(Expr::Item(name, list))
+    applied(name, list)
 }

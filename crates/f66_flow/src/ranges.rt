@@ -14,7 +14,7 @@ pub(crate) fn range_end(labels: &Labels, kind: &StmtKind) -> usize
     ensures { result ≡ ranges.range_end (lines_named labels.now) (act_of kind.now) }
 {
     match kind {
-        StmtKind::Loop(label, _, _, _, _) => labels.place(*label).unwrap_or(0),
+        StmtKind::Loop(label, _) => labels.place(*label).unwrap_or(0),
         _ => 0,
     }
 }

@@ -109,7 +109,7 @@ fn has_no_end(labels: &Labels, kind: &StmtKind) -> bool
     ensures { result ≡ rules.has_no_end (lines_named labels.now) (act_of kind.now) }
 {
     match kind {
-        StmtKind::Loop(label, _, _, _, _) => leads_nowhere(labels, *label),
+        StmtKind::Loop(label, _) => leads_nowhere(labels, *label),
         _ => false,
     }
 }
@@ -118,7 +118,7 @@ fn ends_wrong(labels: &Labels, i: usize, kind: &StmtKind) -> bool
     ensures { result ≡ rules.ends_wrong (lines_named labels.now) i (act_of kind.now) }
 {
     match kind {
-        StmtKind::Loop(label, _, _, _, _) => {
+        StmtKind::Loop(label, _) => {
             !is_above(i, labels.place(*label)) || ends_no_range_at(labels, *label)
         }
         _ => false,

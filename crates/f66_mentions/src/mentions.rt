@@ -9,7 +9,7 @@ ghost use Rattle.f66_mentions.specs.UnitViews.{context_in, mention_of};
 
 use crate::names::{is_intrinsic, sizes_of};
 use crate::unit_names::UnitNames;
-use f66_tree::{Area, Declared, Entry, Expr, Name, Par, PresetPart, StmtKind};
+use f66_tree::{Area, Counting, Declared, Entry, Expr, Name, Par, PresetPart, StmtKind};
 use ground::List;
 use std::alloc::{AllocError, Global};
 
@@ -54,7 +54,13 @@ fn collect_in<'a>(
             collect(names, test, mentions)?;
             collect_in(names, inner, mentions)
         }
-        StmtKind::Loop(_, variable, first, last, step) => {
+        StmtKind::Loop(_, counting) => {
+            let Counting {
+                variable,
+                first,
+                last,
+                step,
+            } = &**counting;
             collect_counting(variable, first, last, step, mentions)
         }
         StmtKind::Invoke(name, list) => collect_call(names, name, list, mentions),
@@ -101,7 +107,10 @@ fn collect<'a>(
     match e {
         Expr::Int(_) | Expr::Truth(_) | Expr::Letter(_) => Ok(()),
         Expr::Ref(name) => add(mentions, Mention::Variable(name)),
-        Expr::Item(name, list) => collect_item(names, name, list, mentions),
+        Expr::Item(item) => {
+            let (name, list) = &**item;
+            collect_item(names, name, list, mentions)
+        }
         Expr::Group(a) => collect(names, a, mentions),
         Expr::Plus(a) => collect(names, a, mentions),
         Expr::Minus(a) => collect(names, a, mentions),

@@ -158,7 +158,10 @@ pub fn takes_kind(declarations: &Declarations, target: &Expr, kind: Kind) -> boo
 {
     match target {
         Expr::Ref(name) => { is_array(declarations, name) || may_be(declarations, name, kind) }
-        Expr::Item(name, list) => takes_element(declarations, name, list, kind),
+        Expr::Item(item) => {
+            let (name, list) = &**item;
+            takes_element(declarations, name, list, kind)
+        }
         _ => true,
     }
 }
@@ -184,7 +187,10 @@ fn is_listed(way: Way, declarations: &Declarations, e: &Expr) -> bool
     ensures { result ≡ is_listed way (context_in declarations.now) (formula_of e.now) }
 {
     match e {
-        Expr::Item(name, list) => is_listed_element(way, declarations, name, list),
+        Expr::Item(item) => {
+            let (name, list) = &**item;
+            is_listed_element(way, declarations, name, list)
+        }
         _ => true,
     }
 }

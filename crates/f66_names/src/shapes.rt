@@ -7,7 +7,7 @@ ghost use Rattle.f66_tree.specs.Syntax.{Many};
 ghost use Rattle.f66_tree.specs.Built.{is_constant};
 ghost use Rattle.f66_names.specs.Shapes.{is_capital, is_digit, is_name, level, left_level, right_level, stands, stand_all, are_arguments, is_named, is_place, is_parameter, is_item, are_items, are_some_items, is_printed, are_printed, is_declared, are_declared, is_branch, is_stop, has_shape};
 
-use f66_tree::{Declared, Entry, Expr, Field, Name, Operator, Par, StmtKind};
+use f66_tree::{Counting, Declared, Entry, Expr, Field, Name, Operator, Par, StmtKind};
 
 const GREATEST: i64 = 2_147_483_647;
 
@@ -20,7 +20,13 @@ pub fn has_shape(kind: &StmtKind) -> bool
         StmtKind::Computed(_, index) => is_name(index),
         StmtKind::Sign(e, _, _, _) => stands(0, e),
         StmtKind::When(test, inner) => stands(0, test) && (is_branch(inner) && has_shape(inner)),
-        StmtKind::Loop(_, variable, first, last, step) => {
+        StmtKind::Loop(_, counting) => {
+            let Counting {
+                variable,
+                first,
+                last,
+                step,
+            } = &**counting;
             is_counting_form(variable, first, last, step)
         }
         StmtKind::Stop(number) => is_stop(*number),
@@ -50,7 +56,10 @@ pub fn stands(at: u8, e: &Expr) -> bool
         Expr::Truth(_) => true,
         Expr::Letter(_) => false,
         Expr::Ref(name) => is_name(name),
-        Expr::Item(name, list) => is_name(name) && are_arguments(list),
+        Expr::Item(item) => {
+            let (name, list) = &**item;
+            is_name(name) && are_arguments(list)
+        }
         Expr::Group(a) => stands(0, a),
         Expr::Plus(a) => at <= 4 && stands(5, a),
         Expr::Minus(a) => at <= 4 && stands(5, a),
@@ -157,7 +166,7 @@ pub fn is_name(name: &Name) -> bool
 fn is_named(e: &Expr) -> bool
     ensures { result ≡ is_named (formula_of e.now) }
 {
-    matches!(e, Expr::Ref(_) | Expr::Item(_, _))
+    matches!(e, Expr::Ref(_) | Expr::Item(_))
 }
 
 /// Whether an expression is a variable, or a name with arguments or subscripts.
@@ -291,7 +300,7 @@ fn is_branch(kind: &StmtKind) -> bool
     ensures { result ≡ is_branch (act_of kind.now) }
 {
     match kind {
-        StmtKind::When(_, _) | StmtKind::Loop(_, _, _, _, _) => false,
+        StmtKind::When(_, _) | StmtKind::Loop(_, _) => false,
         StmtKind::Format(_) | StmtKind::Typed(_, _) | StmtKind::Dimension(_) => false,
         StmtKind::Common(_) | StmtKind::Equivalence(_) | StmtKind::Preset(_) => false,
         _ => true,

@@ -64,7 +64,7 @@ pub fn stores_wrong(declarations: &Declarations, kind: &StmtKind) -> bool
 {
     match kind {
         StmtKind::Assign(target, _) => !is_assignable(declarations, target),
-        StmtKind::Loop(_, variable, _, _, _) => is_array(declarations, variable),
+        StmtKind::Loop(_, counting) => is_array(declarations, &counting.variable),
         StmtKind::When(_, inner) => stores_wrong(declarations, inner),
         StmtKind::Read(_, _, list) => !store_entries(Way::Reading, declarations, list),
         StmtKind::Write(_, _, list) => !store_entries(Way::Writing, declarations, list),
@@ -77,7 +77,7 @@ fn is_assignable(declarations: &Declarations, target: &Expr) -> bool
 {
     match target {
         Expr::Ref(name) => !is_array(declarations, name),
-        Expr::Item(name, _) => is_array(declarations, name),
+        Expr::Item(item) => is_array(declarations, &item.0),
         _ => false,
     }
 }
@@ -86,7 +86,7 @@ fn is_readable(declarations: &Declarations, e: &Expr) -> bool
     ensures { result ≡ is_readable (context_in declarations.now) (formula_of e.now) }
 {
     match e {
-        Expr::Item(name, _) => is_array(declarations, name),
+        Expr::Item(item) => is_array(declarations, &item.0),
         _ => true,
     }
 }

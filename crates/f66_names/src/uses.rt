@@ -7,7 +7,7 @@ ghost use Rattle.f66_names.specs.UseViews.{use_of};
 ghost use Rattle.f66_names.specs.ActViews.{act_said};
 
 use crate::{Manner, Saying};
-use f66_tree::{Declared, Entry, Expr, Name, Par, StmtKind};
+use f66_tree::{Counting, Declared, Entry, Expr, Name, Par, StmtKind};
 use std::alloc::{AllocError, Global};
 
 /// A name where it stands in a statement.
@@ -50,7 +50,13 @@ pub fn collect_in<'a>(kind: &'a StmtKind, uses: &mut Vec<Use<'a>>) -> Result<(),
             collect(test, uses)?;
             collect_in(inner, uses)
         }
-        StmtKind::Loop(_, variable, first, last, step) => {
+        StmtKind::Loop(_, counting) => {
+            let Counting {
+                variable,
+                first,
+                last,
+                step,
+            } = &**counting;
             collect_counting(variable, first, last, step, uses)
         }
         StmtKind::Read(unit, _, list) => {
@@ -117,7 +123,8 @@ fn collect<'a>(e: &'a Expr, uses: &mut Vec<Use<'a>>) -> Result<(), AllocError>
     match e {
         Expr::Int(_) | Expr::Truth(_) | Expr::Letter(_) => Ok(()),
         Expr::Ref(name) => add(name, Manner::Alone, uses),
-        Expr::Item(name, list) => {
+        Expr::Item(item) => {
+            let (name, list) = &**item;
             add(name, Manner::With(list.len()), uses)?;
             collect_all(list, uses)
         }
@@ -148,7 +155,8 @@ pub fn collect_target<'a>(e: &'a Expr, uses: &mut Vec<Use<'a>>) -> Result<(), Al
     ensures { OnOk result (map use_of uses.new.items ≡ map use_of uses.old.items ++ uses_of_target (formula_of e.now)) }
 {
     match e {
-        Expr::Item(name, list) => {
+        Expr::Item(item) => {
+            let (name, list) = &**item;
             add(name, Manner::Stored(list.len()), uses)?;
             collect_all(list, uses)
         }

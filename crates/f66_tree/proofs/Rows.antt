@@ -1,5 +1,5 @@
 -- The lists inside trees, as the lists that their code goes over; and copies of the nodes that have such lists.
-use Rattle.std.proofs.Common.{◌≡◌, ℕ, Vec, Global, List, map, refl, sym, ap, ◌∙◌}
+use Rattle.std.proofs.Common.{◌≡◌, ℕ, Vec, Box, Global, List, map, refl, sym, ap, ◌∙◌}
 use mathlib.Core.Former.{Count}
 use Rattle.f66_tree.specs.declared.expression.Expr.{Expr}
 use Rattle.f66_tree.specs.declared.expression.Expr.TheVariants.{Item, Item'}
@@ -12,7 +12,7 @@ use Rattle.f66_tree.specs.declared.statement.Entry.{Entry}
 use Rattle.f66_tree.specs.declared.statement.Entry.TheVariants as n
 use Rattle.f66_tree.specs.declared.statement.Entry.TheBlock.{Row_of-Entry, end_of-Entry, more_of-Entry, items-the_row-Entry, items_hidden-the_row-Entry-0}
 use Rattle.f66_tree.specs.Fields.{Group}
-use Rattle.f66_tree.specs.Syntax.{Text, AndFormula, Many, AndEntry}
+use Rattle.f66_tree.specs.Syntax.{Text, Formula, AndFormula, Many, AndEntry}
 use Rattle.f66_tree.specs.Views.{formula_of, row_formulas, chained, formulas_of, field_then, row_fields, strung, fields_of, par_of, entry_of, row_entries, listed, entries_of}
 use Rattle.f66_tree.specs.Syntax as f66
 
@@ -21,20 +21,27 @@ row_formulas_is n end_of-Expr = refl
 row_formulas_is n (more_of-Expr a rest) = ap (AndFormula (formula_of a)) (row_formulas_is _ rest)
 
 abbrev row_of : Expr → (n : Count) × Row_of-Expr n
-row_of (Item' x shape row) = (_, row)
+row_of (Item' p x shape row) = (_, row)
 row_of _ = (_, end_of-Expr)
 
-pub item_formula : (x : Text) (list : Vec Expr Global) → formula_of (Item x list) ≡ f66.Item x (formulas_of list.items)
-item_formula x list =
-    let row = row_of (Item x list) in
-    ap (f66.Item x) (row_formulas_is row.0 row.1 ∙ ap formulas_of (items_hidden-the_row-Expr-0 list))
+pub item_formula : (item : Box (Text × Vec Expr Global) Global) → formula_of (Item item) ≡ f66.Item item.value.0 (formulas_of item.value.1.items)
+item_formula item =
+    let row = row_of (Item item) in
+    ap (f66.Item item.value.0) (row_formulas_is row.0 row.1 ∙ ap formulas_of (items_hidden-the_row-Expr-0 item.value.1))
 
-pub item_copied : (a : Expr) (x y : Text) (list copies : Vec Expr Global) (seen : List Expr) → a ≡ Item x list → seen ≡ list.items → y ≡ x → map formula_of copies.items ≡ map formula_of seen → formula_of (Item y copies) ≡ formula_of a
-item_copied a x y list copies seen is same name copied =
-    item_formula y copies
-    ∙ ap (λ n. f66.Item n (formulas_of copies.items)) name
-    ∙ ap (λ fs. f66.Item x (chained fs)) (copied ∙ ap (λ all. map formula_of all) same)
-    ∙ sym (ap formula_of is ∙ item_formula x list)
+-- what is said of a name and a list that code sees in an expression
+pub item_seen : {A : Type 0} (f : Formula → A) (e : Expr) (item : Box (Text × Vec Expr Global) Global) (pair : Text × Vec Expr Global) (seen : List Expr) → e ≡ Item item → pair ≡ item.value → seen ≡ pair.1.items →
+    f (f66.Item pair.0 (formulas_of seen)) ≡ f (formula_of e)
+item_seen f e item pair seen is same at =
+    ap (λ es. f (f66.Item pair.0 (formulas_of es))) at ∙ ap (λ v. f (f66.Item v.0 (formulas_of v.1.items))) same
+    ∙ sym (ap (λ a. f (formula_of a)) is ∙ ap f (item_formula item))
+
+pub item_copied : (a : Expr) (item copy : Box (Text × Vec Expr Global) Global) (seen : Text × Vec Expr Global) → a ≡ Item item → seen ≡ item.value → copy.value.0 ≡ seen.0 → map formula_of copy.value.1.items ≡ map formula_of seen.1.items → formula_of (Item copy) ≡ formula_of a
+item_copied a item copy seen is same name copied =
+    item_formula copy
+    ∙ ap (λ n. f66.Item n (formulas_of copy.value.1.items)) (name ∙ ap (λ v. v.0) same)
+    ∙ ap (λ fs. f66.Item item.value.0 (chained fs)) (copied ∙ ap (λ v. map formula_of v.1.items) same)
+    ∙ sym (ap formula_of is ∙ item_formula item)
 
 row_fields_is : (n : _) (row : Row_of-Field n) → row_fields row ≡ fields_of (items-the_row-Field n row)
 row_fields_is n end_of-Field = refl

@@ -28,7 +28,7 @@ abbrev mutual
   formula_of (e.Truth b) = Truth b
   formula_of (e.Letter c) = Letter c
   formula_of (e.Ref x) = Ref x
-  formula_of (e.Item' x shape all) = Item x (row_formulas all)
+  formula_of (e.Item' p x shape all) = Item x (row_formulas all)
   formula_of (e.Group' p a) = forms.Group (formula_of a)
   formula_of (e.Plus' p a) = Plus (formula_of a)
   formula_of (e.Minus' p a) = Minus (formula_of a)
@@ -106,7 +106,7 @@ act_of (s.Goto l) = Goto l
 act_of (s.Computed ls x) = Computed ls.items x
 act_of (s.Sign a l m k) = Sign (formula_of a) l m k
 act_of (s.When' a p b) = When (formula_of a) (act_of b)
-act_of (s.Loop l x a b c) = Loop l x (par_of a) (par_of b) (par_of c)
+act_of (s.Loop l d) = Loop l d.value.variable (par_of d.value.first) (par_of d.value.last) (par_of d.value.step)
 act_of (s.Invoke x all) = Invoke x (formulas_of all.items)
 act_of s.Continue = Continue
 act_of (s.Stop n) = Stop n

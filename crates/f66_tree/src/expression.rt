@@ -1,7 +1,8 @@
 // Expressions.
 ghost use Rattle.std.specs.Prelude.{◌≡◌, IfOk, map};
 ghost use Rattle.f66_tree.specs.Constants.{constant_value, unsigned_value};
-ghost use Rattle.f66_tree.specs.Views.{formula_of};
+ghost use Rattle.f66_tree.specs.Syntax.{Item};
+ghost use Rattle.f66_tree.specs.Views.{formula_of, formulas_of};
 
 use crate::Name;
 use ground::List;
@@ -16,8 +17,9 @@ pub enum Expr {
     /// A Hollerith text of one character, by its code.
     Letter(u8),
     Ref(Name),
-    /// An element of an array, or a function's value.
-    Item(Name, List<Expr>),
+    /// An element of an array, or a function's value: its name, and its subscripts or arguments. They stand in a box, so that the
+    /// many expressions without them are small.
+    Item(Box<(Name, List<Expr>)>),
     Group(Box<Expr>),
     Plus(Box<Expr>),
     Minus(Box<Expr>),
@@ -44,6 +46,14 @@ pub enum Operator {
 }
 
 const GREATEST: i64 = 2_147_483_647;
+
+/// The element of an array, or the function's value, with this name and these subscripts or arguments.
+pub fn applied(name: Name, list: List<Expr>) -> Result<Expr, AllocError>
+    ensures { IfOk result (λ e. formula_of e ≡ Item name (formulas_of list.items)) }
+{
+    let alloc = *list.allocator();
+    Ok(Expr::Item(Box::new(alloc, (name, list))?))
+}
 
 /// The value of an integer constant with one sign or none (X3.9-1966, section 5.1.1.1).
 pub fn eval_const(e: &Expr) -> Option<i64>
@@ -78,9 +88,11 @@ pub fn copy_expr(alloc: Global, e: &Expr) -> Result<Expr, AllocError>
         Expr::Truth(value) => Ok(Expr::Truth(*value)),
         Expr::Letter(code) => Ok(Expr::Letter(*code)),
         Expr::Ref(name) => Ok(Expr::Ref(name.copy()?)),
-        Expr::Item(name, list) => {
+        Expr::Item(item) => {
+            let (name, list) = &**item;
             let name = name.copy()?;
-            Ok(Expr::Item(name, copy_exprs(alloc, list)?))
+            let list = copy_exprs(alloc, list)?;
+            Ok(Expr::Item(Box::new(alloc, (name, list))?))
         }
         Expr::Group(a) => Ok(Expr::Group(copy_boxed(alloc, a)?)),
         Expr::Plus(a) => Ok(Expr::Plus(copy_boxed(alloc, a)?)),

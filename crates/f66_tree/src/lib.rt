@@ -15,11 +15,11 @@ pub use declaration::{
     copy_par, copy_presets,
 };
 pub use editing::{EditKind, Mark, Turn, Way};
-pub use expression::{Expr, Operator, copy_expr, copy_exprs, eval_const};
+pub use expression::{Expr, Operator, applied, copy_expr, copy_exprs, eval_const};
 pub use format::{Field, copy_fields};
 pub use laws::{
     places_tell_traps_alone, records_stay, runs_extend, store_keeps, unasked_change_nothing,
 };
 pub use name::Name;
-pub use statement::{Entry, Stmt, StmtKind, copy_entries, copy_kind, copy_statement};
+pub use statement::{Counting, Entry, Stmt, StmtKind, copy_entries, copy_kind, copy_statement};
 pub use unit::{Header, Unit};

@@ -1,6 +1,6 @@
 // Statements.
 ghost use Rattle.std.specs.Prelude.{◌≡◌, IfOk, map};
-ghost use Rattle.f66_tree.specs.Views.{entry_of, act_of, line_of};
+ghost use Rattle.f66_tree.specs.Views.{par_of, entry_of, act_of, line_of};
 
 use crate::{
     Area, Declared, Expr, Field, Name, Par, PresetPart, TypeWord, copy_areas, copy_declarations,
@@ -28,8 +28,8 @@ pub enum StmtKind {
     Sign(Expr, u32, u32, u32),
     /// The logical IF.
     When(Expr, Box<StmtKind>),
-    /// DO: its last statement's label, its variable, and its parameters.
-    Loop(u32, Name, Par, Par, Par),
+    /// DO: its last statement's label, and what it counts. This stands in a box, so that other statements are small.
+    Loop(u32, Box<Counting>),
     Invoke(Name, List<Expr>),
     Continue,
     /// STOP, with the value of its octal digits where it has them.
@@ -44,6 +44,15 @@ pub enum StmtKind {
     Common(List<Area>),
     Equivalence(List<List<Expr>>),
     Preset(List<PresetPart>),
+}
+
+/// What a DO counts (section 7.1.2.8): its variable, and its parameters.
+#[derive(Drop)]
+pub struct Counting {
+    pub variable: Name,
+    pub first: Par,
+    pub last: Par,
+    pub step: Par,
 }
 
 /// What READ and WRITE go over: an item, or an implied DO with its list, variable and parameters.
@@ -83,6 +92,24 @@ pub fn copy_entries(alloc: Global, list: &[Entry]) -> Result<List<Entry>, AllocE
     Ok(copies)
 }
 
+fn copy_counting(counting: &Counting) -> Result<Counting, AllocError>
+    ensures variable { IfOk result (λ r. r.variable ≡ counting.now.variable) }
+    ensures first { IfOk result (λ r. par_of r.first ≡ par_of counting.now.first) }
+    ensures last { IfOk result (λ r. par_of r.last ≡ par_of counting.now.last) }
+    ensures step { IfOk result (λ r. par_of r.step ≡ par_of counting.now.step) }
+{
+    let variable = counting.variable.copy()?;
+    let first = copy_par(&counting.first)?;
+    let last = copy_par(&counting.last)?;
+    let step = copy_par(&counting.step)?;
+    Ok(Counting {
+        variable,
+        first,
+        last,
+        step,
+    })
+}
+
 /// What the statement says, once more.
 pub fn copy_kind(alloc: Global, kind: &StmtKind) -> Result<StmtKind, AllocError>
     ensures { IfOk result (λ r. act_of r ≡ act_of kind.now) }
@@ -107,12 +134,9 @@ pub fn copy_kind(alloc: Global, kind: &StmtKind) -> Result<StmtKind, AllocError>
             let unit = copy_par(unit)?;
             Ok(StmtKind::Write(unit, *format, copy_entries(alloc, list)?))
         }
-        StmtKind::Loop(label, variable, first, last, step) => {
-            let variable = variable.copy()?;
-            let first = copy_par(first)?;
-            let last = copy_par(last)?;
-            let step = copy_par(step)?;
-            Ok(StmtKind::Loop(*label, variable, first, last, step))
+        StmtKind::Loop(label, counting) => {
+            let counting = copy_counting(counting)?;
+            Ok(StmtKind::Loop(*label, Box::new(alloc, counting)?))
         }
         StmtKind::Assign(left, right) => {
             let left = copy_expr(alloc, left)?;

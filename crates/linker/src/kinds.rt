@@ -87,7 +87,7 @@ pub(crate) fn kind_in(unit: &TypedUnit, e: &Expr) -> Kind
         Expr::Int(_) | Expr::Letter(_) | Expr::Plus(_) | Expr::Minus(_) => Kind::Integer,
         Expr::Truth(_) | Expr::Not(_) => Kind::Logical,
         Expr::Ref(name) => kind_of(unit, name),
-        Expr::Item(name, _) => kind_applied(unit, name),
+        Expr::Item(item) => kind_applied(unit, &item.0),
         Expr::Group(a) => kind_in(unit, a),
         Expr::Pair(operator, _, _) => outcome(*operator),
     }
@@ -121,7 +121,7 @@ pub(crate) fn takes_shape(array: bool, unit: &TypedUnit, e: &Expr) -> bool
 {
     match e {
         Expr::Ref(name) => array == is_array(unit, name),
-        Expr::Item(name, _) => !array || is_array(unit, name),
+        Expr::Item(item) => !array || is_array(unit, &item.0),
         _ => !array,
     }
 }

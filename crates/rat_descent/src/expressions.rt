@@ -2,8 +2,8 @@
 
 ghost use Rattle.std.specs.Prelude.{◌≡◌, IfOk, map};
 ghost use Rattle.grammar.specs.declared.language.Symbol.TheVariants.{Nonterminal as nonterminal_symbol};
-ghost use Rattle.f66_tree.specs.Syntax.{Item, Pair, Not, Group};
-ghost use Rattle.f66_tree.specs.Views.{formula_of, formulas_of};
+ghost use Rattle.f66_tree.specs.Syntax.{Pair, Not, Group};
+ghost use Rattle.f66_tree.specs.Views.{formula_of};
 ghost use Rattle.rat_parse_table.specs.declared.table.Nonterminal.TheVariants as nonterminals;
 ghost use Rattle.rat_parse_values.specs.Values.{tok, formula, formulas, located};
 ghost use Rattle.rat_parse_expressions.specs.Phrases.{signed as signed_so};
@@ -12,7 +12,7 @@ ghost use Rattle.rat_descent.specs.Reading.{Reads, Formed};
 use crate::reader::{Reader, close_production, is_at, open_production, take_token};
 use crate::tokens::{name_of, name_token, number_token, operator_at};
 use descent::GiveUp;
-use f66_tree::{Expr, Name, Operator};
+use f66_tree::{Expr, Operator, applied};
 use ground::{List, Place, Token};
 use rat_parse_table::{Production, Terminal};
 use rat_parse_values::{integer_of_kind, is_minus, is_true, sign_of_kind};
@@ -51,13 +51,6 @@ pub fn signed(alloc: Global, sign: &Token, e: Expr) -> Result<Expr, AllocError>
     } else {
         Ok(Expr::Plus(e))
     }
-}
-
-/// An element of an array, or a function of arguments.
-pub fn element(name: Name, list: List<Expr>) -> Expr
-    ensures { formula_of result ≡ Item name (formulas_of list.items) }
-{
-    Expr::Item(name, list)
 }
 
 /// Operands of `.OR.`. So many expressions may still stand inside one another.
@@ -235,7 +228,7 @@ pub fn reference(
     }
     let list = subscripts(alloc, reader, room)?;
     close_production(reader, Production::Ref);
-    Ok((token.place, element(name, list)))
+    Ok((token.place, applied(name, list)?))
 }
 
 /// Expressions in parentheses.

@@ -10,11 +10,11 @@ ghost use Rattle.rat_parse_values.specs.Parts.{as_entries};
 ghost use Rattle.rat_descent.specs.Reading.{Reads, Gives};
 
 use crate::declarations::do_range;
-use crate::expressions::{element, reference, subscripts};
+use crate::expressions::{reference, subscripts};
 use crate::reader::{Reader, close_production, is_at, is_predicted, open_production, take_token};
 use crate::tokens::{name_of, name_token};
 use descent::GiveUp;
-use f66_tree::{Entry, Expr, Name};
+use f66_tree::{Entry, Expr, Name, applied};
 use ground::List;
 use rat_parse_table::{Nonterminal, Production, Terminal};
 use rat_parse_values::Range;
@@ -68,7 +68,7 @@ fn looped(alloc: Global, reader: &mut Reader<'_>, room: usize) -> Result<Entry, 
                     open_production(reader, Production::Element);
                     let all = subscripts(alloc, reader, room)?;
                     close_production(reader, Production::Element);
-                    list.push(Entry::Item(element(name, all)))?;
+                    list.push(Entry::Item(applied(name, all)?))?;
                 }
                 _ => list.push(Entry::Item(Expr::Ref(name)))?,
             }

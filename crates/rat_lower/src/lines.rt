@@ -9,7 +9,9 @@ ghost use Rattle.rat_lower.specs.Code.{jump, label_again, label_behind, unless, 
 ghost use Rattle.rat_lower.specs.Emitted.{Adds};
 
 use crate::{Around, Maker, Turn, label_again, label_behind};
-use f66_tree::{Expr, Name, Operator, Par, Stmt, StmtKind, copy_expr, copy_kind, copy_par};
+use f66_tree::{
+    Counting, Expr, Name, Operator, Par, Stmt, StmtKind, copy_expr, copy_kind, copy_par,
+};
 use ground::{List, Place};
 use rat_tree::{RatKind, RatStmt};
 use std::alloc::{AllocError, Global};
@@ -181,15 +183,18 @@ pub fn put_do(
 ) -> Result<(), AllocError>
     ensures { OnOk result (Adds (lines_of code.old.items) (lines_of code.new.items) (λ rest. unlabelled_line place (Loop end name.now (par_of parameters.entry.0.now) (par_of parameters.entry.1.now) (par_of parameters.entry.2.now)) ∷ rest)) }
 {
-    let name = name.copy()?;
-    let first = copy_par(parameters.0)?;
-    let last = copy_par(parameters.1)?;
-    let step = copy_par(parameters.2)?;
+    let counting = Counting {
+        variable: name.copy()?,
+        first: copy_par(parameters.0)?,
+        last: copy_par(parameters.1)?,
+        step: copy_par(parameters.2)?,
+    };
+    let alloc = *code.allocator();
     put(
         code,
         None,
         place,
-        StmtKind::Loop(end, name, first, last, step),
+        StmtKind::Loop(end, Box::new(alloc, counting)?),
     )
 }
 

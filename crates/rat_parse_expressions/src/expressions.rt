@@ -4,9 +4,9 @@ ghost use Rattle.f66_tree.specs.Syntax.{Pair, Minus, Plus, Group, Not, Int};
 ghost use Rattle.f66_tree.specs.Views.{formula_of};
 ghost use Rattle.rat_parse_values.specs.Values.{value, values, at, formula, formulas, joins, located};
 ghost use Rattle.rat_parse_values.specs.Parts.{as_formula, as_exprs, as_joins, place_in, name_in, sign_in, integer_in, operator_of as operation, is_minus as minus};
-ghost use Rattle.rat_parse_expressions.specs.Phrases.{joined, signed, applied, integer as integer_seen, truth as truth_seen, letter as letter_seen};
+ghost use Rattle.rat_parse_expressions.specs.Phrases.{joined, signed, applied as applied_by, integer as integer_seen, truth as truth_seen, letter as letter_seen};
 
-use f66_tree::{Expr, Name, Operator};
+use f66_tree::{Expr, Name, Operator, applied};
 use rat_parse_values::{
     ExpressionValue, Value, into_expr, into_joins, into_name, into_text, is_minus, is_true,
     letter_of, more_exprs, operator_of, place_of, pop_value, skip, take_integer, take_sign,
@@ -44,17 +44,17 @@ fn sign(alloc: Global, part: Value, e: Expr) -> Result<Expr, AllocError>
     }
 }
 
-fn apply(alloc: Global, name: Name, part: Value) -> Expr
-    ensures { formula_of result ≡ applied name (value part) }
+fn apply(name: Name, part: Value) -> Result<Expr, AllocError>
+    ensures { IfOk result (λ e. formula_of e ≡ applied_by name (value part)) }
 {
     match part {
         Value::Expression(ExpressionValue::Exprs(mut list)) => {
             list.reverse();
-            Expr::Item(name, list)
+            applied(name, list)
         }
         other => {
             drop(other);
-            Expr::Ref(name)
+            Ok(Expr::Ref(name))
         }
     }
 }
@@ -148,13 +148,14 @@ pub fn signed_number_by(alloc: Global, parts: &mut Vec<Value>) -> Result<Value, 
 }
 
 pub fn ref_by(alloc: Global, parts: &mut Vec<Value>) -> Result<Value, AllocError>
-    ensures { IfOk result (λ v. value v ≡ located (place_in (at 1 (values parts.old.items))) (applied (name_in (at 1 (values parts.old.items))) (at 0 (values parts.old.items)))) }
+    ensures { IfOk result (λ v. value v ≡ located (place_in (at 1 (values parts.old.items))) (applied_by (name_in (at 1 (values parts.old.items))) (at 0 (values parts.old.items)))) }
 {
     let last = pop_value(parts);
     let second = pop_value(parts);
     let place = place_of(&second);
     let name = into_name(second);
-    Ok(Value::Expression(ExpressionValue::Located(place, apply(alloc, name, last))))
+    let e = apply(name, last)?;
+    Ok(Value::Expression(ExpressionValue::Located(place, e)))
 }
 
 pub fn listed_by(alloc: Global, parts: &mut Vec<Value>) -> Result<Value, AllocError>

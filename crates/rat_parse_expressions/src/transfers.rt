@@ -7,7 +7,7 @@ ghost use Rattle.rat_parse_values.specs.Parts.{as_formula, as_exprs, as_entries,
 ghost use Rattle.rat_parse_expressions.specs.Phrases.{applied_if, looped, lengthened, pended, begun};
 
 use crate::lists::more_entries;
-use f66_tree::{Entry, Expr, Name};
+use f66_tree::{Entry, Expr, Name, applied};
 use ground::List;
 use rat_parse_values::{
     LoopRest, ParameterValue, Range, TransferValue, Value, into_entries, into_expr, into_name,
@@ -15,12 +15,12 @@ use rat_parse_values::{
 };
 use std::alloc::{AllocError, Global};
 
-fn apply(name: Name, arguments: Option<List<Expr>>) -> Expr
-    ensures { formula_of result ≡ applied_if name (arguments_of arguments) }
+fn apply(name: Name, arguments: Option<List<Expr>>) -> Result<Expr, AllocError>
+    ensures { IfOk result (λ e. formula_of e ≡ applied_if name (arguments_of arguments)) }
 {
     match arguments {
-        None => Expr::Ref(name),
-        Some(list) => Expr::Item(name, list),
+        None => Ok(Expr::Ref(name)),
+        Some(list) => applied(name, list),
     }
 }
 
@@ -94,7 +94,7 @@ fn begin(
         variable,
         range,
     } = rest;
-    list.push(Entry::Item(apply(name, arguments)))?;
+    list.push(Entry::Item(apply(name, arguments)?))?;
     rest_value(alloc, list, variable, range)
 }
 

@@ -7,7 +7,9 @@ ghost use Rattle.rat_check.specs.PartViews.{part_of, parts_seen};
 ghost use Rattle.rat_said.specs.Said.{part_lines, said_line, said_lines, said_routine};
 
 use f66_names::Saying;
-use f66_tree::{Expr, Header, Name, Stmt, StmtKind, Unit, copy_expr, copy_kind, copy_par};
+use f66_tree::{
+    Counting, Expr, Header, Name, Stmt, StmtKind, Unit, copy_expr, copy_kind, copy_par,
+};
 use ground::List;
 use rat_check::{Part, parts_of, sayings_of};
 use rat_tree::RatUnit;
@@ -94,12 +96,18 @@ fn kind_said(alloc: Global, saying: &Saying) -> Result<StmtKind, AllocError>
             let value = copy_expr(alloc, e)?;
             Ok(StmtKind::Sign(value, 0, 0, 0))
         }
-        Saying::Counting(name, first, last, step) => {
-            let name = name.copy()?;
+        Saying::Counting(variable, first, last, step) => {
+            let variable = variable.copy()?;
             let first = copy_par(first)?;
             let last = copy_par(last)?;
             let step = copy_par(step)?;
-            Ok(StmtKind::Loop(0, name, first, last, step))
+            let counting = Counting {
+                variable,
+                first,
+                last,
+                step,
+            };
+            Ok(StmtKind::Loop(0, Box::new(alloc, counting)?))
         }
         Saying::Returned(name, e) => {
             let name = name.copy()?;

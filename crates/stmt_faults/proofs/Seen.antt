@@ -1,20 +1,15 @@
 -- Lists inside trees, as the lists that the code goes over; and digits behind a number that is too large.
-use Rattle.std.proofs.Common.{◌≡◌, ℕ, ◌+◌, ◌-◌, ◌*◌, ◌<◌, Vec, Global, Bool, true, List, [], ◌∷◌, map, refl, sym, ap, ◌∙◌, arith}
+use Rattle.std.proofs.Common.{◌≡◌, ℕ, ◌+◌, ◌-◌, ◌*◌, ◌<◌, Vec, Global, Bool, true, List, [], ◌∷◌, sym, ap, ◌∙◌, arith}
 use Rattle.std.specs.Prelude.{nat_lt}
 use Rattle.std.proofs.lemmas.Bool.Decides.{nat_tests}
-use Rattle.f66_tree.specs.declared.expression.Expr.{Expr}
-use Rattle.f66_tree.specs.declared.expression.Expr.TheVariants.{Item}
 use Rattle.f66_tree.specs.declared.declaration.Par.{Par}
 use Rattle.f66_tree.specs.declared.statement.Entry.{Entry}
 use Rattle.f66_tree.specs.declared.statement.Entry.TheVariants as n
-use Rattle.f66_tree.specs.Syntax.{Text, Formula, Many}
+use Rattle.f66_tree.specs.Syntax.{Text, Many}
 use Rattle.f66_tree.specs.Syntax as f66
-use Rattle.f66_tree.specs.Views.{entries_of, entry_of, formula_of, formulas_of, par_of}
-use Rattle.f66_tree.proofs.Rows.{item_formula, many_entry}
+use Rattle.f66_tree.specs.Views.{entries_of, entry_of, par_of}
+use Rattle.f66_tree.proofs.Rows.{many_entry}
 use Rattle.stmt_reader.specs.Formats.{value_after}
-
-pub item_seen : (f : Formula → Bool) (e : Expr) (x : Text) (list : Vec Expr Global) (seen : List Expr) → e ≡ Item x list → seen ≡ list.items → f (f66.Item x (formulas_of seen)) ≡ f (formula_of e)
-item_seen f e x list seen is same = ap (λ (es : List Expr). f (f66.Item x (formulas_of es))) same ∙ ap f (sym (item_formula x list) ∙ ap formula_of (sym is))
 
 pub many_seen : (f : f66.Entry → Bool) (e : Entry) (list : Vec Entry Global) (x : Text) (a b c : Par) (seen : List Entry) → e ≡ n.Many list x a b c → seen ≡ list.items
     → f (Many (entries_of seen) x (par_of a) (par_of b) (par_of c)) ≡ f (entry_of e)

@@ -19,7 +19,10 @@ pub fn formula_has(ask: Asked, e: &Expr) -> bool
         Expr::Truth(_) => false,
         Expr::Letter(_) => false,
         Expr::Ref(name) => ask.of_name(name),
-        Expr::Item(name, list) => ask.of_name(name) || formulas_have(ask, list),
+        Expr::Item(item) => {
+            let (name, list) = &**item;
+            ask.of_name(name) || formulas_have(ask, list)
+        }
         Expr::Group(a) => formula_has(ask, a),
         Expr::Plus(a) => formula_has(ask, a),
         Expr::Minus(a) => formula_has(ask, a),

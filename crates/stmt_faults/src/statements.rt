@@ -7,7 +7,7 @@ ghost use Rattle.stmt_faults.specs.Asking.{asked_of};
 
 use crate::asking::Asked;
 use crate::expressions::{declarations_have, entries_have, formula_has, formulas_have, par_has};
-use f66_tree::{Area, Expr, Header, Name, PresetPart, StmtKind};
+use f66_tree::{Area, Counting, Expr, Header, Name, PresetPart, StmtKind};
 use ground::List;
 
 /// Whether a number or name of a statement is such a one.
@@ -25,7 +25,13 @@ pub fn act_has(ask: Asked, kind: &StmtKind) -> bool
                 || ask.of_count(*above)
         }
         StmtKind::When(e, inner) => formula_has(ask, e) || act_has(ask, inner),
-        StmtKind::Loop(label, variable, first, last, step) => {
+        StmtKind::Loop(label, counting) => {
+            let Counting {
+                variable,
+                first,
+                last,
+                step,
+            } = &**counting;
             ask.of_count(*label)
                 || ask.of_name(variable)
                 || par_has(ask, first)

@@ -61,7 +61,7 @@ fn counted(alloc: Global, tokens: &[Token]) -> Result<Option<StmtKind>, AllocErr
 {
     match after_word(alloc, b"DO", tokens)? {
         None => Ok(None),
-        Some(rest) => read_loop(&rest),
+        Some(rest) => read_loop(alloc, &rest),
     }
 }
 

@@ -12,7 +12,7 @@ ghost use Rattle.stmt_reader.specs.Taking.{par_if, then_if};
 ghost use Rattle.stmt_parts.specs.Lists.{computed_by, condition_in, greatest_before, labels_if};
 
 use crate::lists::{Member, read_list};
-use f66_tree::{Expr, Name, Par, StmtKind};
+use f66_tree::{Counting, Expr, Name, Par, StmtKind};
 use ground::{List, Text};
 use std::alloc::{AllocError, Global};
 use stmt_reader::{Stop, Token, cut_at, read_expression, without};
@@ -208,7 +208,7 @@ fn signs(condition: Expr, labels: &[u32]) -> Option<StmtKind>
 }
 
 /// A DO, behind its word.
-pub fn read_loop(tokens: &[Token]) -> Result<Option<StmtKind>, AllocError>
+pub fn read_loop(alloc: Global, tokens: &[Token]) -> Result<Option<StmtKind>, AllocError>
     ensures { IfOk result (λ s. act_if s ≡ loop_of tokens.now) }
 {
     match tokens {
@@ -219,7 +219,14 @@ pub fn read_loop(tokens: &[Token]) -> Result<Option<StmtKind>, AllocError>
             first,
             Token::Comma,
             last,
-        ] => loop_with(*label, text, par(first)?, par(last)?, Some(Par::Number(1))),
+        ] => loop_with(
+            alloc,
+            *label,
+            text,
+            par(first)?,
+            par(last)?,
+            Some(Par::Number(1)),
+        ),
         [
             Token::Number(label),
             Token::Word(text),
@@ -229,12 +236,13 @@ pub fn read_loop(tokens: &[Token]) -> Result<Option<StmtKind>, AllocError>
             last,
             Token::Comma,
             step,
-        ] => loop_with(*label, text, par(first)?, par(last)?, par(step)?),
+        ] => loop_with(alloc, *label, text, par(first)?, par(last)?, par(step)?),
         _ => Ok(None),
     }
 }
 
 fn loop_with(
+    alloc: Global,
     label: u32,
     text: &Text,
     first: Option<Par>,
@@ -246,7 +254,13 @@ fn loop_with(
     match (first, last, step) {
         (Some(first), Some(last), Some(step)) => {
             let variable = Name::new(text.clone()?);
-            Ok(Some(StmtKind::Loop(label, variable, first, last, step)))
+            let counting = Counting {
+                variable,
+                first,
+                last,
+                step,
+            };
+            Ok(Some(StmtKind::Loop(label, Box::new(alloc, counting)?)))
         }
         _ => Ok(None),
     }

@@ -44,10 +44,13 @@ fn declared_in(alloc: Global, e: Expr) -> Result<Option<Declared>, AllocError>
             name,
             sizes: Vec::new(alloc),
         })),
-        Expr::Item(name, list) => match pars_in(Vec::new(alloc), &list)? {
-            None => Ok(None),
-            Some(sizes) => Ok(Some(Declared { name, sizes })),
-        },
+        Expr::Item(item) => {
+            let (name, list) = Box::into_inner(item);
+            match pars_in(Vec::new(alloc), &list)? {
+                None => Ok(None),
+                Some(sizes) => Ok(Some(Declared { name, sizes })),
+            }
+        }
         _ => Ok(None),
     }
 }

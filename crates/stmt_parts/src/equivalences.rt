@@ -50,7 +50,10 @@ fn group_in(e: Expr) -> Option<List<Expr>>
     ensures { option_map (λ group. map formula_of group.items) result ≡ group_of_tree (formula_of e) }
 {
     match e {
-        Expr::Item(name, list) => places_of(name, list),
+        Expr::Item(item) => {
+            let (name, list) = Box::into_inner(item);
+            places_of(name, list)
+        }
         _ => None,
     }
 }
@@ -79,7 +82,7 @@ fn is_place(e: &Expr) -> bool
 {
     match e {
         Expr::Ref(_) => true,
-        Expr::Item(_, _) => true,
+        Expr::Item(_) => true,
         _ => false,
     }
 }

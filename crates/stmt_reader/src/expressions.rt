@@ -139,7 +139,7 @@ fn applied(name: Name, before: List<Expr>, last: Expr) -> Result<Expr, AllocErro
 {
     let mut list = before;
     list.push(last)?;
-    Ok(Expr::Item(name, list))
+    f66_tree::applied(name, list)
 }
 
 fn name_of(text: &Text) -> Result<Name, AllocError>

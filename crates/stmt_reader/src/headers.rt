@@ -77,10 +77,13 @@ fn subroutine_in(alloc: Global, e: Expr) -> Result<Option<Header>, AllocError>
 {
     match e {
         Expr::Ref(name) => Ok(Some(Header::Sub(name, Vec::new(alloc)))),
-        Expr::Item(name, list) => match names_in(Vec::new(alloc), &list)? {
-            None => Ok(None),
-            Some(dummies) => Ok(Some(Header::Sub(name, dummies))),
-        },
+        Expr::Item(item) => {
+            let (name, list) = Box::into_inner(item);
+            match names_in(Vec::new(alloc), &list)? {
+                None => Ok(None),
+                Some(dummies) => Ok(Some(Header::Sub(name, dummies))),
+            }
+        }
         _ => Ok(None),
     }
 }
@@ -106,10 +109,13 @@ fn function_in(alloc: Global, word: Option<TypeWord>, e: Expr) -> Result<Option<
     ensures { IfOk result (λ h. header_if h ≡ function_of_tree word (formula_of e)) }
 {
     match e {
-        Expr::Item(name, list) => match names_in(Vec::new(alloc), &list)? {
-            None => Ok(None),
-            Some(dummies) => Ok(Some(Header::Func(word, name, dummies))),
-        },
+        Expr::Item(item) => {
+            let (name, list) = Box::into_inner(item);
+            match names_in(Vec::new(alloc), &list)? {
+                None => Ok(None),
+                Some(dummies) => Ok(Some(Header::Func(word, name, dummies))),
+            }
+        }
         _ => Ok(None),
     }
 }

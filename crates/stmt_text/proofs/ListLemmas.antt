@@ -1,5 +1,5 @@
 -- Lists with commas between their members.
-use Rattle.std.proofs.Common.{◌≡◌, ℕ, zero, suc, false, Vec, Global, List, [], ◌∷◌, ◌++◌, ◌<◌, length, get_or, drop, drop-cons, Option, Some, None, map, sym, ap, subst, refl, ◌∙◌}
+use Rattle.std.proofs.Common.{◌≡◌, ℕ, zero, suc, false, Vec, Box, Global, List, [], ◌∷◌, ◌++◌, ◌<◌, length, get_or, drop, drop-cons, Option, Some, None, map, sym, ap, subst, refl, ◌∙◌}
 use Rattle.std.specs.Prelude.{nat_eq}
 use Rattle.f66_tree.specs.declared.expression.Expr.{Expr}
 use Rattle.f66_tree.specs.declared.expression.Expr.TheVariants.{Item}
@@ -9,7 +9,7 @@ use Rattle.f66_tree.specs.declared.statement.Entry.TheVariants as n
 use Rattle.f66_tree.specs.Syntax as forms
 use Rattle.f66_tree.specs.Syntax.{Text, Formula, Formulas, Many, Entries}
 use Rattle.f66_tree.specs.Views.{chained, formula_of, formulas_of, par_of, entry_of, entries_of, listed}
-use Rattle.f66_tree.proofs.Rows.{item_formula, many_entry}
+use Rattle.f66_tree.proofs.Rows.{item_seen, many_entry}
 use Rattle.stmt_text.specs.Emitting.{Emits}
 use Rattle.stmt_text.specs.Texts.{arguments_text, member, commas, in_parentheses, more_commas, formula_text, formulas_text, more_formulas_text, entry_text, entries_text, more_entries_text}
 
@@ -19,12 +19,10 @@ left_text zero es k = formulas_text es k
 left_text (suc i) es k = more_formulas_text es k
 
 -- the list in a tree is the list that its code goes over
-pub item_text : {A : Type 0} (r : Option A) (old new : List ℕ) (a : Expr) (x : Text) (list : Vec Expr Global) (seen : List Expr) → a ≡ Item x list → seen ≡ list.items
-    → Emits r old new (formula_text (forms.Item x (chained (map formula_of seen)))) → Emits r old new (formula_text (formula_of a))
-item_text r old new a x list seen is same emits =
-    let tree : forms.Item x (chained (map formula_of seen)) ≡ formula_of a =
-    ap (λ (es : List Expr). forms.Item x (formulas_of es)) same ∙ sym (item_formula x list) ∙ ap formula_of (sym is) in
-    subst (λ (f : Formula). Emits r old new (formula_text f)) tree emits
+pub item_text : {A : Type 0} (r : Option A) (old new : List ℕ) (a : Expr) (item : Box (Text × Vec Expr Global) Global) (pair : Text × Vec Expr Global) (seen : List Expr) → a ≡ Item item → pair ≡ item.value → seen ≡ pair.1.items
+    → Emits r old new (formula_text (forms.Item pair.0 (formulas_of seen))) → Emits r old new (formula_text (formula_of a))
+item_text r old new a item pair seen is same at emits =
+    subst (λ (f : Formula). Emits r old new (formula_text f)) (item_seen (λ f. f) a item pair seen is same at) emits
 
 abbrev pub left_commas : {A : Type 0} → ℕ → (A → List ℕ → List ℕ) → List A → List ℕ → List ℕ
 left_commas zero text all k = commas text all k

@@ -33,7 +33,10 @@ pub fn push_formula(out: &mut StatementText, e: &Expr) -> Option<()>
             push(out, *c)
         }
         Expr::Ref(name) => push_all(out, name.as_bytes()),
-        Expr::Item(name, list) => push_applied(out, name, list),
+        Expr::Item(item) => {
+            let (name, list) = &**item;
+            push_applied(out, name, list)
+        }
         Expr::Group(a) => {
             push(out, b'(')?;
             push_formula(out, a)?;

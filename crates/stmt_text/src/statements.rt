@@ -13,7 +13,7 @@ use crate::expressions::{push_formula, push_formulas};
 use crate::formats::push_format;
 use crate::lists::{push_labels, push_loop};
 use crate::writer::{StatementText, push, push_all, push_number};
-use f66_tree::{Expr, Name, Par, StmtKind};
+use f66_tree::{Counting, Expr, Name, Par, StmtKind};
 
 /// The text of a statement, unless it passes twenty cards.
 pub fn statement_text(kind: &StmtKind) -> Option<StatementText>
@@ -38,7 +38,13 @@ fn push_statement(out: &mut StatementText, kind: &StmtKind) -> Option<()>
             push_test(out, test)?;
             push_statement(out, inner)
         }
-        StmtKind::Loop(label, variable, first, last, step) => {
+        StmtKind::Loop(label, counting) => {
+            let Counting {
+                variable,
+                first,
+                last,
+                step,
+            } = &**counting;
             push_do(out, *label, variable, first, last, step)
         }
         StmtKind::Invoke(name, list) => push_call(out, name, list),

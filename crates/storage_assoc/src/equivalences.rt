@@ -127,7 +127,8 @@ fn member_of(
             let row = row_of(rows, name);
             Ok(Some(RowPlace { row, at: 0 }))
         }
-        Expr::Item(name, subscripts) => {
+        Expr::Item(item) => {
+            let (name, subscripts) = &**item;
             let row = row_of(rows, name);
             let at = shift_of(dims_of(dims, name), subscripts)?;
             Ok(Some(RowPlace { row, at }))

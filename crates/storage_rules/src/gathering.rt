@@ -128,7 +128,8 @@ fn place_of<'a>(
 {
     match place {
         Expr::Ref(name) => Ok(Some((name, 0))),
-        Expr::Item(name, subscripts) => {
+        Expr::Item(item) => {
+            let (name, subscripts) = &**item;
             let at = shift(1, sizes_of(names, name.as_bytes()), subscripts)?;
             Ok(Some((name, at.unsigned_abs() as usize)))
         }

@@ -78,7 +78,7 @@ fn holds_place(names: &UnitNames, e: &Expr) -> bool
 {
     match e {
         Expr::Ref(name) => is_held(names, name),
-        Expr::Item(name, _) => is_held(names, name),
+        Expr::Item(item) => is_held(names, &item.0),
         _ => false,
     }
 }

@@ -37,7 +37,7 @@ fn has_variable_subscript(e: &Expr) -> bool
     ensures { result ≡ has_variable_subscript (formula_of e.now) }
 {
     match e {
-        Expr::Item(_, list) => is_variable_element(list),
+        Expr::Item(item) => is_variable_element(&item.1),
         _ => false,
     }
 }

@@ -55,7 +55,10 @@ fn miscounts_element(declarations: &Declarations, e: &Expr) -> bool
     ensures { result ≡ miscounts_element (context_in declarations.now) (formula_of e.now) }
 {
     match e {
-        Expr::Item(name, list) => is_miscounted(declarations, name, list),
+        Expr::Item(item) => {
+            let (name, list) = &**item;
+            is_miscounted(declarations, name, list)
+        }
         _ => false,
     }
 }
@@ -71,7 +74,7 @@ fn has_one_subscript(e: &Expr) -> bool
     ensures { result ≡ has_one_subscript (formula_of e.now) }
 {
     match e {
-        Expr::Item(_, list) => is_one(list),
+        Expr::Item(item) => is_one(&item.1),
         _ => false,
     }
 }

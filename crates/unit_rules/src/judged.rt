@@ -90,8 +90,8 @@ fn collect_stored<'a>(
         (map use_of uses.new.items ≡ map use_of uses.old.items ++ judged_of_target (context_in declarations.now) (formula_of e.now)) }
 {
     match e {
-        Expr::Item(name, _) => {
-            if is_array(declarations, name) {
+        Expr::Item(item) => {
+            if is_array(declarations, &item.0) {
                 return collect_target(e, uses);
             }
             Ok(())

@@ -117,7 +117,8 @@ fn collect_place<'a>(
         (map use_of uses.new.items ≡ map use_of uses.old.items ++ uses_of_place (context_in declarations.now) (formula_of e.now)) }
 {
     match e {
-        Expr::Item(name, list) => {
+        Expr::Item(item) => {
+            let (name, list) = &**item;
             if is_array(declarations, name) {
                 return collect_all(list, uses);
             }

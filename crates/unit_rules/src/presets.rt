@@ -109,7 +109,10 @@ fn takes_value(names: &UnitNames, e: &Expr) -> bool
 {
     match e {
         Expr::Ref(name) => !is_array(&names.declarations, name) && may_hold(names, name),
-        Expr::Item(name, list) => is_fit_element(names, name, list),
+        Expr::Item(item) => {
+            let (name, list) = &**item;
+            is_fit_element(names, name, list)
+        }
         _ => false,
     }
 }

@@ -50,7 +50,10 @@ fn has_odd_subscript(declarations: &Declarations, e: &Expr) -> bool
     ensures { result ≡ has_odd_subscript (context_in declarations.now) (formula_of e.now) }
 {
     match e {
-        Expr::Item(name, list) => is_odd_element(declarations, name, list),
+        Expr::Item(item) => {
+            let (name, list) = &**item;
+            is_odd_element(declarations, name, list)
+        }
         _ => false,
     }
 }
@@ -59,7 +62,7 @@ fn is_no_element(declarations: &Declarations, e: &Expr) -> bool
     ensures { result ≡ is_no_element (context_in declarations.now) (formula_of e.now) }
 {
     match e {
-        Expr::Item(name, _) => !is_array(declarations, name),
+        Expr::Item(item) => !is_array(declarations, &item.0),
         _ => false,
     }
 }

@@ -12,7 +12,7 @@ use f66_names::{
     Declarations, NameForm, are_entries, are_subscripts, counts, form_of, is_array, is_counter,
     is_counting, is_integer, kind_of, may_be, operand, outcome, same_kind, takes_kind,
 };
-use f66_tree::{Expr, Name, StmtKind, Way};
+use f66_tree::{Counting, Expr, Name, StmtKind, Way};
 use ground::Kind;
 
 /// Whether a statement has an operand, a subscript, an argument or a value of another type than it asks for
@@ -28,7 +28,13 @@ pub fn clashes(declarations: &Declarations, kind: &StmtKind) -> bool
         }
         StmtKind::Invoke(_, list) => !are_passed(declarations, list),
         StmtKind::Computed(_, index) => !is_counter(declarations, index),
-        StmtKind::Loop(_, variable, first, last, step) => {
+        StmtKind::Loop(_, counting) => {
+            let Counting {
+                variable,
+                first,
+                last,
+                step,
+            } = &**counting;
             !counts(declarations, variable, first, last, step)
         }
         StmtKind::Read(unit, _, list) => {
@@ -74,7 +80,7 @@ pub fn kind_seen(declarations: &Declarations, e: &Expr) -> Kind
         Expr::Int(_) | Expr::Letter(_) | Expr::Plus(_) | Expr::Minus(_) => Kind::Integer,
         Expr::Truth(_) | Expr::Not(_) => Kind::Logical,
         Expr::Ref(name) => kind_of(declarations, name),
-        Expr::Item(name, _) => kind_applied(declarations, name),
+        Expr::Item(item) => kind_applied(declarations, &item.0),
         Expr::Group(a) => kind_seen(declarations, a),
         Expr::Pair(operator, _, _) => outcome(*operator),
     }
@@ -105,7 +111,10 @@ pub fn fits(declarations: &Declarations, e: &Expr, kind: Kind) -> bool
         Expr::Truth(_) => same_kind(Kind::Logical, kind),
         Expr::Letter(_) => false,
         Expr::Ref(name) => !is_array(declarations, name) && may_be(declarations, name, kind),
-        Expr::Item(name, list) => fits_item(declarations, name, list, kind),
+        Expr::Item(item) => {
+            let (name, list) = &**item;
+            fits_item(declarations, name, list, kind)
+        }
         Expr::Group(a) => fits(declarations, a, kind),
         Expr::Plus(a) => same_kind(Kind::Integer, kind) && fits(declarations, a, Kind::Integer),
         Expr::Minus(a) => same_kind(Kind::Integer, kind) && fits(declarations, a, Kind::Integer),

@@ -44,7 +44,7 @@ emit_sequential-returns t c =
     c.in_ok-last.ensures c.in_ok-put_here.ensures
 
 pub emit_call-returns : goal.emit_call-returns
-emit_call-returns t c = IfOk-weaker c.set_temporary.result _ _ (λ r h. call_done c.in_ok-actuals.ensures h (item_is _ _ _ _ c.in_ok-name.ensures c.in_ok-list.ensures)) c.set_temporary.ensures
+emit_call-returns t c = IfOk-weaker c.set_temporary.result _ _ (λ r h. call_done c.in_ok-actuals.ensures h (item_is c.in_ok-applied.ensures c.in_ok-name.ensures c.in_ok-list.ensures)) c.set_temporary.ensures
 
 pub emit_known-returns : goal.emit_known-returns
 emit_known-returns t c = IfOk-weaker c.set_gathered.result _ _ (λ r h. known_done c.in_ok-all.ensures h) c.set_gathered.ensures

@@ -9,4 +9,4 @@ use Rattle.efl_emit.proofs.groups.set_group.Goals as goal
 
 pub returns : goal.returns
 returns c =
-    IfOk-weaker c.set_temporary.result _ _ (λ r h. subst (λ v. IsSet c.args.place Integer c.args.number v r (emission_of c.args.out.now) (emission_of c.set_temporary.new.out)) (item_is _ _ _ _ c.in_ok-name.ensures refl) h) c.set_temporary.ensures
+    IfOk-weaker c.set_temporary.result _ _ (λ r h. subst (λ v. IsSet c.args.place Integer c.args.number v r (emission_of c.args.out.now) (emission_of c.set_temporary.new.out)) (item_is c.in_ok-applied.ensures c.in_ok-name.ensures refl) h) c.set_temporary.ensures

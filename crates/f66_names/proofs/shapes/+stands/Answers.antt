@@ -1,7 +1,7 @@
 -- A name with arguments.
 use Rattle.std.proofs.Common.{◌∙◌, ap, sym, ◌&&◌, arith}
-use Rattle.f66_tree.specs.Views.{formula_of, formulas_of}
-use Rattle.f66_tree.proofs.Rows.{item_formula}
+use Rattle.f66_tree.specs.Views.{formulas_of}
+use Rattle.f66_tree.proofs.Rows.{item_seen}
 use Rattle.f66_names.specs.Shapes.{stands, are_arguments}
 use Rattle.f66_names.proofs.FormulaLemmas.{some_arguments}
 use Rattle.f66_names.proofs.shapes.+stands.Goals as goal
@@ -11,8 +11,7 @@ are_arguments-returns-then-not-is_empty t c = c.stand_all.ensures ∙ some_argum
 
 pub stands-returns-then-is_name : goal.stands-returns-then-is_name
 stands-returns-then-is_name t c =
-    let at = c.args.at in
-    let list = c.in-Item.list in
-    c.are_arguments.ensures ∙ ap (λ es. are_arguments (formulas_of es)) c.deref.ensures.value
-    ∙ sym (ap (λ e. stands at (formula_of e)) c.in-Item.is ∙ ap (stands at) (item_formula c.in-Item.name list)
-    ∙ ap (λ b. b && are_arguments (formulas_of list.items)) (sym c.is_name-in-Item.ensures ∙ c.if-is_name.true))
+    let seen = c.deref-then-is_name.result.now in
+    c.are_arguments.ensures
+    ∙ ap (λ b. b && are_arguments (formulas_of seen)) (sym (sym c.is_name-in-Item.ensures ∙ c.if-is_name.true))
+    ∙ item_seen (stands c.args.at) c.args.e.now c.in-Item.item c.deref.result.now seen c.in-Item.is c.deref.ensures c.deref-then-is_name.ensures.value

@@ -144,7 +144,7 @@ reference-returns-then-not-is_at t c =
 pub reference-returns : goal.reference-returns
 reference-returns t c =
     as_value (ap (λ x. located c.in_ok-token.token.now.place (Item x (formulas_of c.in_ok-list.list.items))) (sym c.in_ok-name.ensures)
-    ∙ ap (located c.in_ok-token.token.now.place) (sym c.element.ensures))
+    ∙ ap (located c.in_ok-token.token.now.place) (sym c.in_ok-applied.ensures))
     (production productions.Ref refl refl c.open_production.ensures c.close_production-2.ensures (next c.in_ok-token.ensures
     (next (production productions.SomeArguments refl refl refl refl (next c.in_ok-list.ensures done)) done)))
 

@@ -10,7 +10,7 @@ use Rattle.rat_parse_values.specs.Values.{entry, rest, range_of}
 use Rattle.descent.specs.Reading.{done, next}
 use Rattle.rat_descent.proofs.Productions.{production, as_value}
 use Rattle.rat_descent.proofs.TransferLemmas.{read_at, behind, longer}
-use Rattle.rat_descent.proofs.transfers.+entry.Goals.{looped-then-is_at+in_ok-looped+in_ok-push-2, looped-else-is_at+in_ok-name_token+in_ok-name+in-Open+in_ok-all-in-Open+in_ok-push-in-Open, looped-else-is_at+in_ok-name_token+in_ok-name+in_default-seen+in_ok-push-in_default-seen}
+use Rattle.rat_descent.proofs.transfers.+entry.Goals.{looped-then-is_at+in_ok-looped+in_ok-push-2, looped-else-is_at+in_ok-name_token+in_ok-name+in-Open+in_ok-all-in-Open+in_ok-applied-in-Open+in_ok-push-in-Open, looped-else-is_at+in_ok-name_token+in_ok-name+in_default-seen+in_ok-push-in_default-seen}
 use Rattle.rat_descent.proofs.transfers.+entry.Goals as goal
 
 pub entry-returns-then-is_at : goal.entry-returns-then-is_at
@@ -43,11 +43,11 @@ looped-more-preserved t c = λ v s more. elim c.if-is_at.branch [
       as_value (longer c.more.list.items one v (ap (λ (l : Vec Entry Global). l.items) w.list-is ∙ w.in_ok-push-2.ensures.items))
       (c.more.invariant (behind (entry_of one) v) s
       (production productions.LoopLoop refl refl refl refl (next w.in_ok-looped.ensures (next (read_at w.reader-is c.in_ok-take_token-3.ensures) (next more done)))))
-  | looped-else-is_at+in_ok-name_token+in_ok-name+in-Open+in_ok-all-in-Open+in_ok-push-in-Open w ↦
-      let e = w.element.result in
+  | looped-else-is_at+in_ok-name_token+in_ok-name+in-Open+in_ok-all-in-Open+in_ok-applied-in-Open+in_ok-push-in-Open w ↦
+      let e = w.in_ok-applied-in-Open.field-0 in
       as_value (longer c.more.list.items (entries.Item e) v (ap (λ (l : Vec Entry Global). l.items) w.list-is ∙ w.in_ok-push-in-Open.ensures.items))
       (c.more.invariant (behind (One (formula_of e)) v) s
-      (as_value (ap (λ f. rest (behind (One f) v)) (ap (λ x. Item x (formulas_of w.in_ok-all-in-Open.all.items)) (sym w.in_ok-name.ensures) ∙ sym w.element.ensures))
+      (as_value (ap (λ f. rest (behind (One f) v)) (ap (λ x. Item x (formulas_of w.in_ok-all-in-Open.all.items)) (sym w.in_ok-name.ensures) ∙ sym w.in_ok-applied-in-Open.ensures))
       (production productions.LoopName refl refl refl refl (next w.in_ok-name_token.ensures
       (next (production productions.LoopElement refl refl refl refl
       (next (production productions.Element refl refl w.open_production.ensures w.close_production.ensures (next w.in_ok-all-in-Open.ensures done))

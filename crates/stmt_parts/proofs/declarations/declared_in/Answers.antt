@@ -13,13 +13,13 @@ use Rattle.stmt_parts.proofs.declarations.declared_in.Goals as goal
 pub returns-in-None : goal.returns-in-None
 returns-in-None c =
     let all = pars_in (chained (map formula_of c.deref.result.now)) in
-    item_read declared_in c.in-Item.name c.args.e c.in-Item.list c.deref.result.now None c.in-Item.is c.deref.ensures.value
-    (ap (λ (o : Option (List Par)). then_if o (λ pars. Some (record { name = c.in-Item.name; sizes = pars })))
+    item_read declared_in c.args.e c.in-Item.item c.into_inner-name.result c.deref.result.now None c.in-Item.is c.into_inner-name.ensures c.deref.ensures.value
+    (ap (λ (o : Option (List Par)). then_if o (λ pars. Some (record { name = c.into_inner-name.result.0; sizes = pars })))
     (ap (list_if par_of) (sym c.in-None.is) ∙ c.in_ok-pars_in-in-Item.ensures ∙ ap (λ (b : List memory.Par). onto (map par_of b) all) c.new-in-Item.ensures.items ∙ onto_start all))
 
 pub returns-in-Item : goal.returns-in-Item
 returns-in-Item c =
     let all = pars_in (chained (map formula_of c.deref.result.now)) in
-    item_read declared_in c.in-Item.name c.args.e c.in-Item.list c.deref.result.now (Some (record { name = c.in-Item.name; sizes = map par_of c.in-Some.sizes.items })) c.in-Item.is c.deref.ensures.value
-    (ap (λ (o : Option (List Par)). then_if o (λ pars. Some (record { name = c.in-Item.name; sizes = pars })))
+    item_read declared_in c.args.e c.in-Item.item c.into_inner-name.result c.deref.result.now (Some (record { name = c.into_inner-name.result.0; sizes = map par_of c.in-Some.sizes.items })) c.in-Item.is c.into_inner-name.ensures c.deref.ensures.value
+    (ap (λ (o : Option (List Par)). then_if o (λ pars. Some (record { name = c.into_inner-name.result.0; sizes = pars })))
     (ap (list_if par_of) (sym c.in-Some.is) ∙ c.in_ok-pars_in-in-Item.ensures ∙ ap (λ (b : List memory.Par). onto (map par_of b) all) c.new-in-Item.ensures.items ∙ onto_start all))

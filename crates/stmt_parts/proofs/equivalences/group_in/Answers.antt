@@ -7,4 +7,5 @@ use Rattle.stmt_parts.proofs.TreeLemmas.{item_read}
 use Rattle.stmt_parts.proofs.equivalences.group_in.Goals as goal
 
 pub returns-in-Item : goal.returns-in-Item
-returns-in-Item c = item_read group_in c.in-Item.name c.args.e c.in-Item.list c.in-Item.list.items (option_map (λ group. map formula_of group.items) c.places_of.result) c.in-Item.is refl c.places_of.ensures
+returns-in-Item c =
+    item_read group_in c.args.e c.in-Item.item c.into_inner-name.result _ (option_map (λ group. map formula_of group.items) c.places_of.result) c.in-Item.is c.into_inner-name.ensures refl c.places_of.ensures

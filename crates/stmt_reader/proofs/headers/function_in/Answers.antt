@@ -10,10 +10,10 @@ use Rattle.stmt_reader.proofs.headers.function_in.Goals as goal
 
 pub returns-in-None : goal.returns-in-None
 returns-in-None c =
-    item_header (function_in c.args.word) c.in-Item.name c.args.e c.in-Item.list c.deref.result.now None c.in-Item.is c.deref.ensures.value
-    (ap (λ (o : Option (List Text)). then_if o (λ ds. Some (FuncUnit c.args.word c.in-Item.name ds))) (ap names_if (sym c.in-None.is) ∙ c.in_ok-names_in-in-Item.ensures ∙ ap (λ (b : List Text). names_onto b (chained (map formula_of c.deref.result.now))) c.new.ensures.items))
+    item_header (function_in c.args.word) c.args.e c.in-Item.item c.into_inner-name.result c.deref.result.now None c.in-Item.is c.into_inner-name.ensures c.deref.ensures.value
+    (ap (λ (o : Option (List Text)). then_if o (λ ds. Some (FuncUnit c.args.word c.into_inner-name.result.0 ds))) (ap names_if (sym c.in-None.is) ∙ c.in_ok-names_in-in-Item.ensures ∙ ap (λ (b : List Text). names_onto b (chained (map formula_of c.deref.result.now))) c.new.ensures.items))
 
 pub returns-in-Item : goal.returns-in-Item
 returns-in-Item c =
-    item_header (function_in c.args.word) c.in-Item.name c.args.e c.in-Item.list c.deref.result.now (Some (FuncUnit c.args.word c.in-Item.name c.in-Some.dummies.items)) c.in-Item.is c.deref.ensures.value
-    (ap (λ (o : Option (List Text)). then_if o (λ ds. Some (FuncUnit c.args.word c.in-Item.name ds))) (ap names_if (sym c.in-Some.is) ∙ c.in_ok-names_in-in-Item.ensures ∙ ap (λ (b : List Text). names_onto b (chained (map formula_of c.deref.result.now))) c.new.ensures.items))
+    item_header (function_in c.args.word) c.args.e c.in-Item.item c.into_inner-name.result c.deref.result.now (Some (FuncUnit c.args.word c.into_inner-name.result.0 c.in-Some.dummies.items)) c.in-Item.is c.into_inner-name.ensures c.deref.ensures.value
+    (ap (λ (o : Option (List Text)). then_if o (λ ds. Some (FuncUnit c.args.word c.into_inner-name.result.0 ds))) (ap names_if (sym c.in-Some.is) ∙ c.in_ok-names_in-in-Item.ensures ∙ ap (λ (b : List Text). names_onto b (chained (map formula_of c.deref.result.now))) c.new.ensures.items))

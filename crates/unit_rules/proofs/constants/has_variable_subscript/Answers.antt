@@ -1,9 +1,9 @@
 -- A name with parentheses.
 use Rattle.std.proofs.Common.{◌∙◌}
-use Rattle.f66_names.proofs.FormulaLemmas.{item_seen}
+use Rattle.f66_tree.proofs.Rows.{item_seen}
 use Rattle.unit_rules.specs.Storage.{has_variable_subscript}
 use Rattle.unit_rules.proofs.constants.has_variable_subscript.Goals as goal
 
 pub returns-in-Item : goal.returns-in-Item
 returns-in-Item c =
-    c.is_variable_element.ensures c.in-Item.field-0 ∙ item_seen has_variable_subscript c.args.e.now c.in-Item.field-0 c.in-Item.list c.deref.result.now c.in-Item.is c.deref.ensures.value
+    c.is_variable_element.ensures c.deref.result.now.0 ∙ item_seen has_variable_subscript c.args.e.now c.in-Item.item c.deref.result.now c.deref-in-Item.result.now c.in-Item.is c.deref.ensures c.deref-in-Item.ensures.value

@@ -1,10 +1,10 @@
 -- A name with parentheses.
 use Rattle.std.proofs.Common.{◌∙◌}
-use Rattle.f66_names.proofs.FormulaLemmas.{item_seen}
+use Rattle.f66_tree.proofs.Rows.{item_seen}
 use Rattle.f66_names.specs.DeclarationViews.{context_in}
 use Rattle.unit_rules.specs.Storage.{miscounts_element}
 use Rattle.unit_rules.proofs.counts.miscounts_element.Goals as goal
 
 pub returns-in-Item : goal.returns-in-Item
 returns-in-Item c =
-    c.is_miscounted.ensures ∙ item_seen (miscounts_element (context_in c.args.declarations.now)) c.args.e.now c.in-Item.name c.in-Item.list c.deref.result.now c.in-Item.is c.deref.ensures.value
+    c.is_miscounted.ensures ∙ item_seen (miscounts_element (context_in c.args.declarations.now)) c.args.e.now c.in-Item.item c.deref.result.now c.deref-in-Item.result.now c.in-Item.is c.deref.ensures c.deref-in-Item.ensures.value
