@@ -1,16 +1,19 @@
 // The tokens of a line's characters.
-ghost use Rattle.std.specs.Prelude.{◌≡◌, ◌-◌, ◌≤◌, ◌++◌, length, IfOk, OnOk};
+ghost use Rattle.std.specs.Prelude.{◌≡◌, ◌-◌, ◌≤◌, ◌++◌, length, map, IfOk, OnOk};
 ghost use Rattle.free_scan.specs.Lexemes.{bytes_of, digits_size as size_of_digits, in_range, is_gap as is_gap_byte, lexeme as lexeme_of, more_of, number as number_of, quotation as quotation_of, sign as sign_of, tokens_of, value_after, word as word_of, word_size as size_of_word};
 
 use crate::characters::{are_printable, is_blank, is_quote, is_word_byte, rest_from};
 use crate::lines::Character;
 use crate::quotes;
 use crate::spellings::longest_sign;
+use arrayvec::ArrayVec;
 use ground::{Dialect, Fault, FaultKind, Place, Text, Token, TokenKind};
 use std::alloc::{AllocError, Global};
 
 /// The greatest number of characters of a word or a quoted text.
 const LONGEST_TEXT: usize = 255;
+/// The greatest number of characters of a word whose text takes no memory.
+const SHORT_WORD: usize = 14;
 /// The number of that limit.
 const TEXT_LIMIT: u64 = 11;
 
@@ -52,6 +55,18 @@ pub fn bytes(alloc: Global, characters: &[Character], count: usize) -> Result<Ve
     characters.iter().take(count).map(|c| c.byte).collect(alloc)
 }
 
+/// The text of few characters. It takes no memory.
+fn short_text(characters: &[Character]) -> Text
+    requires { length characters.now ≤ 14 }
+    ensures { result ≡ map (λ c. c.byte) characters.now }
+{
+    let mut bytes: ArrayVec<u8, SHORT_WORD> = ArrayVec::new();
+    for character in characters {
+        bytes.push(character.byte);
+    }
+    Text::short(&bytes)
+}
+
 fn word(alloc: Global, characters: &[Character]) -> Result<Lexeme, AllocError>
     ensures lexeme { IfOk result (λ lexeme. lexeme ≡ word_of characters.now) }
     ensures within { IfOk result (λ lexeme. more_of lexeme ≤ length characters.now - 1) }
@@ -60,7 +75,11 @@ fn word(alloc: Global, characters: &[Character]) -> Result<Lexeme, AllocError>
     if size > LONGEST_TEXT {
         return Ok(Lexeme::Wrong(FaultKind::Limit, TEXT_LIMIT));
     }
-    let text = Text::new(bytes(alloc, characters, size)?)?;
+    let text = if size <= SHORT_WORD {
+        short_text(&characters[..size])
+    } else {
+        Text::new(bytes(alloc, characters, size)?)?
+    };
     Ok(Lexeme::Found(TokenKind::Word(text), size.saturating_sub(1)))
 }
 

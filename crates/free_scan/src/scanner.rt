@@ -47,6 +47,8 @@ pub fn scan(alloc: Global, dialect: Dialect, text: &[u8], file: u16) -> Result<S
 {
     let mut tokens = Vec::new(alloc);
     let fault = add_lines(alloc, dialect, text, file, &mut tokens)?;
+    // The list lives on while the text is gathered, so it gives back the room that it grew beyond its tokens.
+    tokens.shrink_to_fit();
     Ok(Scanned { tokens, fault })
 }
 

@@ -1,6 +1,6 @@
 // The signs of each dialect as they are spelled.
-ghost use Rattle.std.specs.Prelude.{◌≡◌, ◌≤◌, false, length, map, IfSome, IsTrue};
-ghost use Rattle.free_scan.specs.Spellings.{is_spelled as is_spelled_by, longest_sign as longest_sign_of, spellings as spellings_of};
+ghost use Rattle.std.specs.Prelude.{◌≡◌, ◌≤◌, false, length, map, Some, IfSome, IsTrue};
+ghost use Rattle.free_scan.specs.Spellings.{is_spelled as is_spelled_by, longest_sign as longest_sign_of, ratfor_spellings, spellings as spellings_of};
 
 use crate::lines::Character;
 use ground::{Dialect, Sign};
@@ -136,8 +136,42 @@ fn begins_otherwise(spelling: &[u8], characters: &[Character]) -> bool
     }
 }
 
+/// The sign of one character that Ratfor's lines most often have, where no longer one can begin with it.
+fn lone_sign(characters: &[Character]) -> Option<Sign>
+    ensures { IfSome result (λ sign. longest_sign_of ratfor_spellings characters.now ≡ Some (sign, 1)) }
+{
+    let [first, rest @ ..] = characters else {
+        return None;
+    };
+    match first.byte {
+        b'+' => Some(Sign::Plus),
+        b'-' => Some(Sign::Minus),
+        b'/' => Some(Sign::Slash),
+        b'(' => Some(Sign::Open),
+        b')' => Some(Sign::Close),
+        b',' => Some(Sign::Comma),
+        b'{' => Some(Sign::OpenBrace),
+        b'}' => Some(Sign::CloseBrace),
+        b'=' if !is_spelled(b"=", rest) => Some(Sign::Assign),
+        b'*' if !is_spelled(b"*", rest) => Some(Sign::Star),
+        _ => None,
+    }
+}
+
 /// The longest sign that a line's characters begin with, and how many characters it has.
 pub fn longest_sign(dialect: Dialect, characters: &[Character]) -> Option<(Sign, usize)>
+    ensures value { result ≡ longest_sign_of (spellings_of dialect) characters.now }
+    ensures within { IfSome result (λ found. found.1 ≤ length characters.now) }
+{
+    if let Dialect::Ratfor = dialect {
+        if let Some(sign) = lone_sign(characters) {
+            return Some((sign, 1));
+        }
+    }
+    first_spelled(dialect, characters)
+}
+
+fn first_spelled(dialect: Dialect, characters: &[Character]) -> Option<(Sign, usize)>
     ensures value { result ≡ longest_sign_of (spellings_of dialect) characters.now }
     ensures within { IfSome result (λ found. found.1 ≤ length characters.now) }
 {

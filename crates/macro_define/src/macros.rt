@@ -67,10 +67,28 @@ fn macro_of(
             if macros.is_empty() {
                 return Ok(None);
             }
-            let key = key(alloc, dialect, name.as_bytes())?;
-            Ok(number_of(macros, &key))
+            number_named(alloc, dialect, macros, name.as_bytes())
         }
         _ => Ok(None),
+    }
+}
+
+/// The number of the macro with a name as written.
+fn number_named(
+    alloc: Global,
+    dialect: Dialect,
+    macros: &Macros,
+    name: &[u8],
+) -> Result<Option<usize>, AllocError>
+    ensures number { IfOk result (λ found. found ≡ number_of_name (table macros.now) (key_of dialect name.now)) }
+    ensures within { IfOk result (λ found. IfSome found (λ n. n < length (table macros.now))) }
+{
+    match dialect {
+        Dialect::Ratfor => Ok(number_of(macros, name)),
+        Dialect::Efl => {
+            let key = key(alloc, dialect, name)?;
+            Ok(number_of(macros, &key))
+        }
     }
 }
 

@@ -39,11 +39,23 @@ impl Output {
         Ok(())
     }
 
+    /// Makes room for one more token. The list grows by a sixteenth at a time, since it lives on while the tree is made.
+    fn make_room(&mut self) -> Result<(), AllocError>
+        ensures { made self.new ≡ made self.old }
+    {
+        let count = self.tokens.len();
+        if count == self.tokens.capacity() {
+            self.tokens.reserve_exact(count / 16 + 64)?;
+        }
+        Ok(())
+    }
+
     /// Counts a token and adds it.
     pub fn put(&mut self, token: Token) -> Result<(), Refusal>
         ensures { Came (put_token token (made self.old)) result (made self.new) }
     {
         self.count(token.place)?;
+        self.make_room()?;
         self.tokens.push(token).map_err(AllocError::from)?;
         Ok(())
     }
