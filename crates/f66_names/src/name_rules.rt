@@ -154,7 +154,11 @@ fn miscounts_by(form: NameForm, manner: Manner) -> bool
 fn miscounts(declarations: &Declarations, used: &Use) -> bool
     ensures { result ≡ miscounts (context_in declarations.now) (use_of used.now) }
 {
-    miscounts_by(form_of(declarations, used.name), used.manner)
+    // A name that stands alone is looked up by other rules.
+    match used.manner {
+        Manner::Alone => false,
+        manner => miscounts_by(form_of(declarations, used.name), manner),
+    }
 }
 
 /// Whether subscripts or arguments are too many or too few.

@@ -1,5 +1,5 @@
 // The rule with the smallest number that a statement breaks.
-ghost use Rattle.std.specs.Prelude.{◌≡◌, ◌||◌, map, option_map, is_some, IfOk};
+ghost use Rattle.std.specs.Prelude.{◌≡◌, ◌||◌, map, option_map, is_some, Some, IfOk};
 ghost use Rattle.std.specs.List.{list_any};
 ghost use Rattle.rule_table.specs.FaultRules.{first_rule};
 ghost use Rattle.rule_table.specs.Words.{find_map, is_some_and};
@@ -13,7 +13,7 @@ ghost use Rattle.f66_names.specs.UseViews.{use_of};
 ghost use Rattle.unit_rules.specs.Judged.{judged_uses};
 ghost use Rattle.unit_rules.specs.Listed.{more_names, more_uses};
 ghost use Rattle.unit_rules.specs.ListViews.{AreLists};
-ghost use Rattle.unit_rules.specs.Roles.{misuses, miscalls, mixes_roles};
+ghost use Rattle.unit_rules.specs.Roles.{misuses, miscalls, mixes_roles, role_of, has_other_role};
 ghost use Rattle.unit_rules.specs.Storage.{lists_bad_constant as lists_bad};
 ghost use Rattle.unit_rules.specs.UnitRules.{has_long_name as has_long, has_foreign_name as has_foreign, counts_wrong as counts_other, is_duplicate, breaks_rule};
 
@@ -204,8 +204,18 @@ fn has_type(declarations: &Declarations, name: &Name) -> bool
 fn misuses(names: &UnitNames, used: &Use) -> bool
     ensures { result ≡ misuses (context_in names.now.declarations) (acts_in names.now.declarations) (use_of used.now) }
 {
-    let first = names.roles.get(used.name.as_bytes()).copied();
-    has_other_role(role_used(&names.declarations, used), first)
+    match role_used(&names.declarations, used) {
+        Some(role) => is_in_other_role(names, used.name, role),
+        None => false,
+    }
+}
+
+fn is_in_other_role(names: &UnitNames, name: &Name, role: Role) -> bool
+    ensures { result
+        ≡ has_other_role (Some role) (role_of (context_in names.now.declarations) (acts_in names.now.declarations) name.now) }
+{
+    let first = names.roles.get(name.as_bytes()).copied();
+    has_other_role(Some(role), first)
 }
 
 /// Whether a name is used in another class than its first one (section 10.1).
