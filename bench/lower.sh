@@ -1,6 +1,7 @@
 #!/bin/sh
 # How fast trees of Ratfor become units of FORTRAN, and how fast units are checked: a unit of nearly 20,000 tokens, the most that
-# one may have, beside one of a tenth. Each time is a layer's own: that of the layers before it is taken off.
+# one may have, beside one of a tenth. Each time is a layer's own: that of the layers before it is taken off. All are measured in
+# fifteen turns, and the turn with the middle ratio counts, since the speed of a machine that is shared changes all the time.
 . "$(dirname "$0")/common.sh"
 wants "$layers"
 
@@ -24,12 +25,32 @@ unit() { # GROUPS
 unit 145 >"$work/large"
 unit 14 >"$work/small"
 
-# The time of a layer without that of the layer before it.
-own_time() { # LAYER BEFORE FILE ROUNDS
-    echo $(($(layer_time "$1" ratfor "$3" "$4") - $(layer_time "$2" ratfor "$3" "$4")))
+turns=15
+for turn in $(seq "$turns"); do
+    for layer in gather parse compile check; do
+        layer_time "$layer" ratfor "$work/large" 5 >"$work/$layer.large.$turn"
+        layer_time "$layer" ratfor "$work/small" 50 >"$work/$layer.small.$turn"
+    done
+done
+
+# What a layer takes over a unit in a turn, without what the layer before it takes there.
+own_time() { # LAYER BEFORE UNIT TURN
+    echo $(($(cat "$work/$1.$3.$4") - $(cat "$work/$2.$3.$4")))
 }
 
-compare "lowering 2,900 statements and 280" "$(own_time compile parse "$work/large" 40)" "$(own_time compile parse "$work/small" 200)" 12
-compare "checking 2,900 statements and 280" "$(own_time check compile "$work/large" 40)" "$(own_time check compile "$work/small" 200)" 12
-compare "the whole front, and gathering alone" "$(layer_time compile ratfor "$work/large" 40)" "$(layer_time gather ratfor "$work/large" 40)" 2
+# The two times of the turn with the middle ratio, of a line for each turn.
+middle() {
+    awk '{ print $1 / $2, $1, $2 }' | sort -n | sed -n "$(((turns + 1) / 2))p" | cut -d " " -f 2-
+}
+
+# Tells a layer's own time over the large unit beside that over the small one.
+grows() { # WHAT LAYER BEFORE
+    pair=$(for turn in $(seq "$turns"); do echo "$(own_time "$2" "$3" large "$turn") $(own_time "$2" "$3" small "$turn")"; done | middle)
+    compare "$1 2,900 statements and 280" "${pair% *}" "${pair#* }" 12
+}
+
+grows lowering compile parse
+grows checking check compile
+pair=$(for turn in $(seq "$turns"); do echo "$(cat "$work/compile.large.$turn") $(cat "$work/gather.large.$turn")"; done | middle)
+compare "the whole front, and gathering alone" "${pair% *}" "${pair#* }" 2
 exit $status
