@@ -7,6 +7,6 @@ mod mentions;
 mod names;
 mod unit_names;
 
-pub use mentions::{Mention, mentions_of};
+pub use mentions::{Mention, mentions_into};
 pub use names::{is_dummy, is_intrinsic, sizes_of};
 pub use unit_names::{UnitNames, names_of};

@@ -1,5 +1,5 @@
 // The names in statements.
-ghost use Rattle.std.specs.Prelude.{◌≡◌, ◌++◌, ◌∷◌, [], true, map, OnOk, IfOk};
+ghost use Rattle.std.specs.Prelude.{◌≡◌, ◌++◌, ◌∷◌, [], true, map, OnOk};
 ghost use Rattle.std.specs.List.{flat_map};
 ghost use Rattle.f66_tree.specs.Evaluation.{is_array, sort_of};
 ghost use Rattle.f66_tree.specs.Syntax as f66;
@@ -11,7 +11,7 @@ use crate::names::{is_intrinsic, sizes_of};
 use crate::unit_names::UnitNames;
 use f66_tree::{Area, Counting, Declared, Entry, Expr, Name, Par, PresetPart, StmtKind};
 use ground::List;
-use std::alloc::{AllocError, Global};
+use std::alloc::AllocError;
 
 /// A name where it stands in a statement: as a variable or array; as a unit that is called with its actuals, by a CALL or not;
 /// or as an intrinsic function.
@@ -22,17 +22,16 @@ pub enum Mention<'a> {
     Known(&'a Name),
 }
 
-/// The names in a statement, in reading order.
-pub fn mentions_of<'a>(
-    alloc: Global,
+/// The names in a statement, in reading order, into a list that has had those of another: whoever goes over a unit needs one list.
+pub fn mentions_into<'a>(
     names: &UnitNames<'a>,
     kind: &'a StmtKind,
-) -> Result<Vec<Mention<'a>>, AllocError>
-    ensures { IfOk result (λ v. map mention_of v.items ≡ mentions_in (context_in names.now) (act_of kind.now)) }
+    mentions: &mut Vec<Mention<'a>>,
+) -> Result<(), AllocError>
+    ensures { OnOk result (map mention_of mentions.new.items ≡ mentions_in (context_in names.now) (act_of kind.now)) }
 {
-    let mut mentions = Vec::new(alloc);
-    collect_in(names, kind, &mut mentions)?;
-    Ok(mentions)
+    mentions.clear();
+    collect_in(names, kind, mentions)
 }
 
 /// Adds the names in a statement.

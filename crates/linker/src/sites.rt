@@ -8,7 +8,7 @@ ghost use Rattle.linker.specs.SiteViews.{routine_named, site_of};
 ghost use Rattle.linker.specs.Sites.{line_sites, site_at, sites_from};
 
 use crate::site::Site;
-use f66_mentions::{Mention, UnitNames, mentions_of};
+use f66_mentions::{Mention, UnitNames, mentions_into};
 use f66_tree::Stmt;
 use ground::Place;
 use std::alloc::{AllocError, Global};
@@ -36,26 +36,27 @@ fn add_unit<'a>(
 ) -> Result<(), AllocError>
     ensures { OnOk result (map site_of sites.new.items ≡ map site_of sites.old.items ++ line_sites unit 0 (context_in names.now) (map line_of names.now.unit.now.statements.items)) }
 {
+    let mut mentions = Vec::new(alloc);
     for (line, statement) in names.unit.statements.iter().enumerate() {
-        add_line(alloc, sites, unit, line, names, statement)?;
+        add_line(sites, unit, line, names, statement, &mut mentions)?;
     }
     Ok(())
 }
 
-/// Adds the calls of a statement.
+/// Adds the calls of a statement, whose names the list of mentions gets.
 fn add_line<'a>(
-    alloc: Global,
     sites: &mut Vec<Site<'a>>,
     unit: usize,
     line: usize,
     names: &UnitNames<'a>,
     statement: &'a Stmt,
+    mentions: &mut Vec<Mention<'a>>,
 ) -> Result<(), AllocError>
     ensures { OnOk result (map site_of sites.new.items ≡ map site_of sites.old.items
         ++ map (site_at unit line statement.now.place) (calls_in (context_in names.now) (line_of statement.now).act)) }
 {
-    let mentions = mentions_of(alloc, names, &statement.kind)?;
-    add_mentions(sites, unit, line, statement.place, &mentions)
+    mentions_into(names, &statement.kind, mentions)?;
+    add_mentions(sites, unit, line, statement.place, mentions)
 }
 
 fn add_mentions<'a>(

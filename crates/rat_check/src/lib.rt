@@ -21,7 +21,7 @@ use labels::LabelSet;
 pub use parts::Part;
 use rules::{broken_rule, unit_header_rule};
 use said::add_form;
-pub use said::sayings_of;
+pub use said::sayings_into;
 use survey::Survey;
 use targets::add_targets;
 pub use unit_check::{check, labels_of, parts_of, sayings};

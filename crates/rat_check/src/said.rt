@@ -1,5 +1,5 @@
 // What the parts of a unit say of names.
-ghost use Rattle.std.specs.Prelude.{◌≡◌, ◌++◌, ◌∷◌, [], IfOk, OnOk};
+ghost use Rattle.std.specs.Prelude.{◌≡◌, ◌++◌, ◌∷◌, [], OnOk};
 ghost use Rattle.f66_tree.specs.Views.{formula_of, formulas_of, header_of, act_of};
 ghost use Rattle.rat_tree.specs.Views.{act_if_any, formula_if_any};
 ghost use Rattle.f66_names.specs.ActViews.{act_said, acts_of};
@@ -9,19 +9,18 @@ ghost use Rattle.rat_check.specs.FormViews.{form_of};
 use crate::Form;
 use f66_names::Saying;
 use f66_tree::{Expr, Header, StmtKind};
-use std::alloc::{AllocError, Global};
+use std::alloc::AllocError;
 
-/// What a part of a unit with this header says of names, in reading order.
-pub fn sayings_of<'a>(
-    alloc: Global,
+/// What a part of a unit with this header says of names, in reading order, into a list that has had what another says.
+pub fn sayings_into<'a>(
     header: &'a Header,
     form: Form<'a>,
-) -> Result<Vec<Saying<'a>>, AllocError>
-    ensures { IfOk result (λ v. acts_of v.items ≡ said_by (header_of header.now) (form_of form.entry)) }
+    sayings: &mut Vec<Saying<'a>>,
+) -> Result<(), AllocError>
+    ensures { OnOk result (acts_of sayings.new.items ≡ said_by (header_of header.now) (form_of form.entry)) }
 {
-    let mut sayings = Vec::new(alloc);
-    add_form(header, form, &mut sayings)?;
-    Ok(sayings)
+    sayings.clear();
+    add_form(header, form, sayings)
 }
 
 /// Adds what a part says of names.

@@ -13,7 +13,7 @@ ghost use Rattle.rat_check.specs.PartViews.{parts_seen, whole_by};
 ghost use Rattle.rat_check.specs.Survey.{is_among, adding_if, own_labels};
 
 use crate::{
-    Around, Before, Form, LabelSet, Part, Survey, add_form, broken_rule, sayings_of,
+    Around, Before, Form, LabelSet, Part, Survey, add_form, broken_rule, sayings_into,
     unit_header_rule, visit_list,
 };
 use f66_names::Saying;
@@ -145,8 +145,9 @@ fn check_parts(
 {
     let mut before = Before::new(alloc);
     let _said = names.declarations.sayings.len();
+    let mut sayings = Vec::new(alloc);
     for part in parts {
-        let sayings = sayings_of(alloc, names.declarations.header, part.form)?;
+        sayings_into(names.declarations.header, part.form, &mut sayings)?;
         let broken = broken_rule(alloc, names, formats, &before, part, &sayings)?;
         if let Some(rule) = broken {
             return Err(Refusal::Fault(rule.fault(part.place)));

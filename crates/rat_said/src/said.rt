@@ -11,7 +11,7 @@ use f66_tree::{
     Counting, Expr, Header, Name, Stmt, StmtKind, Unit, copy_expr, copy_kind, copy_par,
 };
 use ground::List;
-use rat_check::{Part, parts_of, sayings_of};
+use rat_check::{Part, parts_of, sayings_into};
 use rat_tree::RatUnit;
 use std::alloc::{AllocError, Global};
 
@@ -30,29 +30,37 @@ pub fn said_unit(alloc: Global, unit: &RatUnit) -> Result<Unit, AllocError>
 }
 
 /// What the parts of a unit say.
-fn statements_of(alloc: Global, header: &Header, parts: &[Part]) -> Result<List<Stmt>, AllocError>
+fn statements_of<'a>(
+    alloc: Global,
+    header: &'a Header,
+    parts: &[Part<'a>],
+) -> Result<List<Stmt>, AllocError>
     ensures { IfOk result (λ list. lines_of list.items ≡ said_lines (header_of header.now) (parts_seen parts.now)) }
 {
-    let mut statements = Vec::new(alloc);
+    // Most parts say one thing.
+    let mut statements = Vec::with_capacity(alloc, parts.len())?;
+    let mut sayings = Vec::new(alloc);
     for part in parts {
-        add_part(alloc, header, part, &mut statements)?;
+        add_part(alloc, header, part, &mut sayings, &mut statements)?;
     }
     Ok(statements)
 }
 
-fn add_part(
+/// Adds what a part says, which the list of sayings gets.
+fn add_part<'a>(
     alloc: Global,
-    header: &Header,
-    part: &Part,
+    header: &'a Header,
+    part: &Part<'a>,
+    sayings: &mut Vec<Saying<'a>>,
     statements: &mut List<Stmt>,
 ) -> Result<(), AllocError>
     ensures { OnOk result (lines_of statements.new.items ≡ lines_of statements.old.items ++ part_lines (header_of header.now) (part_of part.now)) }
 {
-    let sayings = sayings_of(alloc, header, part.form)?;
+    sayings_into(header, part.form, sayings)?;
     if sayings.is_empty() {
         add(part, StmtKind::Continue, statements)
     } else {
-        add_sayings(alloc, part, &sayings, statements)
+        add_sayings(alloc, part, sayings, statements)
     }
 }
 

@@ -11,7 +11,7 @@ ghost use Rattle.storage_assoc.specs.Listings.{IsListing, has_name};
 ghost use Rattle.storage_assoc.specs.Placing.{declared_in, is_none};
 
 use crate::listing::{Listing, list_name, no_names};
-use f66_mentions::{Mention, UnitNames, is_dummy, mentions_of};
+use f66_mentions::{Mention, UnitNames, is_dummy, mentions_into};
 use f66_tree::{Declared, Header, Stmt, StmtKind};
 use rule_table::note;
 use std::alloc::{AllocError, Global};
@@ -91,8 +91,9 @@ fn list_mentioned<'a>(
         ≡ option_or (get_by (λ k. bytes_eq q k.now) called.old)
         (if mentioned (is_function q) (context_in names.now) (map line_of names.now.unit.now.statements.items) then Some tt else None)) }
 {
+    let mut mentions = Vec::new(alloc);
     for statement in &names.unit.statements {
-        let mentions = mentions_of(alloc, names, &statement.kind)?;
+        mentions_into(names, &statement.kind, &mut mentions)?;
         list_variables(first, names, listing, &mentions)?;
         note_called(called, &mentions)?;
     }

@@ -15,13 +15,13 @@ pub broken_rule-requires-clause-within : goal.broken_rule-requires-clause-within
 broken_rule-requires-clause-within c =
     let l = c.loop-part in
     let on = said_on (context_in c.args.names.now.declarations).header c.args.parts.now l.part-index c.part-item.result l.before.said _ c.loop-part-test.true c.part-item.is l.invariant.said in
-    omega (arith, on, length-map c.args.names.now.declarations.sayings.now act_said, ap length c.in_ok-sayings.ensures, length-map c.in_ok-sayings.sayings.items act_said)
+    omega (arith, on, length-map c.args.names.now.declarations.sayings.now act_said, ap length c.in_ok-sayings_into.ensures, length-map c.sayings_into.new.sayings.items act_said)
 
 pub add-requires : goal.add-requires
 add-requires c =
     let l = c.loop-part in
     let on = said_on (context_in c.args.names.now.declarations).header c.args.parts.now l.part-index c.part-item.result l.before.said _ c.loop-part-test.true c.part-item.is l.invariant.said in
-    omega (arith, on, length-map c.args.names.now.declarations.sayings.now act_said, ap length c.in_ok-sayings.ensures, length-map c.in_ok-sayings.sayings.items act_said)
+    omega (arith, on, length-map c.args.names.now.declarations.sayings.now act_said, ap length c.in_ok-sayings_into.ensures, length-map c.sayings_into.new.sayings.items act_said)
 
 pub returns-in-Some-clause-fault : goal.returns-in-Some-clause-fault
 returns-in-Some-clause-fault c =
@@ -40,7 +40,7 @@ loop-part-preserved c =
     let next = next_part c.args.parts.now l.part-index c.part-item.result c.loop-part-test.true c.part-item.is in
     let on = said_on (context_in c.args.names.now.declarations).header c.args.parts.now l.part-index c.part-item.result l.before.said _ c.loop-part-test.true c.part-item.is l.invariant.said in
     let says : c.len.result ≡ length (said_by u.context.header (form_of c.part-item.result.form)) =
-    omega (arith, c.len.ensures, ap length c.in_ok-sayings.ensures, length-map c.in_ok-sayings.sayings.items act_said) in
+    omega (arith, c.len.ensures, ap length c.in_ok-sayings_into.ensures, length-map c.sayings_into.new.sayings.items act_said) in
     record {
       fault =
           rule_passed u (before_of l.before) (before_of c.add.new.self) (part_of c.part-item.result) rest (sym c.in_default.is ∙ c.in_ok-broken.ensures) (c.in_ok-add.ensures.before u.context.header says)
