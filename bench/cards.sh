@@ -84,6 +84,18 @@ printf 'end\n' >"$work/empty.r"
 empty_cards=$(command_time /dev/null "$eft" cards ratfor "$work/empty.r")
 empty_deck=$(command_time /dev/null "$eft" deck --steps 1 "$work/empty.f")
 empty_memory=$(memory "$eft" cards ratfor "$work/empty.r")
+rounds=1
+
+# The times of a command over the large text and the small one, each without an empty run, of that of fifteen turns which has the
+# middle ratio: the speed of a machine that is shared changes all the time.
+turns() { # EMPTY ENDING COMMAND...
+    empty=$1 ending=$2
+    shift 2
+    for _ in $(seq 15); do
+        large=$(($(command_time /dev/null "$@" "$work/large.$ending") - empty))
+        echo "$large $(($(command_time /dev/null "$@" "$work/small.$ending") - empty))"
+    done | awk '{ print $1 / $2, $1, $2 }' | sort -n | sed -n 8p | cut -d " " -f 2-
+}
 
 measured() { # SHAPE LARGE SMALL
     shape=$1
@@ -92,12 +104,12 @@ measured() { # SHAPE LARGE SMALL
     for size in large small; do
         "$eft" cards ratfor "$work/$size.r" >"$work/$size.f" || { echo "bench/cards.sh: $size units of $shape have no deck" >&2; exit 1; }
     done
-    large=$(($(command_time /dev/null "$eft" cards ratfor "$work/large.r") - empty_cards))
-    small=$(($(command_time /dev/null "$eft" cards ratfor "$work/small.r") - empty_cards))
+    pair=$(turns "$empty_cards" r "$eft" cards ratfor)
+    large=${pair% *} small=${pair#* }
     compare "cards of $2 units of $shape and $3" "$large" "$small" 11
     echo "cards of $2 units of $shape: $(($(wc -l <"$work/large.r") * 1000000000 / large)) lines a second"
-    large=$(($(command_time /dev/null "$eft" deck --steps 1 "$work/large.f") - empty_deck))
-    small=$(($(command_time /dev/null "$eft" deck --steps 1 "$work/small.f") - empty_deck))
+    pair=$(turns "$empty_deck" f "$eft" deck --steps 1)
+    large=${pair% *} small=${pair#* }
     compare "the deck of $2 units of $shape and $3" "$large" "$small" 11
     echo "the deck of $2 units of $shape: $(($(wc -l <"$work/large.f") * 1000000000 / large)) cards a second"
     bytes=$(wc -c <"$work/large.r")
