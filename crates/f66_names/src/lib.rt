@@ -36,7 +36,9 @@ pub use sorts::{
     form_of, is_array, is_counter, is_foreign, is_integer, is_other, is_real_by_letter, kind_of,
     takes,
 };
-pub use store_rules::{has_bad_constant, has_bad_size, has_large_array, is_large, stores_wrong};
+pub use store_rules::{
+    has_bad_constant, has_bad_size, has_large_array, is_large, is_readable, stores_wrong,
+};
 pub use tables::{declared_in, typed_in};
 pub use uses::{
     Use, collect_all, collect_in_saying, collect_pars, collect_target, uses_of_saying,

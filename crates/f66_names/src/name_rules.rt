@@ -154,7 +154,7 @@ fn miscounts_by(form: NameForm, manner: Manner) -> bool
 fn miscounts(declarations: &Declarations, used: &Use) -> bool
     ensures { result ≡ miscounts (context_in declarations.now) (use_of used.now) }
 {
-    // A name that stands alone is looked up by other rules.
+    // A name that stands alone has no count that could be wrong.
     match used.manner {
         Manner::Alone => false,
         manner => miscounts_by(form_of(declarations, used.name), manner),

@@ -82,7 +82,8 @@ fn is_assignable(declarations: &Declarations, target: &Expr) -> bool
     }
 }
 
-fn is_readable(declarations: &Declarations, e: &Expr) -> bool
+/// Whether what has parentheses is an element of an array, which alone a value may be read into.
+pub fn is_readable(declarations: &Declarations, e: &Expr) -> bool
     ensures { result ≡ is_readable (context_in declarations.now) (formula_of e.now) }
 {
     match e {

@@ -14,7 +14,7 @@ use Rattle.unit_rules.specs.Judged.{judged_of_target, judged_of_entry, judged_of
 use Rattle.unit_rules.specs.Types.{fits, clashes}
 
 module _ (c : Context) where
-  target_same : (e : Formula) → is_readable c e ≡ true → judged_of_target c e ≡ uses_of_target e
+  pub target_same : (e : Formula) → is_readable c e ≡ true → judged_of_target c e ≡ uses_of_target e
   target_same (Item x es) h = ap (λ b. if b then uses_of_target (Item x es) else []) h
   target_same _ h = refl
 

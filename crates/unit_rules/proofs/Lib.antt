@@ -6,5 +6,6 @@ pub mod SizeLemmas
 pub mod MisfitLemmas
 pub mod WithinLemmas
 pub mod AgainLemmas
+mod AssignmentLemmas
 pub mod JudgedLemmas
 pub mod SayingLemmas

@@ -22,7 +22,7 @@ use Rattle.unit_rules.specs.Roles.{misuses}
 use Rattle.unit_rules.specs.Types.{fits, clashes}
 use Rattle.unit_rules.specs.UnitRules.{breaks_rule}
 
-find_same : {K : Type 0} (f g : K → Bool) (ks : List K) → ((k : K) → f k ≡ g k) → find f ks ≡ find g ks
+pub find_same : {K : Type 0} (f g : K → Bool) (ks : List K) → ((k : K) → f k ≡ g k) → find f ks ≡ find g ks
 find_same f g [] same = refl
 find_same f g (k ∷ ks) same = ap (λ b. cond b (Some k) (find f ks)) (same k) ∙ ap (λ o. cond (g k) (Some k) o) (find_same f g ks same)
 
@@ -34,13 +34,13 @@ not_twice true = refl
 not_twice false = refl
 
 module _ (c : Context) (acts : List Act) (i : ℕ) where
-  used : (test : Usage → Bool) (a : Act) → list_any test (uses_in a) ≡ (list_any test (uses_in a) || false)
+  pub used : (test : Usage → Bool) (a : Act) → list_any test (uses_in a) ≡ (list_any test (uses_in a) || false)
   used test a = sym (or_false (list_any test (uses_in a)))
 
-  counted : (a : Act) → list_any (miscounts c) (uses_in a) ≡ ((list_any (miscounts c) (uses_in a) || false) || false)
+  pub counted : (a : Act) → list_any (miscounts c) (uses_in a) ≡ ((list_any (miscounts c) (uses_in a) || false) || false)
   counted a = or_twice (list_any (miscounts c) (uses_in a))
 
-  mixed : (a : Act) → list_any (misuses c acts) (uses_in a) ≡ ((list_any (misuses c acts) (uses_in a) || false) || false)
+  pub mixed : (a : Act) → list_any (misuses c acts) (uses_in a) ≡ ((list_any (misuses c acts) (uses_in a) || false) || false)
   mixed a = or_twice (list_any (misuses c acts) (uses_in a))
 
   condition_breaks : (e : Formula) (k : Rule) → breaks_used c acts (uses_in (When e Continue)) (not (stands 0 e)) (not (fits c e Logical)) false k ≡ breaks_rule c acts i (When e Continue) k

@@ -9,7 +9,6 @@ ghost use Rattle.unit_rules.specs.Judged.{judged_of_target, judged_of_entry, jud
 
 use f66_names::{
     Declarations, Saying, Use, collect_in_saying, collect_pars, collect_target, is_array,
-    uses_of_saying,
 };
 use f66_tree::{Entry, Expr, Par, StmtKind};
 use std::alloc::{AllocError, Global};
@@ -28,20 +27,21 @@ pub fn judged_uses<'a>(
     Ok(uses)
 }
 
-/// The same of a statement or a part of one.
-pub fn judged_uses_of_saying<'a>(
-    alloc: Global,
+/// The same of a statement or a part of one, in place of what the list held.
+pub fn judged_uses_into<'a>(
     declarations: &Declarations<'a>,
     saying: &Saying<'a>,
-) -> Result<Vec<Use<'a>>, AllocError>
-    ensures { IfOk result (λ v. map use_of v.items ≡ judged_uses (context_in declarations.now) (act_said saying.now)) }
+    uses: &mut Vec<Use<'a>>,
+) -> Result<(), AllocError>
+    ensures { OnOk result (map use_of uses.new.items ≡ judged_uses (context_in declarations.now) (act_said saying.now)) }
 {
+    uses.clear();
     match *saying {
-        Saying::Act(kind) => judged_uses(alloc, declarations, kind),
+        Saying::Act(kind) => collect_judged(declarations, kind, uses),
         Saying::Condition(_)
         | Saying::Value(_)
         | Saying::Counting(_, _, _, _)
-        | Saying::Returned(_, _) => uses_of_saying(alloc, saying),
+        | Saying::Returned(_, _) => collect_in_saying(saying, uses),
     }
 }
 

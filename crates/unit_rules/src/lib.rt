@@ -19,6 +19,7 @@ mod shapes;
 mod tables;
 mod types;
 mod unit_names;
+mod used;
 
 pub use heads::header_rule;
 pub use roles::Role;

@@ -12,7 +12,7 @@ ghost use Rattle.f66_names.specs.DeclarationViews.{context_in, acts_in};
 ghost use Rattle.unit_rules.specs.Roles.{role_by, role_used, role_given, role_called, role_in, role_listed, role_held, role_of, same_role, has_other_role};
 
 use crate::called::called_in_saying;
-use crate::judged::judged_uses_of_saying;
+use crate::judged::judged_uses_into;
 use crate::more_uses::more_uses_of_saying;
 use f66_names::{Declarations, Manner, NameForm, Saying, Use, form_of};
 use f66_tree::{Header, Name};
@@ -38,8 +38,9 @@ pub fn role_table<'a>(
 {
     let mut table = HashMap::new(alloc);
     note_held(&mut table, declarations.header)?;
+    let mut uses = Vec::new(alloc);
     for saying in declarations.sayings {
-        note_roles(alloc, &mut table, declarations, saying)?;
+        note_roles(alloc, &mut table, declarations, saying, &mut uses)?;
     }
     Ok(table)
 }
@@ -86,21 +87,22 @@ fn note_dummies<'a>(table: &mut HashMap<&'a [u8], Role>, list: &'a [Name]) -> Re
     Ok(())
 }
 
-/// Notes the classes that a statement or a part of one uses names in.
+/// Notes the classes that a statement or a part of one uses names in, which the list gets.
 fn note_roles<'a>(
     alloc: Global,
     table: &mut HashMap<&'a [u8], Role>,
     declarations: &Declarations<'a>,
     saying: &Saying<'a>,
+    uses: &mut Vec<Use<'a>>,
 ) -> Result<(), AllocError>
     ensures { OnOk result
         ((q : List ℕ) → get_by (λ k. bytes_eq q k.now) table.new
         ≡ option_or (get_by (λ k. bytes_eq q k.now) table.old) (role_in (context_in declarations.now) q (act_said saying.now))) }
 {
-    let uses = judged_uses_of_saying(alloc, declarations, saying)?;
+    judged_uses_into(declarations, saying, uses)?;
     let more = more_uses_of_saying(alloc, declarations, saying)?;
     note_called(table, called_in_saying(saying))?;
-    note_used(table, declarations, &uses)?;
+    note_used(table, declarations, uses)?;
     note_used(table, declarations, &more)
 }
 

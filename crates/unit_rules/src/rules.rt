@@ -1,5 +1,5 @@
 // The rule with the smallest number that a statement breaks.
-ghost use Rattle.std.specs.Prelude.{◌≡◌, ◌||◌, map, option_map, is_some, Some, IfOk};
+ghost use Rattle.std.specs.Prelude.{◌≡◌, ◌||◌, not, map, option_map, is_some, Some, IfOk};
 ghost use Rattle.std.specs.List.{list_any};
 ghost use Rattle.rule_table.specs.FaultRules.{first_rule};
 ghost use Rattle.rule_table.specs.Words.{find_map, is_some_and};
@@ -7,14 +7,17 @@ ghost use Rattle.f66_tree.specs.Views.{act_of};
 ghost use Rattle.f66_names.specs.Declaring.{type_given};
 ghost use Rattle.f66_names.specs.DeclarationViews.{context_in, acts_in};
 ghost use Rattle.f66_names.specs.NameRules.{is_long as is_long_text};
-ghost use Rattle.f66_names.specs.StoreRules.{has_bad_constant as has_bad};
+ghost use Rattle.f66_names.specs.StoreRules.{has_bad_constant as has_bad, stores_wrong};
 ghost use Rattle.f66_names.specs.Uses.{uses_in};
 ghost use Rattle.f66_names.specs.UseViews.{use_of};
+ghost use Rattle.unit_rules.specs.Forms.{has_form};
 ghost use Rattle.unit_rules.specs.Judged.{judged_uses};
 ghost use Rattle.unit_rules.specs.Listed.{more_names, more_uses};
 ghost use Rattle.unit_rules.specs.ListViews.{AreLists};
-ghost use Rattle.unit_rules.specs.Roles.{misuses, miscalls, mixes_roles, role_of, has_other_role};
+ghost use Rattle.unit_rules.specs.PartRules.{breaks_used};
+ghost use Rattle.unit_rules.specs.Roles.{misuses, miscalls, mixes_roles};
 ghost use Rattle.unit_rules.specs.Storage.{lists_bad_constant as lists_bad};
+ghost use Rattle.unit_rules.specs.Types.{clashes};
 ghost use Rattle.unit_rules.specs.UnitRules.{has_long_name as has_long, has_foreign_name as has_foreign, counts_wrong as counts_other, is_duplicate, breaks_rule};
 
 use crate::UnitNames;
@@ -28,13 +31,14 @@ use crate::judged::judged_uses;
 use crate::listed::{Lists, lists_of};
 use crate::more_uses::{more_names, more_uses};
 use crate::presets::presets_wrong;
-use crate::roles::{Role, has_other_role, role_used};
+use crate::roles::{Role, has_other_role};
 use crate::shapes::{has_long_block, lists_odd};
 use crate::types::clashes;
+use crate::used::{has_misuse, part_rule};
 use f66_names::{
-    Declarations, Use, has_bad_constant, has_bad_format, has_large_array, has_long_name,
-    has_long_use, has_other_type, has_other_use, has_wrong_use, is_array, is_long, redeclares,
-    stores_wrong, uses_of_statement,
+    Declarations, Saying, Use, has_bad_constant, has_bad_format, has_large_array, has_long_name,
+    has_long_use, has_other_type, has_other_use, has_wrong_use, is_array, is_long, is_readable,
+    redeclares, stores_wrong, uses_of_statement,
 };
 use f66_tree::{Name, StmtKind};
 use rule_table::Rule;
@@ -43,6 +47,46 @@ use std::alloc::{AllocError, Global};
 /// The rule with the smallest number that the statement with the number i breaks, of those on names, types, counts,
 /// constants and stores (X3.9-1966, sections 3.5, 5 to 8 and 10.1).
 pub fn broken_rule(
+    alloc: Global,
+    names: &UnitNames,
+    i: usize,
+    kind: &StmtKind,
+) -> Result<Option<Rule>, AllocError>
+    ensures { IfOk result
+        (λ o. o ≡ first_rule (breaks_rule (context_in names.now.declarations) (acts_in names.now.declarations) i (act_of kind.now))) }
+{
+    match kind {
+        StmtKind::Assign(target, _) if is_readable(&names.declarations, target) => {
+            assignment_rule(alloc, names, kind)
+        }
+        _ => statement_rule(alloc, names, i, kind),
+    }
+}
+
+/// The same of an assignment to a place, of which all names that it uses have classes and counts.
+fn assignment_rule(
+    alloc: Global,
+    names: &UnitNames,
+    kind: &StmtKind,
+) -> Result<Option<Rule>, AllocError>
+    ensures { IfOk result
+        (λ o. o ≡ first_rule (breaks_used (context_in names.now.declarations) (acts_in names.now.declarations) (uses_in (act_of kind.now)) (not (has_form (act_of kind.now))) (clashes (context_in names.now.declarations) (act_of kind.now)) (stores_wrong (context_in names.now.declarations) (act_of kind.now)))) }
+{
+    let misformed = !has_form(kind);
+    let clashing = clashes(&names.declarations, kind);
+    let stored = stores_wrong(&names.declarations, kind);
+    part_rule(
+        alloc,
+        names,
+        &Saying::Act(kind),
+        misformed,
+        clashing,
+        stored,
+    )
+}
+
+/// The same of any statement.
+fn statement_rule(
     alloc: Global,
     names: &UnitNames,
     i: usize,
@@ -199,35 +243,4 @@ fn has_type(declarations: &Declarations, name: &Name) -> bool
     ensures { result ≡ is_some (find_map (type_given name.now) (acts_in declarations.now)) }
 {
     declarations.words.contains_key(name.as_bytes())
-}
-
-fn misuses(names: &UnitNames, used: &Use) -> bool
-    ensures { result ≡ misuses (context_in names.now.declarations) (acts_in names.now.declarations) (use_of used.now) }
-{
-    match role_used(&names.declarations, used) {
-        Some(role) => is_in_other_role(names, used.name, role),
-        None => false,
-    }
-}
-
-fn is_in_other_role(names: &UnitNames, name: &Name, role: Role) -> bool
-    ensures { result
-        ≡ has_other_role (Some role) (role_of (context_in names.now.declarations) (acts_in names.now.declarations) name.now) }
-{
-    let first = names.roles.get(name.as_bytes()).copied();
-    has_other_role(Some(role), first)
-}
-
-/// Whether a name is used in another class than its first one (section 10.1).
-#[tactic(auto, using(rule_table::proofs::WordLemmas::list_any_map))]
-pub fn has_misuse(names: &UnitNames, uses: &[Use]) -> bool
-    ensures { result ≡ list_any (misuses (context_in names.now.declarations) (acts_in names.now.declarations)) (map use_of uses.now) }
-{
-    are_some_misused(names, uses)
-}
-
-fn are_some_misused(names: &UnitNames, uses: &[Use]) -> bool
-    ensures { result ≡ list_any (λ u. misuses (context_in names.now.declarations) (acts_in names.now.declarations) (use_of u)) uses.now }
-{
-    uses.iter().any(|u| misuses(names, u))
 }

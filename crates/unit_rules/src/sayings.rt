@@ -1,5 +1,5 @@
 // The rule with the smallest number that a part of a statement breaks: a condition, a value, the words of a DO.
-ghost use Rattle.std.specs.Prelude.{◌≡◌, ◌&&◌, map, IfOk};
+ghost use Rattle.std.specs.Prelude.{◌≡◌, ◌&&◌, IfOk};
 ghost use Rattle.ground.specs.declared.value.Kind.TheVariants.{Integer, Logical};
 ghost use Rattle.rule_table.specs.FaultRules.{first_rule};
 ghost use Rattle.f66_tree.specs.Syntax.{Ref, Assign};
@@ -7,18 +7,15 @@ ghost use Rattle.f66_tree.specs.Views.{formula_of};
 ghost use Rattle.f66_names.specs.ActViews.{act_said};
 ghost use Rattle.f66_names.specs.DeclarationViews.{context_in, acts_in};
 ghost use Rattle.f66_names.specs.Shapes.{is_name, stands};
-ghost use Rattle.f66_names.specs.Uses.{uses_in};
-ghost use Rattle.f66_names.specs.UseViews.{use_of};
-ghost use Rattle.unit_rules.specs.PartRules.{breaks_used};
 ghost use Rattle.unit_rules.specs.Types.{assigns, clashes};
 ghost use Rattle.unit_rules.specs.UnitRules.{breaks_rule};
 
 use crate::UnitNames;
-use crate::rules::{broken_rule, has_misuse};
+use crate::rules::broken_rule;
 use crate::types::fits;
+use crate::used::part_rule;
 use f66_names::{
-    Declarations, Saying, Use, counts, has_long_use, has_other_use, has_wrong_use, is_array,
-    is_counting_form, is_name, may_be, stands, uses_of_saying,
+    Declarations, Saying, counts, is_array, is_counting_form, is_name, may_be, stands,
 };
 use f66_tree::{Expr, Name};
 use ground::Kind;
@@ -60,57 +57,6 @@ pub fn saying_rule(
             part_rule(alloc, names, saying, misformed, clashing, stored)
         }
     }
-}
-
-/// What a part of a statement breaks of which it is known whether it has another form or type than it is to have, and whether
-/// it stores where it may not.
-fn part_rule(
-    alloc: Global,
-    names: &UnitNames,
-    saying: &Saying,
-    misformed: bool,
-    clashing: bool,
-    stored: bool,
-) -> Result<Option<Rule>, AllocError>
-    ensures { IfOk result
-        (λ o. o ≡ first_rule (breaks_used (context_in names.now.declarations) (acts_in names.now.declarations) (uses_in (act_said saying.now)) misformed clashing stored)) }
-{
-    let uses = uses_of_saying(alloc, saying)?;
-    Ok(used_rule(names, &uses, misformed, clashing, stored))
-}
-
-fn used_rule(
-    names: &UnitNames,
-    uses: &[Use],
-    misformed: bool,
-    clashing: bool,
-    stored: bool,
-) -> Option<Rule>
-    ensures { result
-        ≡ first_rule (breaks_used (context_in names.now.declarations) (acts_in names.now.declarations) (map use_of uses.now) misformed clashing stored) }
-{
-    if misformed {
-        return Some(Rule::Syntax);
-    }
-    if has_long_use(uses) {
-        return Some(Rule::NameTooLong);
-    }
-    if has_other_use(&names.declarations, uses) {
-        return Some(Rule::OutOfProfileType);
-    }
-    if clashing {
-        return Some(Rule::TypeClash);
-    }
-    if has_wrong_use(&names.declarations, uses) {
-        return Some(Rule::WrongCount);
-    }
-    if has_misuse(names, uses) {
-        return Some(Rule::DuplicateName);
-    }
-    if stored {
-        return Some(Rule::NotAssignable);
-    }
-    None
 }
 
 fn is_returned_form(name: &Name, value: &Expr) -> bool

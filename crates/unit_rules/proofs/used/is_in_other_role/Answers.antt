@@ -3,7 +3,7 @@ use Rattle.std.proofs.Common.{Some, ap, ◌∙◌}
 use Rattle.std.specs.HashMap.{get_by}
 use Rattle.std.specs.Str.{bytes_eq}
 use Rattle.unit_rules.specs.Roles.{has_other_role}
-use Rattle.unit_rules.proofs.rules.is_in_other_role.Goals as goal
+use Rattle.unit_rules.proofs.used.is_in_other_role.Goals as goal
 
 pub returns : goal.returns
 returns c =
