@@ -1,5 +1,5 @@
 -- One name more in a list of names with numbers.
-use Rattle.std.proofs.Common.{◌≡◌, ◌<◌, ◌+◌, ◌||◌, inl, inr, ℕ, Bool, true, false, cond, List, [], ◌∷◌, ◌++◌, length, Option, None, Some, refl, sym, ap, ◌∙◌, arith}
+use Rattle.std.proofs.Common.{◌≡◌, ◌<◌, ◌+◌, ◌&&◌, ◌||◌, inl, inr, ℕ, Bool, true, false, cond, List, [], ◌∷◌, ◌++◌, length, Option, None, Some, refl, sym, ap, ◌∙◌, arith}
 use Rattle.std.proofs.lemmas.Bool.{cases_lt}
 use Rattle.std.proofs.lemmas.List.{get_or_append_left, length-append}
 use Rattle.std.proofs.Math.Seq.{get_or-append_seam}
@@ -16,12 +16,31 @@ found_or false false n (Some m) e = refl
 found_or true false n o e = absurd (cc)
 found_or false true n o e = absurd (cc)
 
+without : (a w : Bool) → (a || (w && false)) ≡ a
+without true w = refl
+without false true = refl
+without false false = refl
+
 same_text : (x y : Text) → bytes_eq x y ≡ bytes_eq y x
 same_text x y = grind (arith, bytes_eq-Decides x y, bytes_eq-Decides y x)
 
 pub found_more : (find find' : Text → Option ℕ) (y : Text) (n : ℕ) → ((q : Text) → find' q ≡ cond (bytes_eq y q) (Some n) (find q)) →
     (q : Text) → is_found (find' q) ≡ (is_found (find q) || bytes_eq q y)
 found_more find find' y n updated q = ap is_found (updated q) ∙ found_or (bytes_eq y q) (bytes_eq q y) n (find q) (same_text y q)
+
+pub not_found : (o : Option ℕ) → is_found o ≡ false → o ≡ None
+not_found None none = refl
+not_found (Some n) none = cc
+
+-- a name that is listed adds nothing, be it a dummy or not
+pub found_already : (find : Text → Option ℕ) (y : Text) (v : Bool) → is_found (find y) ≡ true → (q : Text) → is_found (find q) ≡ (is_found (find q) || (v && bytes_eq q y))
+found_already find y v listed q = by (bytes_eq q y) refl v
+  where
+    by : (b : Bool) → bytes_eq q y ≡ b → (w : Bool) → is_found (find q) ≡ (is_found (find q) || (w && bytes_eq q y))
+    by true e w =
+        let there : is_found (find q) ≡ true = ap (λ x. is_found (find x)) ((bytes_eq-Decides q y).0 e) ∙ listed in
+        there ∙ sym (ap (λ o. o || (w && bytes_eq q y)) there)
+    by false e w = sym (ap (λ b. is_found (find q) || (w && b)) e ∙ without (is_found (find q)) w)
 
 module _ (first : ℕ) (names : List Text) (find find' : Text → Option ℕ) (y : Text) (l : AreNumberedFrom first names find) (absent : find y ≡ None)
     (updated : (q : Text) → find' q ≡ cond (bytes_eq y q) (Some (first + length names)) (find q)) where

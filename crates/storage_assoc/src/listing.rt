@@ -24,6 +24,13 @@ pub fn no_names<'a>(alloc: Global) -> Listing<'a>
     }
 }
 
+/// Whether a name is listed.
+pub(crate) fn is_listed(listing: &Listing, name: &[u8]) -> bool
+    ensures { result ≡ has_name listing.now name.now }
+{
+    listing.numbers.contains_key(name)
+}
+
 /// Lists a name, where it is not yet listed.
 pub(crate) fn list_name<'a>(
     first: usize,
@@ -35,7 +42,7 @@ pub(crate) fn list_name<'a>(
     ensures listing { OnOk result (IsListing first listing.new) }
     ensures listed { OnOk result ((q : List ℕ) → has_name listing.new q ≡ (has_name listing.old q || bytes_eq q name.now)) }
 {
-    if listing.numbers.contains_key(name) {
+    if is_listed(listing, name) {
         return Ok(());
     }
     let number = first + listing.names.len();

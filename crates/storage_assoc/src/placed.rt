@@ -10,7 +10,7 @@ ghost use Rattle.f66_mentions.specs.UnitViews.{context_in, mention_of};
 ghost use Rattle.storage_assoc.specs.Listings.{IsListing, has_name};
 ghost use Rattle.storage_assoc.specs.Placing.{declared_in, is_none};
 
-use crate::listing::{Listing, list_name, no_names};
+use crate::listing::{Listing, is_listed, list_name, no_names};
 use f66_mentions::{Mention, UnitNames, is_dummy, mentions_into};
 use f66_tree::{Declared, Header, Stmt, StmtKind};
 use rule_table::note;
@@ -49,7 +49,8 @@ fn list_own_name<'a>(
     ensures listed { OnOk result ((q : List ℕ) → has_name listing.new q
         ≡ (has_name listing.old q || (not (is_dummy q (header_of names.now.unit.now.header)) && bytes_eq q name.now))) }
 {
-    if is_dummy(names, name) {
+    // Most names that are mentioned are listed by then.
+    if is_listed(listing, name) || is_dummy(names, name) {
         return Ok(());
     }
     list_name(first, listing, name)

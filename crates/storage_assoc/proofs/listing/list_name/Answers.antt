@@ -5,7 +5,7 @@ use Rattle.std.proofs.lemmas.Map.Text.{hash_map_updates_str}
 use Rattle.std.specs.HashMap.{get_by}
 use Rattle.std.specs.Str.{bytes_eq}
 use Rattle.storage_assoc.specs.Listings.{AreNumberedFrom, names_in, number_of_name}
-use Rattle.storage_assoc.proofs.ListingLemmas.{found_more, listed_more}
+use Rattle.storage_assoc.proofs.ListingLemmas.{found_more, listed_more, not_found}
 use Rattle.storage_assoc.proofs.listing.list_name.Goals as goal
 
 pub returns-clause-listing : goal.returns-clause-listing
@@ -14,7 +14,7 @@ returns-clause-listing c =
     let old = c.args.listing.now in
     let y = c.args.name.now in
     let find : List ℕ → Option ℕ = λ q. get_by (λ k. bytes_eq q k.now) c.insert.new.self in
-    let absent : number_of_name old y ≡ None = grind (arith, c.contains_key.ensures, c.if-contains_key.false) in
+    let absent : number_of_name old y ≡ None = not_found (number_of_name old y) (sym c.is_listed.ensures ∙ c.if-is_listed.false) in
     let number : c.len.result ≡ length (names_in old) = grind (arith, length-map) in
     let updated : (q : List ℕ) → find q ≡ cond (bytes_eq y q) (Some (first + length (names_in old))) (number_of_name old q) =
     λ q. hash_map_updates_str y old.numbers c.insert.new.self _ c.in_ok-insert.ensures.updates q ∙ ap (λ n. cond (bytes_eq y q) (Some (first + n)) (number_of_name old q)) number in
