@@ -24,5 +24,5 @@ use said::add_form;
 pub use said::sayings_into;
 use survey::Survey;
 use targets::add_targets;
-pub use unit_check::{check, labels_of, parts_of, sayings};
+pub use unit_check::{check, check_with, labels_of, parts_of, sayings};
 use visit::visit_list;

@@ -22,14 +22,15 @@ pub struct Survey<'a> {
 }
 
 impl<'a> Survey<'a> {
-    /// Before the first part. It takes no memory.
-    pub fn new(alloc: Global) -> Survey<'a>
-        ensures { survey_of result ≡ starting }
+    /// Before the first part, with memory for so many.
+    pub fn with_room(alloc: Global, parts: usize) -> Result<Survey<'a>, AllocError>
+        ensures { IfOk result (λ survey. survey_of survey ≡ starting) }
     {
-        Survey {
+        let parts = Vec::with_capacity(alloc, parts)?;
+        Ok(Survey {
             reach: LabelSet::new(alloc),
-            parts: Vec::new(alloc),
-        }
+            parts,
+        })
     }
 
     /// A part comes.

@@ -30,9 +30,22 @@ pub fn check(alloc: Global, unit: &RatUnit) -> Result<List<u32>, Refusal>
     ensures labels { IfOk result (λ labels. labels.items ≡ own_labels (unit_parts (commands unit.now.body.items)) []) }
 {
     let parts = parts_of(alloc, &unit.body)?;
-    let sayings = sayings_in(alloc, &unit.header, &parts)?;
+    check_with(alloc, unit, &parts)
+}
+
+/// The same of a unit of which the parts are known.
+pub fn check_with<'a>(
+    alloc: Global,
+    unit: &'a RatUnit,
+    parts: &[Part<'a>],
+) -> Result<List<u32>, Refusal>
+    requires { parts_seen parts.now ≡ unit_parts (commands unit.now.body.items) }
+    ensures fault { Tells result (unit_fault (rat_routine_of unit.now)) }
+    ensures labels { IfOk result (λ labels. labels.items ≡ own_labels (unit_parts (commands unit.now.body.items)) []) }
+{
+    let sayings = sayings_in(alloc, &unit.header, parts)?;
     let names = unit_names_of(alloc, &unit.header, &sayings)?;
-    check_rules(alloc, &names, unit.place, &parts)
+    check_rules(alloc, &names, unit.place, parts)
 }
 
 /// The labels of a unit's statements, each once.
@@ -89,7 +102,8 @@ pub fn sayings<'a>(
 pub fn parts_of(alloc: Global, body: &[RatStmt]) -> Result<Vec<Part>, AllocError>
     ensures { IfOk result (λ parts. parts_seen parts.items ≡ unit_parts (commands body.now)) }
 {
-    let mut survey = Survey::new(alloc);
+    // Most parts are statements of the unit's own list.
+    let mut survey = Survey::with_room(alloc, body.len())?;
     visit_list(body, &Around::Outside, &mut survey)?;
     Ok(survey.parts)
 }
@@ -102,7 +116,8 @@ fn sayings_in<'a>(
 ) -> Result<Vec<Saying<'a>>, AllocError>
     ensures { IfOk result (λ v. acts_of v.items ≡ said_in (header_of header.now) (parts_seen parts.now)) }
 {
-    let mut sayings = Vec::new(alloc);
+    // Most parts say one thing.
+    let mut sayings = Vec::with_capacity(alloc, parts.len())?;
     for part in parts {
         add_form(header, part.form, &mut sayings)?;
     }

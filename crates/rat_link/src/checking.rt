@@ -9,12 +9,12 @@ use crate::association::check_association;
 use crate::linking::link_said;
 use f66_tree::Unit;
 use ground::{List, Refusal};
-use rat_check::check;
+use rat_check::{check_with, parts_of};
 use rat_said::said_unit;
 use rat_tree::{RatProgram, RatUnit};
 use std::alloc::Global;
 
-/// Whether a program is one of Ratfor, whose units link; else its first fault, told by the source: unit by unit what `check` finds and
+/// Whether a program is one of Ratfor, whose units link; else its first fault, told by the source: unit by unit what `rat_check` finds and
 /// behind it BadEquivalence, then Limit, then the rules of linking.
 pub fn check_program(alloc: Global, program: &RatProgram) -> Result<(), Refusal>
     ensures accepted { OnOk result (IsAccepted (program_of program.now)) }
@@ -55,8 +55,9 @@ fn check_one(alloc: Global, unit: &RatUnit) -> Result<Unit, Refusal>
     ensures clean { OnOk result (IsClean (rat_routine_of unit.now)) }
     ensures refused { IfErr result (IsRefusalBy (IsUnitFault (rat_routine_of unit.now))) }
 {
-    let _labels = check(alloc, unit)?;
-    let said = said_unit(alloc, unit)?;
+    let parts = parts_of(alloc, &unit.body)?;
+    let _labels = check_with(alloc, unit, &parts)?;
+    let said = said_unit(alloc, unit, &parts)?;
     check_association(alloc, &said)?;
     Ok(said)
 }

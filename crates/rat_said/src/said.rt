@@ -2,7 +2,8 @@
 ghost use Rattle.std.specs.Prelude.{◌≡◌, ◌∷◌, [], ◌++◌, map, IfOk, OnOk};
 ghost use Rattle.f66_tree.specs.Views.{act_of, header_of, lines_of, routine_of};
 ghost use Rattle.f66_names.specs.ActViews.{act_said, acts_of};
-ghost use Rattle.rat_tree.specs.Views.{rat_routine_of};
+ghost use Rattle.rat_tree.specs.Views.{commands, rat_routine_of};
+ghost use Rattle.rat_check.specs.Parts.{unit_parts};
 ghost use Rattle.rat_check.specs.PartViews.{part_of, parts_seen};
 ghost use Rattle.rat_said.specs.Said.{part_lines, said_line, said_lines, said_routine};
 
@@ -11,16 +12,20 @@ use f66_tree::{
     Counting, Expr, Header, Name, Stmt, StmtKind, Unit, copy_expr, copy_kind, copy_par,
 };
 use ground::List;
-use rat_check::{Part, parts_of, sayings_into};
+use rat_check::{Part, sayings_into};
 use rat_tree::RatUnit;
 use std::alloc::{AllocError, Global};
 
-/// The unit of FORTRAN that says what a unit says, statement by statement in reading order.
-pub fn said_unit(alloc: Global, unit: &RatUnit) -> Result<Unit, AllocError>
+/// The unit of FORTRAN that says what a unit of these parts says, statement by statement in reading order.
+pub fn said_unit<'a>(
+    alloc: Global,
+    unit: &'a RatUnit,
+    parts: &[Part<'a>],
+) -> Result<Unit, AllocError>
+    requires { parts_seen parts.now ≡ unit_parts (commands unit.now.body.items) }
     ensures { IfOk result (λ said. routine_of said ≡ said_routine (rat_routine_of unit.now)) }
 {
-    let parts = parts_of(alloc, &unit.body)?;
-    let statements = statements_of(alloc, &unit.header, &parts)?;
+    let statements = statements_of(alloc, &unit.header, parts)?;
     let header = copy_header(alloc, &unit.header)?;
     Ok(Unit {
         header,
