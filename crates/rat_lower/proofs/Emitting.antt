@@ -11,4 +11,5 @@ pub mod Blocks
 pub mod Members
 pub mod MadeLabels
 pub mod SpareNames
+pub mod Unswitched
 pub mod Units

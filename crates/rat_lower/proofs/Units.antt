@@ -15,7 +15,7 @@ use Rattle.rat_check.specs.FirstFault.{with_own, unit_fault}
 use Rattle.rat_check.specs.Survey.{is_among, own_labels}
 use Rattle.rat_check.proofs.CleanLemmas.{Passed, passed}
 use Rattle.rat_check.proofs.SurveyLemmas.{own_among}
-use Rattle.name_alloc.specs.MadeNames.{Used, next_name, unused, keeping_all}
+use Rattle.name_alloc.specs.MadeNames.{Used, next_name}
 use Rattle.name_alloc.proofs.KeptNames.{next_apart}
 use Rattle.rat_lower.specs.Checked.{IsChecked}
 use Rattle.rat_lower.specs.Code.{have_switch, all_labels, ends_itself, unit_code}
@@ -23,15 +23,16 @@ use Rattle.rat_lower.specs.Emitted.{labels_past, unit_names, spare_name}
 use Rattle.rat_lower.specs.Lowered.{lowered, HasRoom, IsUnitCode}
 use Rattle.rat_lower.specs.Served.{Serves}
 use Rattle.rat_lower.proofs.Checks.{is_checked, accepted_flow}
+use Rattle.rat_lower.proofs.Emitting.Unswitched.{same_unit}
 use Rattle.rat_lower.proofs.Simulation.LinkedUnits.{spare_of}
 use Rattle.rat_lower.proofs.Simulation.OneLinkage.{Made}
 use Rattle.rat_lower.proofs.Soundness.CleanUnits.{unit_is_sound}
 use Rattle.rat_lower.proofs.Soundness.PrintedUnits.{unit_fits}
 
 module _ (u : RatRoutine) (taken given : List ℕ) (last : Place) (names : Used) (code : List Line) (none_found : unit_fault u ≡ None) (own : taken ≡ own_labels (unit_parts u.body) []) (same : given ≡ taken)
-    (room : HasRoom u) (is_code : IsUnitCode (labels_past given) (next_name names) u last code) (kept : names ≡ keeping_all (unit_names u) unused) where
+    (room : HasRoom u) (is_code : IsUnitCode (labels_past given) (next_name names) u last code) (spare : have_switch u.body ≡ true → next_name names ≡ spare_name u) where
   made : code ≡ lowered given u last
-  made = is_code.is ∙ ap (λ n. unit_code (labels_past given) (next_name n) u.header u.place last u.body) kept
+  made = is_code.is ∙ same_unit (labels_past given) (next_name names) (spare_name u) u.header u.place last u.body spare
 
   accepted : Passed u.header (unit_parts u.body)
   accepted = passed u.header u.place (unit_parts u.body) none_found

@@ -20,7 +20,7 @@ use lines::{
     put_next, put_return, put_step, put_test, put_unless, put_value,
 };
 use maker::Maker;
-use names::names_in;
+use names::names_for;
 pub use program::{lower, lower_accepted};
 use routine::lower_unit;
 use switches::have_switch;

@@ -1,5 +1,5 @@
 // The names of a unit's source.
-ghost use Rattle.std.specs.Prelude.{◌≡◌, [], map, length, IfOk, OnOk};
+ghost use Rattle.std.specs.Prelude.{◌≡◌, ◌≤◌, [], true, map, length, IfOk, OnOk};
 ghost use Rattle.std.specs.List.{flat_map};
 ghost use Rattle.f66_tree.specs.Views.{act_of, area_of, declared_of, formula_of, formulas_of, header_of, preset_of};
 ghost use Rattle.f66_names.specs.ActViews.{act_said, acts_of};
@@ -7,10 +7,12 @@ ghost use Rattle.f66_names.specs.Uses.{uses_of_all, uses_of_target};
 ghost use Rattle.f66_names.specs.UseViews.{use_of};
 ghost use Rattle.unit_rules.specs.Listed.{uses_of_listed};
 ghost use Rattle.name_alloc.specs.Numbers.{starting};
-ghost use Rattle.name_alloc.specs.MadeNames.{unused, keeping_all};
-ghost use Rattle.rat_tree.specs.Views.{rat_routine_of};
-ghost use Rattle.rat_lower.specs.Emitted.{further_names, header_names, named_in, names_used, unit_names};
+ghost use Rattle.name_alloc.specs.MadeNames.{next_name, unused, keeping_all};
+ghost use Rattle.rat_tree.specs.Views.{commands, rat_routine_of};
+ghost use Rattle.rat_lower.specs.Code.{have_switch};
+ghost use Rattle.rat_lower.specs.Emitted.{further_names, header_names, named_in, names_used, spare_name, unit_names};
 
+use crate::have_switch;
 use f66_names::{
     Saying, Use, collect_all, collect_pars, collect_target, declared_in_saying, uses_of_saying,
 };
@@ -21,12 +23,23 @@ use rat_check::sayings;
 use rat_tree::RatUnit;
 use std::alloc::{AllocError, Global};
 
-/// The names of a unit are kept: those in its header, and those that its statements declare, use, call or list.
-pub fn names_in(alloc: Global, unit: &RatUnit) -> Result<Names, AllocError>
-    ensures kept { IfOk result (λ names. names ≡ keeping_all (unit_names (rat_routine_of unit.now)) unused) }
-    ensures count { IfOk result (λ names. length names.kept ≡ length (unit_names (rat_routine_of unit.now))) }
+/// Names of which the next one holds the values of a unit's switches: where it has one, those of the unit are kept, so that it is none
+/// of them.
+pub fn names_for(alloc: Global, unit: &RatUnit) -> Result<Names, AllocError>
+    ensures spare { IfOk result (λ names. have_switch (commands unit.now.body.items) ≡ true → next_name names ≡ spare_name (rat_routine_of unit.now)) }
+    ensures few { IfOk result (λ names. length names.kept ≤ length (unit_names (rat_routine_of unit.now))) }
     ensures made { IfOk result (λ names. names.numbers.made ≡ []) }
     ensures labels { IfOk result (λ names. names.labels ≡ starting 23000) }
+{
+    if have_switch(&unit.body) {
+        return names_in(alloc, unit);
+    }
+    Ok(Names::new(alloc))
+}
+
+/// The names of a unit are kept: those in its header, and those that its statements declare, use, call or list.
+fn names_in(alloc: Global, unit: &RatUnit) -> Result<Names, AllocError>
+    ensures { IfOk result (λ names. names ≡ keeping_all (unit_names (rat_routine_of unit.now)) unused) }
 {
     let mut names = Names::new(alloc);
     keep_unit(alloc, &mut names, unit)?;

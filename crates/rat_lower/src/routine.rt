@@ -5,7 +5,7 @@ ghost use Rattle.rat_check.specs.FirstFault.{unit_fault};
 ghost use Rattle.rat_lower.specs.Lowered.{HasRoom};
 ghost use Rattle.rat_lower.specs.Served.{Serves};
 
-use crate::{copy_header, lower_body, names_in};
+use crate::{copy_header, lower_body, names_for};
 use f66_tree::Unit;
 use ground::{Memory, Place};
 use rat_check::labels_of;
@@ -19,7 +19,7 @@ pub fn lower_unit(alloc: Global, unit: &RatUnit, finish: Place) -> Result<Unit, 
     ensures { IfOk result (λ made. Serves (rat_routine_of unit.now) finish made) }
 {
     let labels = labels_of(alloc, &unit.body)?;
-    let names = names_in(alloc, unit)?;
+    let names = names_for(alloc, unit)?;
     let statements = lower_body(alloc, names, &labels, unit, finish)?;
     let header = copy_header(alloc, &unit.header)?;
     Ok(Unit {

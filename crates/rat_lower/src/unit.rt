@@ -16,8 +16,8 @@ use name_alloc::Names;
 use rat_tree::RatUnit;
 use std::alloc::{AllocError, Global};
 
-/// The statements of FORTRAN that do what a unit does whose text ends at `finish`. `names` are the names of its source,
-/// and `taken` its labels, which those that are made differ from.
+/// The statements of FORTRAN that do what a unit does whose text ends at `finish`. The next of `names` is to hold
+/// the values of its switches, and `taken` are its labels, which those that are made differ from.
 pub fn lower_body(
     alloc: Global,
     names: Names,
@@ -44,7 +44,8 @@ fn unit_code(maker: &mut Maker, unit: &RatUnit, finish: Place) -> Result<List<St
     ensures code { IfOk result (λ code. IsUnitCode (labels_past maker.old.taken) maker.old.spare (rat_routine_of unit.now) finish (lines_of code.items)) }
     ensures ends { IfOk result (λ code. ends_itself (header_of unit.now.header) (lines_of code.items) ≡ true) }
 {
-    let mut code = Vec::new(maker.alloc());
+    // Most statements become one.
+    let mut code = Vec::with_capacity(maker.alloc(), unit.body.len())?;
     put_unit(maker, &mut code, unit, finish)?;
     Ok(code)
 }

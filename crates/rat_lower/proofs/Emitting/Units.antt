@@ -1,5 +1,6 @@
 -- The statements of a whole unit.
 use Rattle.std.proofs.Common.{◌≡◌, ℕ, List, [], ◌∷◌, ◌++◌, Bool, true, false, refl, sym, ap, ◌∙◌}
+use Rattle.std.proofs.lemmas.List.{append-nil}
 use mathlib.Core.Path.{fun_ext}
 use Rattle.ground.specs.declared.place.Place.{Place}
 use Rattle.std.specs.Prelude.{if◌then◌else◌}
@@ -9,10 +10,6 @@ use Rattle.rat_tree.specs.Syntax.{Commands, RatRoutine}
 use Rattle.rat_lower.specs.Code.{all_code, declared_if, ends_itself, ends_so, is_transfer, end_unless, have_switch, unit_code}
 use Rattle.rat_lower.specs.Emitted.{Making, labels_past, Adds, AllEmitted}
 use Rattle.rat_lower.specs.Lowered.{IsUnitCode}
-
-with_nothing : (xs : List Line) → xs ++ [] ≡ xs
-with_nothing [] = refl
-with_nothing (x ∷ xs) = ap (λ ys. x ∷ ys) (with_nothing xs)
 
 -- a declaration does not say how a unit ends
 so_behind : (b : Bool) (p : Place) (spare : Text) (code : List Line) → ends_so false (declared_if b p spare code) ≡ ends_so false code
@@ -66,7 +63,7 @@ unit_lowered header before after used p q ss l0 l1 l2 l3 made own has none decla
     ∙ ap (λ n. declared_if used p x (all_code M x o ss n [] rest)) made
     ∙ ap (λ b. declared_if b p x (all_code M x o ss 0 [] rest)) has in
     let ends : ends_itself header l2 ≡ ends_itself header (all_code M x o ss 0 [] []) =
-    ap (ends_itself header) (sym (with_nothing l2) ∙ all []) ∙ ends_behind header (have_switch ss) p x (all_code M x o ss 0 [] []) in
+    ap (ends_itself header) (sym (append-nil l2) ∙ all []) ∙ ends_behind header (have_switch ss) p x (all_code M x o ss 0 [] []) in
     record {
       is = end ∙ ap (λ b. l2 ++ end_unless (is_main header) b q) ends ∙ all (end_unless (is_main header) (ends_itself header (all_code M x o ss 0 [] [])) q);
     }

@@ -1,5 +1,5 @@
 -- A switch follows, and so every statement: its value stays in the spare unit while its case expressions are compared.
-use Rattle.std.proofs.Common.{◌≡◌, true, false, Bool, ℕ, ◌+◌, ◌*◌, ◌≤◌, List, [], ◌∷◌, length, Some, None, refl, sym, ap, ◌∙◌, subst, arith, true≢false, ◌||◌}
+use Rattle.std.proofs.Common.{◌≡◌, true, false, Bool, ℕ, ◌+◌, ◌*◌, ◌≤◌, List, [], ◌∷◌, length, Some, None, refl, sym, ap, ◌∙◌, subst, arith, true≢false}
 use Rattle.std.specs.Prelude.{◌&&◌, ⊤}
 use Rattle.ground.specs.declared.place.Place.{Place}
 use Rattle.ground.specs.Content.{Content}
@@ -13,6 +13,7 @@ use Rattle.rat_tree.specs.Meaning.{Continuation, landed, fits_case, run_from, pi
 use Rattle.rat_tree.specs.Uses.{NamesOfCommandBy, NamesOfCommandsBy, NamesOfClausesBy}
 use Rattle.rat_lower.specs.Code.{Rings, jump, here, labels, all_labels, each_test, tests, default_label, has_switch, have_switch, bodies}
 use Rattle.rat_lower.specs.Checked.{bit, IsBuilt, AreBuilt, ClausesBuilt}
+use Rattle.rat_lower.proofs.Emitting.Unswitched.{by_first, by_second}
 use Rattle.rat_lower.proofs.Simulation.Spared.{Lowering, own_name, code, Own}
 use Rattle.rat_lower.proofs.Simulation.Follows.{Extra, keeps_self, Calls, first, past_jump, past_here}
 use Rattle.rat_lower.proofs.Simulation.Counts.{same_number, ends, all_heads, clause_heads}
@@ -99,15 +100,6 @@ module _ (g : Lowering) (b : ℕ) (call : Calls g b) (made : ℕ → ℕ) (spare
       picked_follows holds v cs all_used (n + 1) top ls rest next (defaulted So f0 b cs) d
       (λ pr2 w2 y is2 ok. first g {j1 = 1} {b1 = b} {x1 = 1 + y} (defaulted So f0 b cs w2) (keeps_self g top pr2) (past_jump g p (default_label made spare (own_name g) cs (n + 1) (made n)) all pr2 w2.state) (omega arith) (omega arith) (omega arith)
       (default_follows cs (n + 1) (made n) p top ls next at_out no_out d pr2 w2 (1 + y) (omega arith))) pr1 w1 x1 is le1)
-
-  -- where a part has a switch, the whole has one
-  by_first : (v u : Bool) → v ≡ true → (v || u) ≡ true
-  by_first true u e = refl
-  by_first false u e = absurd (true≢false (sym e))
-
-  by_second : (v u : Bool) → u ≡ true → (v || u) ≡ true
-  by_second true u e = refl
-  by_second false u e = e
 
   -- every statement follows
   mutual

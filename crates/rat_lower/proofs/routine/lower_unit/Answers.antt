@@ -13,5 +13,5 @@ returns c =
     let code = lines_of c.in_ok-statements.statements.items in
     let labels = c.in_ok-labels.ensures ∙ ap (λ body. own_labels (unit_parts (commands body)) []) c.deref.ensures.value in
     code_serves u c.in_ok-labels.labels.items c.deref-2.result.now c.args.finish c.in_ok-names.names code
-    c.requires.accepted labels c.deref-2.ensures.value c.requires.room c.in_ok-statements.ensures.code c.in_ok-names.ensures.kept
+    c.requires.accepted labels c.deref-2.ensures.value c.requires.room c.in_ok-statements.ensures.code c.in_ok-names.ensures.spare
     _ (ap (λ h. record { header = h; lines = code; place = u.place }) c.in_ok-header.ensures) c.in_ok-statements.ensures.ends
