@@ -4,7 +4,8 @@
 # units and lines of three of the examples, as people write them; `formats` are FORMATs whose quoted texts are one token each, with
 # 4 MiB.
 # Wanted are at most eleven times the time for ten times the text, both without an empty run, and at most 40 times the text as memory,
-# without that of an empty run. f2c and ftnchek are compared with where they are there.
+# without that of an empty run. f2c and ftnchek are compared with where they are there; f2c takes no more than 400 names of units
+# unless it is told so.
 . "$(dirname "$0")/common.sh"
 wants "$eft"
 rounds=20
@@ -65,18 +66,23 @@ memory() { # COMMAND...
     echo "$high"
 }
 
-# Tells the processor's time of a command beside that of another program where this is there.
+# Tells the processor's time of a command beside that of another program where this is there, of that of five turns which has the
+# middle ratio. A deck that the other program refuses would tell nothing.
 beside() { # PROGRAM WORDS WHAT COMMAND...
     program=$1
     words=$2
     what=$3
     shift 3
-    if command -v "$program" >/dev/null; then
-        own=$(processor_time "$@")
-        echo "$what: $own ms of the processor in ten runs, and $program $(processor_time sh -c "$program $words") ms"
-    else
+    if ! command -v "$program" >/dev/null; then
         echo "$what: $program is not installed here"
+        return
     fi
+    sh -c "$program $words" >/dev/null 2>"$work/err" || { echo "bench/cards.sh: $program refuses its text: $(tail -n 1 "$work/err")" >&2; exit 1; }
+    for _ in 1 2 3 4 5; do
+        own=$(processor_time "$@")
+        echo "$own $(processor_time sh -c "$program $words")"
+    done | awk '{ print $1 / $2, $1, $2 }' | sort -n | sed -n 3p |
+        awk -v what="$what" -v program="$program" '{ printf "%s: %d ms of the processor in ten runs, and %s %d ms: %.2f times\n", what, $2, program, $3, $1 }'
 }
 
 printf 'end\n' >"$work/empty.r"
@@ -117,7 +123,7 @@ measured() { # SHAPE LARGE SMALL
         printf "cards of %s: %d KiB of memory for %d of text, %.1f times (at most 40 wanted)\n", what, took, bytes / 1024, took * 1024 / bytes
         exit took * 1024 > 40 * bytes
     }' || status=1
-    beside f2c "<$work/large.f" "cards of $2 units of $shape" "$eft" cards ratfor "$work/large.r"
+    beside f2c "-Nx1000 <$work/large.f" "cards of $2 units of $shape" "$eft" cards ratfor "$work/large.r"
     beside ftnchek "$work/large.f" "the deck of $2 units of $shape" "$eft" deck --steps 1 "$work/large.f"
 }
 
