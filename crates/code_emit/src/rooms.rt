@@ -55,7 +55,8 @@ pub fn room_of<U: NamedUnit>(unit: &U, e: &Expr) -> Result<u32, AllocError>
         Expr::Plus(a) => room_of(unit, a),
         Expr::Minus(a) => room_of(unit, a),
         Expr::Not(a) => room_of(unit, a),
-        Expr::Pair(_, a, b) => {
+        Expr::Pair(_, operands) => {
+            let (a, b) = &**operands;
             let first = room_of(unit, a)?;
             let second = room_of(unit, b)?;
             plus(first, second)

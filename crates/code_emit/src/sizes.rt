@@ -62,7 +62,8 @@ pub(crate) fn value_size<U: NamedUnit>(unit: &U, e: &Expr) -> Result<u32, AllocE
             let size = value_size(unit, a)?;
             plus(size, 1)
         }
-        Expr::Pair(_, a, b) => {
+        Expr::Pair(_, operands) => {
+            let (a, b) = &**operands;
             let first = value_size(unit, a)?;
             let second = value_size(unit, b)?;
             let both = plus(first, second)?;

@@ -72,7 +72,8 @@ pub(crate) fn put_value<U: NamedUnit>(
             put_value(unit, ops, a)?;
             put(ops, Op::Not)
         }
-        Expr::Pair(operator, a, b) => {
+        Expr::Pair(operator, operands) => {
+            let (a, b) = &**operands;
             put_value(unit, ops, a)?;
             put_value(unit, ops, b)?;
             put(ops, operator_op(*operator))

@@ -8,8 +8,8 @@ ghost use Rattle.efl_emit.specs.Names.{emission_of, made_of, operand_of};
 ghost use Rattle.efl_emit.specs.Cases.{Tests, ring_of_cases};
 ghost use Rattle.efl_emit.specs.Words.{LeavesOne};
 
-use crate::{Emitter, Naming, Operand, boxed_operand, put_choice};
-use f66_tree::{Expr, Operator};
+use crate::{Emitter, Naming, Operand, operand_expr, put_choice};
+use f66_tree::{Expr, Operator, paired};
 use ground::Place;
 use std::alloc::{AllocError, Global};
 
@@ -54,9 +54,9 @@ fn put_tests(
 fn equal_to(alloc: Global, value: Operand, test: i64) -> Result<Expr, AllocError>
     ensures { IfOk result (λ e. formula_of e ≡ PairOf Eq (operand_of value) (signed test)) }
 {
-    let value = boxed_operand(alloc, value)?;
-    let test = Box::new(alloc, signed(alloc, test)?)?;
-    Ok(Expr::Pair(Operator::Eq, value, test))
+    let value = operand_expr(value)?;
+    let test = signed(alloc, test)?;
+    paired(alloc, Operator::Eq, value, test)
 }
 
 // A constant, below zero with a sign of its own.

@@ -5,7 +5,7 @@ ghost use Rattle.f66_tree.specs.Views.{formula_of};
 ghost use Rattle.efl_emit.specs.Names.{operand_of};
 
 use crate::temporary;
-use f66_tree::{Expr, Operator};
+use f66_tree::{Expr, Operator, paired};
 use ground::Kind;
 use std::alloc::{AllocError, Global};
 
@@ -51,9 +51,9 @@ pub fn operand_pair(
 ) -> Result<Expr, AllocError>
     ensures { IfOk result (λ e. formula_of e ≡ PairOf operator (operand_of left) (operand_of right)) }
 {
-    let left = boxed_operand(alloc, left)?;
-    let right = boxed_operand(alloc, right)?;
-    Ok(Expr::Pair(operator, left, right))
+    let left = operand_expr(left)?;
+    let right = operand_expr(right)?;
+    paired(alloc, operator, left, right)
 }
 
 /// Whether an operand is false.

@@ -23,7 +23,7 @@
 use crate::formats::fields_in;
 use f66_tree::{
     Area, Counting, Declared, Entry, Expr, Header, Name, Operator, Par, PresetPart, Stmt, StmtKind,
-    TypeWord, Unit, applied,
+    TypeWord, Unit, applied, paired,
 };
 use ground::{List, Place, Text};
 use std::alloc::{AllocError, Global};
@@ -411,17 +411,22 @@ fn operator_of(word: &str) -> Option<Operator> {
     }
 }
 
-fn operand(alloc: Global, stack: &mut List<Expr>) -> Result<Box<Expr>, AllocError> {
+fn last(stack: &mut List<Expr>) -> Result<Expr, AllocError> {
     match stack.pop() {
-        Some(e) => Ok(Box::new(alloc, e)?),
+        Some(e) => Ok(e),
         None => Err(AllocError),
     }
 }
 
+fn operand(alloc: Global, stack: &mut List<Expr>) -> Result<Box<Expr>, AllocError> {
+    let e = last(stack)?;
+    Ok(Box::new(alloc, e)?)
+}
+
 fn pair(alloc: Global, stack: &mut List<Expr>, operator: Operator) -> Result<Expr, AllocError> {
-    let second = operand(alloc, stack)?;
-    let first = operand(alloc, stack)?;
-    Ok(Expr::Pair(operator, first, second))
+    let second = last(stack)?;
+    let first = last(stack)?;
+    paired(alloc, operator, first, second)
 }
 
 /// A name with the last operands in its parentheses.

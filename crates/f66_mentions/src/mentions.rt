@@ -114,7 +114,8 @@ fn collect<'a>(
         Expr::Plus(a) => collect(names, a, mentions),
         Expr::Minus(a) => collect(names, a, mentions),
         Expr::Not(a) => collect(names, a, mentions),
-        Expr::Pair(_, a, b) => {
+        Expr::Pair(_, operands) => {
+            let (a, b) = &**operands;
             collect(names, a, mentions)?;
             collect(names, b, mentions)
         }

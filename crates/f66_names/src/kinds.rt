@@ -114,7 +114,8 @@ fn is_multiple(declarations: &Declarations, e: &Expr) -> bool
 {
     match e {
         Expr::Ref(name) => is_counter(declarations, name),
-        Expr::Pair(operator, a, b) => {
+        Expr::Pair(operator, operands) => {
+            let (a, b) = &**operands;
             is_times(*operator) && (is_number(a) && is_index(declarations, b))
         }
         _ => false,
@@ -126,7 +127,8 @@ fn is_shifted(declarations: &Declarations, e: &Expr) -> bool
     ensures { result ≡ is_shifted (context_in declarations.now) (formula_of e.now) }
 {
     match e {
-        Expr::Pair(operator, a, b) => {
+        Expr::Pair(operator, operands) => {
+            let (a, b) = &**operands;
             is_plus_or_minus(*operator) && (is_multiple(declarations, a) && is_number(b))
         }
         _ => false,

@@ -64,7 +64,8 @@ pub fn stands(at: u8, e: &Expr) -> bool
         Expr::Plus(a) => at <= 4 && stands(5, a),
         Expr::Minus(a) => at <= 4 && stands(5, a),
         Expr::Not(a) => at <= 2 && stands(3, a),
-        Expr::Pair(operator, a, b) => {
+        Expr::Pair(operator, operands) => {
+            let (a, b) = &**operands;
             at <= level(*operator)
                 && (stands(left_level(*operator), a) && stands(right_level(*operator), b))
         }

@@ -132,7 +132,8 @@ fn collect<'a>(e: &'a Expr, uses: &mut Vec<Use<'a>>) -> Result<(), AllocError>
         Expr::Plus(a) => collect(a, uses),
         Expr::Minus(a) => collect(a, uses),
         Expr::Not(a) => collect(a, uses),
-        Expr::Pair(_, a, b) => {
+        Expr::Pair(_, operands) => {
+            let (a, b) = &**operands;
             collect(a, uses)?;
             collect(b, uses)
         }

@@ -33,7 +33,7 @@ abbrev mutual
   formula_of (e.Plus' p a) = Plus (formula_of a)
   formula_of (e.Minus' p a) = Minus (formula_of a)
   formula_of (e.Not' p a) = Not (formula_of a)
-  formula_of (e.Pair' op p a q b) = Pair op (formula_of a) (formula_of b)
+  formula_of (e.Pair' op p a b) = Pair op (formula_of a) (formula_of b)
 
   pub row_formulas : {m : _} → e.Row_of-Expr m → Formulas
   row_formulas e.end_of-Expr = NoFormula

@@ -1,7 +1,7 @@
 // Expressions.
 ghost use Rattle.std.specs.Prelude.{◌≡◌, IfOk, map};
 ghost use Rattle.f66_tree.specs.Constants.{constant_value, unsigned_value};
-ghost use Rattle.f66_tree.specs.Syntax.{Item};
+ghost use Rattle.f66_tree.specs.Syntax.{Item, Pair};
 ghost use Rattle.f66_tree.specs.Views.{formula_of, formulas_of};
 
 use crate::Name;
@@ -24,7 +24,8 @@ pub enum Expr {
     Plus(Box<Expr>),
     Minus(Box<Expr>),
     Not(Box<Expr>),
-    Pair(Operator, Box<Expr>, Box<Expr>),
+    /// An operator and its two operands, which stand in one box.
+    Pair(Operator, Box<(Expr, Expr)>),
 }
 
 /// An operator between two operands.
@@ -53,6 +54,18 @@ pub fn applied(name: Name, list: List<Expr>) -> Result<Expr, AllocError>
 {
     let alloc = *list.allocator();
     Ok(Expr::Item(Box::new(alloc, (name, list))?))
+}
+
+/// Two operands with an operator between them.
+pub fn paired(
+    alloc: Global,
+    operator: Operator,
+    left: Expr,
+    right: Expr,
+) -> Result<Expr, AllocError>
+    ensures { IfOk result (λ e. formula_of e ≡ Pair operator (formula_of left) (formula_of right)) }
+{
+    Ok(Expr::Pair(operator, Box::new(alloc, (left, right))?))
 }
 
 /// The value of an integer constant with one sign or none (X3.9-1966, section 5.1.1.1).
@@ -98,10 +111,11 @@ pub fn copy_expr(alloc: Global, e: &Expr) -> Result<Expr, AllocError>
         Expr::Plus(a) => Ok(Expr::Plus(copy_boxed(alloc, a)?)),
         Expr::Minus(a) => Ok(Expr::Minus(copy_boxed(alloc, a)?)),
         Expr::Not(a) => Ok(Expr::Not(copy_boxed(alloc, a)?)),
-        Expr::Pair(operator, a, b) => {
-            let a = copy_boxed(alloc, a)?;
-            let b = copy_boxed(alloc, b)?;
-            Ok(Expr::Pair(*operator, a, b))
+        Expr::Pair(operator, operands) => {
+            let (a, b) = &**operands;
+            let a = copy_expr(alloc, a)?;
+            let b = copy_expr(alloc, b)?;
+            paired(alloc, *operator, a, b)
         }
     }
 }

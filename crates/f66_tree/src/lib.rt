@@ -15,7 +15,7 @@ pub use declaration::{
     copy_par, copy_presets,
 };
 pub use editing::{EditKind, Mark, Turn, Way};
-pub use expression::{Expr, Operator, applied, copy_expr, copy_exprs, eval_const};
+pub use expression::{Expr, Operator, applied, copy_expr, copy_exprs, eval_const, paired};
 pub use format::{Field, copy_fields};
 pub use laws::{
     places_tell_traps_alone, records_stay, runs_extend, store_keeps, unasked_change_nothing,

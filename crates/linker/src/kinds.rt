@@ -89,7 +89,7 @@ pub(crate) fn kind_in(unit: &TypedUnit, e: &Expr) -> Kind
         Expr::Ref(name) => kind_of(unit, name),
         Expr::Item(item) => kind_applied(unit, &item.0),
         Expr::Group(a) => kind_in(unit, a),
-        Expr::Pair(operator, _, _) => outcome(*operator),
+        Expr::Pair(operator, _) => outcome(*operator),
     }
 }
 

@@ -2,7 +2,7 @@
 
 ghost use Rattle.std.specs.Prelude.{◌≡◌, IfOk, map};
 ghost use Rattle.grammar.specs.declared.language.Symbol.TheVariants.{Nonterminal as nonterminal_symbol};
-ghost use Rattle.f66_tree.specs.Syntax.{Pair, Not, Group};
+ghost use Rattle.f66_tree.specs.Syntax.{Not, Group};
 ghost use Rattle.f66_tree.specs.Views.{formula_of};
 ghost use Rattle.rat_parse_table.specs.declared.table.Nonterminal.TheVariants as nonterminals;
 ghost use Rattle.rat_parse_values.specs.Values.{tok, formula, formulas, located};
@@ -12,19 +12,11 @@ ghost use Rattle.rat_descent.specs.Reading.{Reads, Formed};
 use crate::reader::{Reader, close_production, is_at, open_production, take_token};
 use crate::tokens::{name_of, name_token, number_token, operator_at};
 use descent::GiveUp;
-use f66_tree::{Expr, Operator, applied};
+use f66_tree::{Expr, Operator, applied, paired};
 use ground::{List, Place, Token};
 use rat_parse_table::{Production, Terminal};
 use rat_parse_values::{integer_of_kind, is_minus, is_true, sign_of_kind};
 use std::alloc::{AllocError, Global};
-
-fn pair(alloc: Global, operator: Operator, left: Expr, right: Expr) -> Result<Expr, AllocError>
-    ensures { IfOk result (λ e. formula_of e ≡ Pair operator (formula_of left) (formula_of right)) }
-{
-    let left = Box::new(alloc, left)?;
-    let right = Box::new(alloc, right)?;
-    Ok(Expr::Pair(operator, left, right))
-}
 
 fn not(alloc: Global, e: Expr) -> Result<Expr, AllocError>
     ensures { IfOk result (λ r. formula_of r ≡ Not (formula_of e)) }
@@ -67,7 +59,7 @@ pub fn expression(alloc: Global, reader: &mut Reader<'_>, room: usize) -> Result
         }
         let operator = operator_at(take_token(reader, Terminal::Or)?);
         let right = conjunction(alloc, reader, room)?;
-        first = pair(alloc, operator, first, right)?;
+        first = paired(alloc, operator, first, right)?;
     }
     Err(GiveUp)
 }
@@ -83,7 +75,7 @@ fn conjunction(alloc: Global, reader: &mut Reader<'_>, room: usize) -> Result<Ex
         }
         let operator = operator_at(take_token(reader, Terminal::And)?);
         let right = negation(alloc, reader, room)?;
-        first = pair(alloc, operator, first, right)?;
+        first = paired(alloc, operator, first, right)?;
     }
     Err(GiveUp)
 }
@@ -112,7 +104,7 @@ fn relational(alloc: Global, reader: &mut Reader<'_>, room: usize) -> Result<Exp
     }
     let operator = operator_at(take_token(reader, Terminal::Relation)?);
     let right = sum(alloc, reader, room)?;
-    Ok(pair(alloc, operator, first, right)?)
+    Ok(paired(alloc, operator, first, right)?)
 }
 
 #[cycle(expression)]
@@ -126,7 +118,7 @@ fn sum(alloc: Global, reader: &mut Reader<'_>, room: usize) -> Result<Expr, Give
         }
         let operator = operator_at(take_token(reader, Terminal::Adding)?);
         let right = term(alloc, reader, room)?;
-        first = pair(alloc, operator, first, right)?;
+        first = paired(alloc, operator, first, right)?;
     }
     Err(GiveUp)
 }
@@ -159,7 +151,7 @@ fn term(alloc: Global, reader: &mut Reader<'_>, room: usize) -> Result<Expr, Giv
             return Ok(first);
         };
         let right = factor(alloc, reader, room)?;
-        first = pair(alloc, operator, first, right)?;
+        first = paired(alloc, operator, first, right)?;
     }
     Err(GiveUp)
 }
@@ -174,7 +166,7 @@ fn factor(alloc: Global, reader: &mut Reader<'_>, room: usize) -> Result<Expr, G
     }
     let operator = operator_at(take_token(reader, Terminal::Power)?);
     let right = prime(alloc, reader, room)?;
-    Ok(pair(alloc, operator, first, right)?)
+    Ok(paired(alloc, operator, first, right)?)
 }
 
 #[cycle(expression)]

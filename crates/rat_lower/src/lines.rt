@@ -10,7 +10,7 @@ ghost use Rattle.rat_lower.specs.Emitted.{Adds};
 
 use crate::{Around, Maker, Turn, label_again, label_behind};
 use f66_tree::{
-    Counting, Expr, Name, Operator, Par, Stmt, StmtKind, copy_expr, copy_kind, copy_par,
+    Counting, Expr, Name, Operator, Par, Stmt, StmtKind, copy_expr, copy_kind, copy_par, paired,
 };
 use ground::{List, Place};
 use rat_tree::{RatKind, RatStmt};
@@ -238,8 +238,8 @@ fn put_case(
 ) -> Result<(), AllocError>
     ensures { OnOk result (Adds (lines_of code.old.items) (lines_of code.new.items) (λ rest. unlabelled_line place (When (case_test name (formula_of e.now)) (Goto label)) ∷ rest)) }
 {
-    let name = Box::new(alloc, Expr::Ref(name))?;
-    let test = Expr::Pair(Operator::Eq, name, grouped(alloc, e)?);
+    let value = Expr::Group(Box::new(alloc, copy_expr(alloc, e)?)?);
+    let test = paired(alloc, Operator::Eq, Expr::Ref(name), value)?;
     put_choice(alloc, code, place, test, label)
 }
 

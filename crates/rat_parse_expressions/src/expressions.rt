@@ -1,25 +1,17 @@
 // What the productions of expressions make.
 ghost use Rattle.std.specs.Prelude.{◌≡◌, ◌∷◌, [], Some, None, true, false, pos, map, IfOk};
-ghost use Rattle.f66_tree.specs.Syntax.{Pair, Minus, Plus, Group, Not, Int};
+ghost use Rattle.f66_tree.specs.Syntax.{Minus, Plus, Group, Not, Int};
 ghost use Rattle.f66_tree.specs.Views.{formula_of};
 ghost use Rattle.rat_parse_values.specs.Values.{value, values, at, formula, formulas, joins, located};
 ghost use Rattle.rat_parse_values.specs.Parts.{as_formula, as_exprs, as_joins, place_in, name_in, sign_in, integer_in, operator_of as operation, is_minus as minus};
 ghost use Rattle.rat_parse_expressions.specs.Phrases.{joined, signed, applied as applied_by, integer as integer_seen, truth as truth_seen, letter as letter_seen};
 
-use f66_tree::{Expr, Name, Operator, applied};
+use f66_tree::{Expr, Name, Operator, applied, paired};
 use rat_parse_values::{
     ExpressionValue, Value, into_expr, into_joins, into_name, into_text, is_minus, is_true,
     letter_of, more_exprs, operator_of, place_of, pop_value, skip, take_integer, take_sign,
 };
 use std::alloc::{AllocError, Global};
-
-fn pair(alloc: Global, operator: Operator, left: Expr, right: Expr) -> Result<Expr, AllocError>
-    ensures { IfOk result (λ e. formula_of e ≡ Pair operator (formula_of left) (formula_of right)) }
-{
-    let left = Box::new(alloc, left)?;
-    let right = Box::new(alloc, right)?;
-    Ok(Expr::Pair(operator, left, right))
-}
 
 /// Operands grouped to the left.
 fn join(alloc: Global, mut first: Expr, part: Value) -> Result<Expr, AllocError>
@@ -27,7 +19,7 @@ fn join(alloc: Global, mut first: Expr, part: Value) -> Result<Expr, AllocError>
 {
     let mut tail = into_joins(alloc, part);
     while let Some((operator, right)) = tail.pop() {
-        first = pair(alloc, operator, first, right)?;
+        first = paired(alloc, operator, first, right)?;
     }
     Ok(first)
 }

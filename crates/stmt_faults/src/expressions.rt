@@ -27,7 +27,10 @@ pub fn formula_has(ask: Asked, e: &Expr) -> bool
         Expr::Plus(a) => formula_has(ask, a),
         Expr::Minus(a) => formula_has(ask, a),
         Expr::Not(a) => formula_has(ask, a),
-        Expr::Pair(_, a, b) => formula_has(ask, a) || formula_has(ask, b),
+        Expr::Pair(_, operands) => {
+            let (a, b) = &**operands;
+            formula_has(ask, a) || formula_has(ask, b)
+        }
     }
 }
 

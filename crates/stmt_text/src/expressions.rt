@@ -54,7 +54,8 @@ pub fn push_formula(out: &mut StatementText, e: &Expr) -> Option<()>
             push_all(out, b".NOT.")?;
             push_formula(out, a)
         }
-        Expr::Pair(operator, a, b) => {
+        Expr::Pair(operator, operands) => {
+            let (a, b) = &**operands;
             push_formula(out, a)?;
             push_all(out, operator_text(*operator))?;
             push_formula(out, b)

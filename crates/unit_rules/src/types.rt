@@ -82,7 +82,7 @@ pub fn kind_seen(declarations: &Declarations, e: &Expr) -> Kind
         Expr::Ref(name) => kind_of(declarations, name),
         Expr::Item(item) => kind_applied(declarations, &item.0),
         Expr::Group(a) => kind_seen(declarations, a),
-        Expr::Pair(operator, _, _) => outcome(*operator),
+        Expr::Pair(operator, _) => outcome(*operator),
     }
 }
 
@@ -119,7 +119,8 @@ pub fn fits(declarations: &Declarations, e: &Expr, kind: Kind) -> bool
         Expr::Plus(a) => same_kind(Kind::Integer, kind) && fits(declarations, a, Kind::Integer),
         Expr::Minus(a) => same_kind(Kind::Integer, kind) && fits(declarations, a, Kind::Integer),
         Expr::Not(a) => same_kind(Kind::Logical, kind) && fits(declarations, a, Kind::Logical),
-        Expr::Pair(operator, a, b) => {
+        Expr::Pair(operator, operands) => {
+            let (a, b) = &**operands;
             let asked = operand(*operator);
             same_kind(outcome(*operator), kind)
                 && (fits(declarations, a, asked) && fits(declarations, b, asked))

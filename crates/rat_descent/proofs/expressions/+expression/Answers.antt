@@ -51,7 +51,7 @@ relational-returns-then-not-is_at t c =
 
 pub relational-returns : goal.relational-returns
 relational-returns t c =
-    as_value (ap (λ o. formula (Pair o (formula_of c.in_ok-first.first) (formula_of c.in_ok-right.right))) (sym c.operator_at-operator.ensures) ∙ ap formula (sym c.in_ok-pair.ensures))
+    as_value (ap (λ o. formula (Pair o (formula_of c.in_ok-first.first) (formula_of c.in_ok-right.right))) (sym c.operator_at-operator.ensures) ∙ ap formula (sym c.in_ok-paired.ensures))
     (production productions.Relational refl refl refl refl (next c.in_ok-first.ensures
     (next (production productions.Compared refl refl refl refl (next c.in_ok-take_token.ensures (next c.in_ok-right.ensures done))) done)))
 
@@ -103,7 +103,7 @@ factor-returns t c =
     let right = c.in_ok-right.ensures in
     let operator = c.operator_at-operator.result in
     as_value (ap (λ o. formula (Pair o (as_formula first.value) (as_formula right.value))) (sym c.operator_at-operator.ensures)
-    ∙ ap (λ f. formula (Pair operator f (as_formula right.value))) first.is ∙ ap (λ g. formula (Pair operator (formula_of c.in_ok-first.first) g)) right.is ∙ ap formula (sym c.in_ok-pair.ensures))
+    ∙ ap (λ f. formula (Pair operator f (as_formula right.value))) first.is ∙ ap (λ g. formula (Pair operator (formula_of c.in_ok-first.first) g)) right.is ∙ ap formula (sym c.in_ok-paired.ensures))
     (production productions.Factor refl refl refl refl (next first.reads
     (next (production productions.Raised refl refl refl refl (next c.in_ok-take_token.ensures (next right.reads done))) done)))
 
