@@ -31,21 +31,19 @@ pub fn program_of(alloc: Global, tokens: List<Token>) -> Result<Made, Refusal>
     parsed_has_room();
     parsed_has_few_units();
     serving_units_pass_no_limit();
-    made_of(alloc, &program)
+    made_of(alloc, program)
 }
 
 /// The units of a tree, or its first fault.
-fn made_of(alloc: Global, program: &RatProgram) -> Result<Made, Refusal>
-    requires room { AllHaveRoom (tree_of program.now).routines }
-    requires few { length (tree_of program.now).routines ≤ 500 }
-    requires passes { PassWhereServed (tree_of program.now) }
-    ensures { Finds (IsJudged (tree_of program.now)) result }
+fn made_of(alloc: Global, program: RatProgram) -> Result<Made, Refusal>
+    requires room { AllHaveRoom (tree_of program).routines }
+    requires few { length (tree_of program).routines ≤ 500 }
+    requires passes { PassWhereServed (tree_of program) }
+    ensures { Finds (IsJudged (tree_of program)) result }
 {
-    check_program(alloc, program)?;
+    check_program(alloc, &program)?;
     units_serve();
+    let finish = program.finish;
     let units = lower_accepted(alloc, program)?;
-    Ok(Made {
-        units,
-        finish: program.finish,
-    })
+    Ok(Made { units, finish })
 }

@@ -14,10 +14,10 @@ use rat_tree::RatProgram;
 use std::alloc::Global;
 
 /// The units of FORTRAN that do what those of a program do, each in its place, or the program's first fault.
-pub fn lowered(alloc: Global, program: &RatProgram) -> Result<List<Unit>, Refusal>
-    requires room { AllHaveRoom (program_of program.now).routines }
-    ensures fault { Tells result (first_fault (program_of program.now)) }
-    ensures serves { IfOk result (λ made. AllServe (program_of program.now).routines program.now.finish made.items) }
+pub fn lowered(alloc: Global, program: RatProgram) -> Result<List<Unit>, Refusal>
+    requires room { AllHaveRoom (program_of program).routines }
+    ensures fault { Tells result (first_fault (program_of program)) }
+    ensures serves { IfOk result (λ made. AllServe (program_of program).routines program.finish made.items) }
 {
     lower(alloc, program)
 }

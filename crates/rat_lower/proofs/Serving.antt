@@ -1,6 +1,5 @@
 -- One unit more: its room, the faults of those that are left, and what serves for those so far.
-use Rattle.std.proofs.Common.{◌≡◌, ◌+◌, ◌<◌, ℕ, zero, suc, arith, add-one, List, [], ◌∷◌, ◌++◌, length, get_or, take, drop, map, Option, Some, None, refl, sym, ap, ◌∙◌, subst}
-use Rattle.std.proofs.lemmas.List.{get_or-map, length-map}
+use Rattle.std.proofs.Common.{◌≡◌, ◌+◌, ◌<◌, ℕ, zero, suc, arith, add-one, List, [], ◌∷◌, ◌++◌, append_assoc, append-nil, length, get_or, drop, map, Option, Some, None, refl, sym, ap, ◌∙◌, subst}
 use Rattle.std.specs.Prelude.{Err}
 use Rattle.ground.specs.declared.place.Place.{Place}
 use Rattle.ground.specs.declared.fault.Fault.{Fault}
@@ -12,10 +11,6 @@ use Rattle.rat_tree.specs.Views.{rat_routine_of}
 use Rattle.rat_check.specs.FirstFault.{or_else, unit_fault, first_fault_of, Tells}
 use Rattle.rat_lower.specs.Lowered.{HasRoom, AllHaveRoom}
 use Rattle.rat_lower.specs.Served.{Serves, AllServe}
-
-pub room_at : (us : List RatUnit) (i : ℕ) (u : RatUnit) → i < length us → u ≡ get_or us i u → AllHaveRoom (map rat_routine_of us) → HasRoom (rat_routine_of u)
-room_at us i u within here room =
-    subst HasRoom (get_or-map rat_routine_of us i u (rat_routine_of u) within ∙ ap rat_routine_of (sym here)) (room i (rat_routine_of u) (omega (arith, length-map us rat_routine_of)))
 
 fault_behind : (us : List RatUnit) (i : ℕ) (u : RatUnit) → i < length us → u ≡ get_or us i u → unit_fault (rat_routine_of u) ≡ None → first_fault_of (map rat_routine_of (drop i us)) ≡ first_fault_of (map rat_routine_of (drop (suc i) us))
 fault_behind [] i u within here none = absurd (omega arith)
@@ -40,6 +35,7 @@ pub told_as : (A B : Type 0) (r : Refusal) (o : Option Fault) → Tells {A = A} 
 told_as A B (Faulty f) o told = told
 told_as A B Memory o told = tt
 
+-- where neither is a fault, the first is none, and the second
 first_none : (o p : Option Fault) → or_else o p ≡ None → o ≡ None
 first_none None p none = refl
 first_none (Some f) p none = cc
@@ -48,20 +44,44 @@ other_none : (o p : Option Fault) → or_else o p ≡ None → p ≡ None
 other_none None p none = none
 other_none (Some f) p none = cc
 
--- where no unit has a fault, each has none
-pub none_told : (us : List RatUnit) (i : ℕ) (u : RatUnit) → i < length us → u ≡ get_or us i u → first_fault_of (map rat_routine_of us) ≡ None → unit_fault (rat_routine_of u) ≡ None
-none_told [] i u within here none = absurd (omega arith)
-none_told (v ∷ us) zero u within here none = subst (λ (w : RatUnit). unit_fault (rat_routine_of w) ≡ None) (sym here) (first_none _ _ none)
-none_told (v ∷ us) (suc i) u within here none = none_told us i u (omega arith) here (other_none _ _ none)
+-- ---- units one after another ----
 
-serves_behind : (us : List RatUnit) (finish : Place) (made : List AUnit) (i : ℕ) (u : RatUnit) (unit : AUnit) → i < length us → u ≡ get_or us i u → AllServe (map rat_routine_of (take i us)) finish made → Serves (rat_routine_of u) finish unit
-    → AllServe (map rat_routine_of (take (suc i) us)) finish (made ++ unit ∷ [])
-serves_behind [] finish made i u unit within here so_far serves = absurd (omega arith)
-serves_behind (v ∷ us) finish [] zero u unit within here so_far serves = (subst (λ (w : RatUnit). Serves (rat_routine_of w) finish unit) here serves, tt)
-serves_behind (v ∷ us) finish (m ∷ made) zero u unit within here so_far serves = absurd so_far
-serves_behind (v ∷ us) finish [] (suc i) u unit within here so_far serves = absurd so_far
-serves_behind (v ∷ us) finish (m ∷ made) (suc i) u unit within here so_far serves = (so_far.0, serves_behind us finish made i u unit (omega arith) here so_far.1 serves)
+-- some units are done and served, and some are left
+pub record UnitsSoFar (all left : List RatUnit) (finish : Place) (made : List AUnit) : Type 0 where
+  pub done : List RatUnit
+  pub is : all ≡ done ++ left
+  pub served : AllServe (map rat_routine_of done) finish made
 
-pub serves_after : (us : List RatUnit) (finish : Place) (made : List AUnit) (i : ℕ) (u : RatUnit) (unit : AUnit) → i < length us → u ≡ get_or us i u → AllServe (map rat_routine_of (take i us)) finish made → Serves (rat_routine_of u) finish unit
-    → AllServe (map rat_routine_of (take (i + 1) us)) finish (made ++ unit ∷ [])
-serves_after us finish made i u unit within here so_far serves = subst (λ (n : ℕ). AllServe (map rat_routine_of (take n us)) finish (made ++ unit ∷ [])) (sym (add-one i)) (serves_behind us finish made i u unit within here so_far serves)
+pub units_begin : (all left : List RatUnit) (finish : Place) → left ≡ all → UnitsSoFar all left finish []
+units_begin all left finish same = record { done = []; is = sym same; served = tt }
+
+unit_at : (done : List RatUnit) (u : RatUnit) (left : List RatUnit) → AllHaveRoom (map rat_routine_of (done ++ u ∷ left)) → HasRoom (rat_routine_of u)
+unit_at [] u left room = room 0 (rat_routine_of u) (omega arith)
+unit_at (v ∷ done) u left room = unit_at done u left (λ i d lt. room (suc i) d (omega (arith, lt)))
+
+pub next_room : (all : List RatUnit) (u : RatUnit) (left : List RatUnit) (finish : Place) (made : List AUnit) → UnitsSoFar all (u ∷ left) finish made → AllHaveRoom (map rat_routine_of all) → HasRoom (rat_routine_of u)
+next_room all u left finish made h room = unit_at h.done u left (subst (λ (us : List RatUnit). AllHaveRoom (map rat_routine_of us)) h.is room)
+
+accepted_at : (done : List RatUnit) (u : RatUnit) (left : List RatUnit) → first_fault_of (map rat_routine_of (done ++ u ∷ left)) ≡ None → unit_fault (rat_routine_of u) ≡ None
+accepted_at [] u left none = first_none _ _ none
+accepted_at (v ∷ done) u left none = accepted_at done u left (other_none _ _ none)
+
+pub next_accepted : (all : List RatUnit) (u : RatUnit) (left : List RatUnit) (finish : Place) (made : List AUnit) → UnitsSoFar all (u ∷ left) finish made → first_fault_of (map rat_routine_of all) ≡ None → unit_fault (rat_routine_of u) ≡ None
+next_accepted all u left finish made h none = accepted_at h.done u left (subst (λ (us : List RatUnit). first_fault_of (map rat_routine_of us) ≡ None) h.is none)
+
+serves_more : (done : List RatUnit) (finish : Place) (made : List AUnit) (u : RatUnit) (unit : AUnit) → AllServe (map rat_routine_of done) finish made → Serves (rat_routine_of u) finish unit → AllServe (map rat_routine_of (done ++ u ∷ [])) finish (made ++ unit ∷ [])
+serves_more [] finish [] u unit so_far serves = (serves, tt)
+serves_more [] finish (m ∷ made) u unit so_far serves = absurd so_far
+serves_more (v ∷ done) finish [] u unit so_far serves = absurd so_far
+serves_more (v ∷ done) finish (m ∷ made) u unit so_far serves = (so_far.0, serves_more done finish made u unit so_far.1 serves)
+
+pub units_more : (all : List RatUnit) (u : RatUnit) (left : List RatUnit) (finish : Place) (made : List AUnit) (unit : AUnit) (more : List AUnit) → UnitsSoFar all (u ∷ left) finish made → Serves (rat_routine_of u) finish unit → more ≡ made ++ unit ∷ [] → UnitsSoFar all left finish more
+units_more all u left finish made unit more h serves pushed = record {
+  done = h.done ++ u ∷ [];
+  is = h.is ∙ sym (append_assoc h.done (u ∷ []) left);
+  served = subst (λ (made : List AUnit). AllServe (map rat_routine_of (h.done ++ u ∷ [])) finish made) (sym pushed) (serves_more h.done finish made u unit h.served serves);
+}
+
+pub units_over : (all left : List RatUnit) (finish : Place) (made : List AUnit) → UnitsSoFar all left finish made → left ≡ [] → AllServe (map rat_routine_of all) finish made
+units_over all left finish made h none =
+    subst (λ (us : List RatUnit). AllServe (map rat_routine_of us) finish made) (sym (h.is ∙ ap (λ l. h.done ++ l) none ∙ append-nil h.done)) h.served

@@ -3,21 +3,11 @@ ghost use Rattle.std.specs.Prelude.{◌≡◌};
 ghost use Rattle.rat_lower.specs.Around.{rings_of};
 ghost use Rattle.rat_lower.specs.Code.{label_behind, label_again};
 
-use f66_tree::{Expr, StmtKind};
-
 /// The loops around a statement, from the inside out: the label behind each, and the label of its next turn.
 #[derive(Clone, Copy, Drop)]
 pub enum Around<'a> {
     Outside,
     Loop(u32, u32, &'a Around<'a>),
-}
-
-/// What is tested before each turn of a loop, and what is done behind it.
-#[derive(Clone, Copy, Drop)]
-pub enum Turn<'a> {
-    Always,
-    While(&'a Expr),
-    For(&'a Option<Expr>, &'a Option<StmtKind>),
 }
 
 /// The label behind the loop at this depth from the inside, and 0 where there is none.

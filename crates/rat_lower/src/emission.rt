@@ -1,62 +1,90 @@
-// The statements of FORTRAN that a statement of Ratfor becomes.
+// The statements of FORTRAN that a statement of Ratfor becomes. Each statement is taken, and its parts are handed on.
 ghost use Rattle.std.specs.Prelude.{◌≡◌, ◌+◌, ◌≤◌, List, length, None, IfOk, OnOk, Bool, true, false};
-ghost use Rattle.f66_tree.specs.Views.{formula_of, lines_of};
-ghost use Rattle.rat_tree.specs.Syntax.{Switch, For, RepeatUntil, If, IfElse};
-ghost use Rattle.rat_tree.specs.Views.{command, commands, clauses};
-ghost use Rattle.rat_lower.specs.Around.{rings_of, step_of, test_of};
+ghost use Rattle.f66_tree.specs.Views.{formula_of, lines_of, par_of};
+ghost use Rattle.rat_tree.specs.Syntax.{Do, Switch, For, RepeatUntil, If, IfElse};
+ghost use Rattle.rat_tree.specs.Views.{act_if_any, command, commands, clauses, formula_if_any};
+ghost use Rattle.rat_lower.specs.Around.{rings_of};
 ghost use Rattle.rat_lower.specs.Code.{all_labels, clause_labels, default_label, labels};
 ghost use Rattle.rat_lower.specs.Emitted.{AllEmitted, ClausesEmitted, Emitted, first_default, labels_past};
 
 use crate::{
-    Around, Maker, Turn, append, put_act, put_break, put_cases, put_copy, put_do, put_here,
-    put_jump, put_mark, put_next, put_return, put_step, put_test, put_unless, put_value,
+    Around, Maker, append, put, put_act, put_back, put_break, put_cases, put_do, put_head,
+    put_here, put_jump, put_mark, put_next, put_otherwise, put_return, put_turn, put_unless,
+    put_value,
 };
-use f66_tree::{Expr, Stmt};
+use f66_tree::{Counting, Expr, Stmt, StmtKind};
 use ground::{List, Memory, Place};
-use rat_tree::{RatCase, RatKind, RatStmt};
+use rat_tree::{ForHead, RatCase, RatKind, RatStmt};
 
 #[cycle(emit)]
 fn emit(
     maker: &mut Maker,
     code: &mut List<Stmt>,
-    statement: &RatStmt,
+    statement: RatStmt,
     around: &Around,
 ) -> Result<(), Memory>
-    requires { maker.old.made + length maker.old.taken + labels (command statement.now) ≤ 77000 }
-    ensures { OnOk result (Emitted (command statement.now) (rings_of around.now) maker.old maker.new (lines_of code.old.items) (lines_of code.new.items)) }
+    requires { maker.old.made + length maker.old.taken + labels (command statement) ≤ 77000 }
+    ensures { OnOk result (Emitted (command statement) (rings_of around.now) maker.old maker.new (lines_of code.old.items) (lines_of code.new.items)) }
 {
-    put_mark(code, statement)?;
-    let place = statement.place;
-    match &statement.kind {
+    put_mark(code, &statement)?;
+    let RatStmt { label, place, kind } = statement;
+    match kind {
         RatKind::Empty => Ok(()),
         RatKind::Block(list) => emit_all(maker, code, list, around),
-        RatKind::If(e, body, None) => emit_if(maker, code, place, e, body, around),
-        RatKind::If(e, body, Some(other)) => {
-            emit_either(maker, code, place, e, body, other, around)
+        RatKind::If(e, body, other) => {
+            let body = Box::into_inner(body);
+            match other {
+                None => emit_if(maker, code, place, e, body, around),
+                Some(other) => {
+                    emit_either(maker, code, place, e, body, Box::into_inner(other), around)
+                }
+            }
         }
-        RatKind::While(e, body) => emit_loop(maker, code, place, Turn::While(e), body, around),
+        RatKind::While(e, body) => {
+            emit_loop(
+                maker,
+                code,
+                place,
+                Some(e),
+                None,
+                Box::into_inner(body),
+                around,
+            )
+        }
         RatKind::For(head, body) => {
-            put_act(maker.alloc(), code, place, &head.first)?;
-            let turn = Turn::For(&head.test, &head.step);
-            emit_loop(maker, code, place, turn, body, around)
+            let ForHead { first, test, step } = Box::into_inner(head);
+            put_act(code, place, first)?;
+            emit_loop(
+                maker,
+                code,
+                place,
+                test,
+                step,
+                Box::into_inner(body),
+                around,
+            )
         }
-        RatKind::Repeat(body, None) => emit_loop(maker, code, place, Turn::Always, body, around),
-        RatKind::Repeat(body, Some((e, at))) => {
-            emit_until(maker, code, place, body, e, *at, around)
+        RatKind::Repeat(body, until) => {
+            let body = Box::into_inner(body);
+            match until {
+                None => emit_loop(maker, code, place, None, None, body, around),
+                Some((e, at)) => emit_until(maker, code, place, body, e, at, around),
+            }
         }
-        RatKind::Do(name, first, last, step, body) => {
-            let end = maker.fresh_label()?;
-            let behind = maker.fresh_label()?;
-            put_do(code, place, end, name, (first, last, step))?;
-            emit(maker, code, body, &Around::Loop(behind, end, &*around))?;
-            put_here(code, place, end)?;
-            Ok(put_here(code, place, behind)?)
+        RatKind::Do(variable, first, last, step, body) => {
+            let counting = Counting {
+                variable,
+                first,
+                last,
+                step,
+            };
+            emit_do(maker, code, place, counting, Box::into_inner(body), around)
         }
         RatKind::Switch(e, list) => emit_switch(maker, code, place, e, list, around),
-        RatKind::Break(count) => Ok(put_break(code, place, *count, around)?),
-        RatKind::Next(count) => Ok(put_next(code, place, *count, around)?),
+        RatKind::Break(count) => Ok(put_break(code, place, count, around)?),
+        RatKind::Next(count) => Ok(put_next(code, place, count, around)?),
         RatKind::Return(value) => Ok(put_return(maker, code, place, value)?),
-        RatKind::Plain(kind) => Ok(put_copy(maker.alloc(), code, statement.label, place, kind)?),
+        RatKind::Plain(kind) => Ok(put(code, label, place, kind)?),
     }
 }
 
@@ -65,11 +93,11 @@ fn emit(
 pub fn emit_all(
     maker: &mut Maker,
     code: &mut List<Stmt>,
-    list: &[RatStmt],
+    list: List<RatStmt>,
     around: &Around,
 ) -> Result<(), Memory>
-    requires { maker.old.made + length maker.old.taken + all_labels (commands list.now) ≤ 77000 }
-    ensures { OnOk result (AllEmitted (commands list.now) (rings_of around.now) maker.old maker.new (lines_of code.old.items) (lines_of code.new.items)) }
+    requires { maker.old.made + length maker.old.taken + all_labels (commands list.items) ≤ 77000 }
+    ensures { OnOk result (AllEmitted (commands list.items) (rings_of around.now) maker.old maker.new (lines_of code.old.items) (lines_of code.new.items)) }
 {
     for statement in list {
         emit(maker, code, statement, around)?;
@@ -82,12 +110,12 @@ fn emit_if(
     maker: &mut Maker,
     code: &mut List<Stmt>,
     place: Place,
-    e: &Expr,
-    body: &RatStmt,
+    e: Expr,
+    body: RatStmt,
     around: &Around,
 ) -> Result<(), Memory>
-    requires { maker.old.made + length maker.old.taken + (labels (command body.now) + 1) ≤ 77000 }
-    ensures { OnOk result (Emitted (If place (formula_of e.now) (command body.now)) (rings_of around.now) maker.old maker.new (lines_of code.old.items) (lines_of code.new.items)) }
+    requires { maker.old.made + length maker.old.taken + (labels (command body) + 1) ≤ 77000 }
+    ensures { OnOk result (Emitted (If place (formula_of e) (command body)) (rings_of around.now) maker.old maker.new (lines_of code.old.items) (lines_of code.new.items)) }
 {
     let behind = maker.fresh_label()?;
     put_unless(maker.alloc(), code, place, e, behind)?;
@@ -101,48 +129,42 @@ fn emit_either(
     maker: &mut Maker,
     code: &mut List<Stmt>,
     place: Place,
-    e: &Expr,
-    body: &RatStmt,
-    other: &RatStmt,
+    e: Expr,
+    body: RatStmt,
+    other: RatStmt,
     around: &Around,
 ) -> Result<(), Memory>
-    requires { maker.old.made + length maker.old.taken + (labels (command body.now) + labels (command other.now) + 2) ≤ 77000 }
-    ensures { OnOk result (Emitted (IfElse place (formula_of e.now) (command body.now) (command other.now)) (rings_of around.now) maker.old maker.new (lines_of code.old.items) (lines_of code.new.items)) }
+    requires { maker.old.made + length maker.old.taken + (labels (command body) + labels (command other) + 2) ≤ 77000 }
+    ensures { OnOk result (Emitted (IfElse place (formula_of e) (command body) (command other)) (rings_of around.now) maker.old maker.new (lines_of code.old.items) (lines_of code.new.items)) }
 {
-    let otherwise = maker.fresh_label()?;
-    let behind = maker.fresh_label()?;
+    let (otherwise, behind) = maker.two_labels()?;
     put_unless(maker.alloc(), code, place, e, otherwise)?;
     emit(maker, code, body, around)?;
-    put_jump(code, place, behind)?;
-    put_here(code, place, otherwise)?;
+    put_otherwise(code, place, behind, otherwise)?;
     emit(maker, code, other, around)?;
     put_here(code, place, behind)?;
     Ok(())
 }
 
-// A loop with its test before each turn.
+// A loop with what is tested before each turn and what is done behind it, where there is something.
 #[cycle(emit)]
 fn emit_loop(
     maker: &mut Maker,
     code: &mut List<Stmt>,
     place: Place,
-    turn: Turn,
-    body: &RatStmt,
+    test: Option<Expr>,
+    step: Option<StmtKind>,
+    body: RatStmt,
     around: &Around,
 ) -> Result<(), Memory>
-    requires { maker.old.made + length maker.old.taken + (labels (command body.now) + 3) ≤ 77000 }
-    ensures { OnOk result (Emitted (For place None (test_of turn.entry) (step_of turn.entry) (command body.now)) (rings_of around.now) maker.old maker.new (lines_of code.old.items) (lines_of code.new.items)) }
+    requires { maker.old.made + length maker.old.taken + (labels (command body) + 3) ≤ 77000 }
+    ensures { OnOk result (Emitted (For place None (formula_if_any test) (act_if_any step) (command body)) (rings_of around.now) maker.old maker.new (lines_of code.old.items) (lines_of code.new.items)) }
 {
-    let head = maker.fresh_label()?;
-    let again = maker.fresh_label()?;
-    let behind = maker.fresh_label()?;
-    put_here(code, place, head)?;
-    put_test(maker.alloc(), code, place, turn, behind)?;
+    let (head, again, behind) = maker.three_labels()?;
+    put_head(maker.alloc(), code, place, head, test, behind)?;
     emit(maker, code, body, &Around::Loop(behind, again, &*around))?;
-    put_here(code, place, again)?;
-    put_step(maker.alloc(), code, place, turn)?;
-    put_jump(code, place, head)?;
-    put_here(code, place, behind)?;
+    put_turn(code, place, again, step)?;
+    put_back(code, place, head, behind)?;
     Ok(())
 }
 
@@ -151,22 +173,39 @@ fn emit_until(
     maker: &mut Maker,
     code: &mut List<Stmt>,
     place: Place,
-    body: &RatStmt,
-    e: &Expr,
+    body: RatStmt,
+    e: Expr,
     at: Place,
     around: &Around,
 ) -> Result<(), Memory>
-    requires { maker.old.made + length maker.old.taken + (labels (command body.now) + 3) ≤ 77000 }
-    ensures { OnOk result (Emitted (RepeatUntil place (command body.now) (formula_of e.now) at) (rings_of around.now) maker.old maker.new (lines_of code.old.items) (lines_of code.new.items)) }
+    requires { maker.old.made + length maker.old.taken + (labels (command body) + 3) ≤ 77000 }
+    ensures { OnOk result (Emitted (RepeatUntil place (command body) (formula_of e) at) (rings_of around.now) maker.old maker.new (lines_of code.old.items) (lines_of code.new.items)) }
 {
-    let head = maker.fresh_label()?;
-    let again = maker.fresh_label()?;
-    let behind = maker.fresh_label()?;
+    let (head, again, behind) = maker.three_labels()?;
     put_here(code, place, head)?;
-    let inside = Around::Loop(behind, again, &*around);
-    emit(maker, code, body, &inside)?;
+    emit(maker, code, body, &Around::Loop(behind, again, &*around))?;
     put_here(code, place, again)?;
     put_unless(maker.alloc(), code, at, e, head)?;
+    put_here(code, place, behind)?;
+    Ok(())
+}
+
+#[cycle(emit)]
+fn emit_do(
+    maker: &mut Maker,
+    code: &mut List<Stmt>,
+    place: Place,
+    counting: Counting,
+    body: RatStmt,
+    around: &Around,
+) -> Result<(), Memory>
+    requires { maker.old.made + length maker.old.taken + (labels (command body) + 2) ≤ 77000 }
+    ensures { OnOk result (Emitted (Do place counting.variable (par_of counting.first) (par_of counting.last) (par_of counting.step) (command body)) (rings_of around.now) maker.old maker.new (lines_of code.old.items) (lines_of code.new.items)) }
+{
+    let (end, behind) = maker.two_labels()?;
+    put_do(maker.alloc(), code, place, end, counting)?;
+    emit(maker, code, body, &Around::Loop(behind, end, &*around))?;
+    put_here(code, place, end)?;
     put_here(code, place, behind)?;
     Ok(())
 }
@@ -177,16 +216,16 @@ fn emit_switch(
     maker: &mut Maker,
     code: &mut List<Stmt>,
     place: Place,
-    e: &Expr,
-    list: &[RatCase],
+    e: Expr,
+    list: List<RatCase>,
     around: &Around,
 ) -> Result<(), Memory>
-    requires { maker.old.made + length maker.old.taken + (clause_labels (clauses list.now) + 1) ≤ 77000 }
-    ensures { OnOk result (Emitted (Switch place (formula_of e.now) (clauses list.now)) (rings_of around.now) maker.old maker.new (lines_of code.old.items) (lines_of code.new.items)) }
+    requires { maker.old.made + length maker.old.taken + (clause_labels (clauses list.items) + 1) ≤ 77000 }
+    ensures { OnOk result (Emitted (Switch place (formula_of e) (clauses list.items)) (rings_of around.now) maker.old maker.new (lines_of code.old.items) (lines_of code.new.items)) }
 {
     let behind = maker.fresh_label()?;
     let spare = maker.spare()?;
-    put_value(maker.alloc(), code, place, spare, e)?;
+    put_value(code, place, spare, e)?;
     let mut bodies = Vec::new(maker.alloc());
     let default = emit_clauses(maker, code, &mut bodies, list, behind, around)?;
     put_jump(code, place, default)?;
@@ -201,22 +240,28 @@ fn emit_clauses(
     maker: &mut Maker,
     code: &mut List<Stmt>,
     bodies: &mut List<Stmt>,
-    list: &[RatCase],
+    list: List<RatCase>,
     behind: u32,
     around: &Around,
 ) -> Result<u32, Memory>
-    requires { maker.old.made + length maker.old.taken + clause_labels (clauses list.now) ≤ 77000 }
-    ensures emitted { OnOk result (ClausesEmitted (clauses list.now) behind (rings_of around.now) maker.old maker.new (lines_of code.old.items) (lines_of code.new.items) (lines_of bodies.old.items) (lines_of bodies.new.items)) }
-    ensures default { IfOk result (λ label. label ≡ default_label (labels_past maker.old.taken) maker.old.spare maker.old.own (clauses list.now) maker.old.made behind) }
+    requires { maker.old.made + length maker.old.taken + clause_labels (clauses list.items) ≤ 77000 }
+    ensures emitted { OnOk result (ClausesEmitted (clauses list.items) behind (rings_of around.now) maker.old maker.new (lines_of code.old.items) (lines_of code.new.items) (lines_of bodies.old.items) (lines_of bodies.new.items)) }
+    ensures default { IfOk result (λ label. label ≡ default_label (labels_past maker.old.taken) maker.old.spare maker.old.own (clauses list.items) maker.old.made behind) }
 {
     let mut default = None;
     for clause in list {
         let label = maker.fresh_label()?;
-        put_cases(maker, code, clause.place, &clause.tests, label)?;
-        put_here(bodies, clause.place, label)?;
-        emit_all(maker, bodies, &clause.body, around)?;
-        put_jump(bodies, clause.place, behind)?;
-        default = first_default(default, clause.fallback, label);
+        let RatCase {
+            tests,
+            fallback,
+            body,
+            place,
+        } = clause;
+        put_cases(maker, code, place, tests, label)?;
+        put_here(bodies, place, label)?;
+        emit_all(maker, bodies, body, around)?;
+        put_jump(bodies, place, behind)?;
+        default = first_default(default, fallback, label);
     }
     Ok(default.unwrap_or(behind))
 }

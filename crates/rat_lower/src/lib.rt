@@ -3,7 +3,6 @@
 
 mod around;
 mod emission;
-mod header;
 mod lines;
 mod maker;
 mod names;
@@ -12,12 +11,11 @@ mod routine;
 mod switches;
 mod unit;
 
-use around::{Around, Turn, label_again, label_behind};
+use around::{Around, label_again, label_behind};
 use emission::emit_all;
-use header::copy_header;
 use lines::{
-    append, put, put_act, put_break, put_cases, put_copy, put_do, put_here, put_jump, put_mark,
-    put_next, put_return, put_step, put_test, put_unless, put_value,
+    append, put, put_act, put_back, put_break, put_cases, put_do, put_head, put_here, put_jump,
+    put_mark, put_next, put_otherwise, put_return, put_turn, put_unless, put_value,
 };
 use maker::Maker;
 use names::names_for;

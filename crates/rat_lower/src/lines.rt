@@ -4,14 +4,12 @@ ghost use Rattle.f66_tree.specs.Syntax.{unlabelled_line, Assign, When, Goto, Gro
 ghost use Rattle.f66_tree.specs.Views.{formula_of, formulas_of, par_of, act_of, lines_of};
 ghost use Rattle.rat_tree.specs.Views.{act_if_any, formula_if_any};
 ghost use Rattle.rat_tree.specs.Meaning.{pred_of};
-ghost use Rattle.rat_lower.specs.Around.{rings_of, test_of, step_of, behind_mark};
+ghost use Rattle.rat_lower.specs.Around.{rings_of, behind_mark};
 ghost use Rattle.rat_lower.specs.Code.{jump, label_again, label_behind, unless, here, with_test, with_act, with_return, case_test, each_test};
 ghost use Rattle.rat_lower.specs.Emitted.{Adds};
 
-use crate::{Around, Maker, Turn, label_again, label_behind};
-use f66_tree::{
-    Counting, Expr, Name, Operator, Par, Stmt, StmtKind, copy_expr, copy_kind, copy_par, paired,
-};
+use crate::{Around, Maker, label_again, label_behind};
+use f66_tree::{Counting, Expr, Name, Operator, Stmt, StmtKind, paired};
 use ground::{List, Place};
 use rat_tree::{RatKind, RatStmt};
 use std::alloc::{AllocError, Global};
@@ -83,10 +81,10 @@ fn put_choice(
 }
 
 // The expression in parentheses.
-fn grouped(alloc: Global, e: &Expr) -> Result<Box<Expr>, AllocError>
-    ensures { IfOk result (λ group. formula_of group.value ≡ Group (formula_of e.now)) }
+fn grouped(alloc: Global, e: Expr) -> Result<Box<Expr>, AllocError>
+    ensures { IfOk result (λ group. formula_of group.value ≡ Group (formula_of e)) }
 {
-    let e = Box::new(alloc, copy_expr(alloc, e)?)?;
+    let e = Box::new(alloc, e)?;
     Ok(Box::new(alloc, Expr::Group(e))?)
 }
 
@@ -95,58 +93,96 @@ pub fn put_unless(
     alloc: Global,
     code: &mut List<Stmt>,
     place: Place,
-    e: &Expr,
+    e: Expr,
     label: u32,
 ) -> Result<(), AllocError>
-    ensures { OnOk result (Adds (lines_of code.old.items) (lines_of code.new.items) (λ rest. unless place (formula_of e.now) label ∷ rest)) }
+    ensures { OnOk result (Adds (lines_of code.old.items) (lines_of code.new.items) (λ rest. unless place (formula_of e) label ∷ rest)) }
 {
     let test = Expr::Not(grouped(alloc, e)?);
     put_choice(alloc, code, place, test, label)
 }
 
-/// Leaves a loop where its test fails.
-pub fn put_test(
+// Leaves a loop where its test fails.
+fn put_test(
     alloc: Global,
     code: &mut List<Stmt>,
     place: Place,
-    turn: Turn,
+    test: Option<Expr>,
     label: u32,
 ) -> Result<(), AllocError>
-    ensures { OnOk result (Adds (lines_of code.old.items) (lines_of code.new.items) (with_test place (test_of turn.entry) label)) }
+    ensures { OnOk result (Adds (lines_of code.old.items) (lines_of code.new.items) (with_test place (formula_if_any test) label)) }
 {
-    match turn {
-        Turn::Always | Turn::For(None, _) => Ok(()),
-        Turn::While(e) | Turn::For(Some(e), _) => put_unless(alloc, code, place, e, label),
+    match test {
+        None => Ok(()),
+        Some(e) => put_unless(alloc, code, place, e, label),
     }
+}
+
+/// What stands before the body of a loop: its label, and its test where it has one, which leaves it.
+pub fn put_head(
+    alloc: Global,
+    code: &mut List<Stmt>,
+    place: Place,
+    head: u32,
+    test: Option<Expr>,
+    behind: u32,
+) -> Result<(), AllocError>
+    ensures { OnOk result (Adds (lines_of code.old.items) (lines_of code.new.items) (λ rest. here head place ∷ with_test place (formula_if_any test) behind rest)) }
+{
+    put_here(code, place, head)?;
+    put_test(alloc, code, place, test, behind)
+}
+
+/// What a loop does behind each turn: the label, and the step where it has one.
+pub fn put_turn(
+    code: &mut List<Stmt>,
+    place: Place,
+    again: u32,
+    step: Option<StmtKind>,
+) -> Result<(), AllocError>
+    ensures { OnOk result (Adds (lines_of code.old.items) (lines_of code.new.items) (λ rest. here again place ∷ with_act place (act_if_any step) rest)) }
+{
+    put_here(code, place, again)?;
+    put_act(code, place, step)
+}
+
+/// The end of a loop: back to its head, and the label behind it.
+pub fn put_back(
+    code: &mut List<Stmt>,
+    place: Place,
+    head: u32,
+    behind: u32,
+) -> Result<(), AllocError>
+    ensures { OnOk result (Adds (lines_of code.old.items) (lines_of code.new.items) (λ rest. jump place head ∷ here behind place ∷ rest)) }
+{
+    put_jump(code, place, head)?;
+    put_here(code, place, behind)
+}
+
+/// Between the two statements of an if: the first is left, and the second begins.
+pub fn put_otherwise(
+    code: &mut List<Stmt>,
+    place: Place,
+    behind: u32,
+    otherwise: u32,
+) -> Result<(), AllocError>
+    ensures { OnOk result (Adds (lines_of code.old.items) (lines_of code.new.items) (λ rest. jump place behind ∷ here otherwise place ∷ rest)) }
+{
+    put_jump(code, place, behind)?;
+    put_here(code, place, otherwise)
 }
 
 /// A statement that is there or not.
 pub fn put_act(
-    alloc: Global,
     code: &mut List<Stmt>,
     place: Place,
-    kind: &Option<StmtKind>,
+    kind: Option<StmtKind>,
 ) -> Result<(), AllocError>
-    ensures { OnOk result (Adds (lines_of code.old.items) (lines_of code.new.items) (with_act place (act_if_any kind.now))) }
+    ensures { OnOk result (Adds (lines_of code.old.items) (lines_of code.new.items) (with_act place (act_if_any kind))) }
 {
     match kind {
         None => Ok(()),
-        Some(kind) => put(code, None, place, copy_kind(alloc, kind)?),
-    }
-}
-
-/// What a loop does behind each turn.
-pub fn put_step(
-    alloc: Global,
-    code: &mut List<Stmt>,
-    place: Place,
-    turn: Turn,
-) -> Result<(), AllocError>
-    ensures { OnOk result (Adds (lines_of code.old.items) (lines_of code.new.items) (with_act place (step_of turn.entry))) }
-{
-    match turn {
-        Turn::Always | Turn::While(_) => Ok(()),
-        Turn::For(_, step) => put_act(alloc, code, place, step),
+        Some(kind) => put(code, None, place, kind),
     }
 }
 
@@ -160,42 +196,18 @@ pub fn put_mark(code: &mut List<Stmt>, statement: &RatStmt) -> Result<(), AllocE
     }
 }
 
-/// A plain statement with its label.
-pub fn put_copy(
-    alloc: Global,
-    code: &mut List<Stmt>,
-    label: Option<u32>,
-    place: Place,
-    kind: &StmtKind,
-) -> Result<(), AllocError>
-    ensures { OnOk result (Adds (lines_of code.old.items) (lines_of code.new.items) (λ rest. record { label = label; place = place; act = act_of kind.now } ∷ rest)) }
-{
-    put(code, label, place, copy_kind(alloc, kind)?)
-}
-
-/// DO end name = first, last, step.
+/// DO end variable = first, last, step.
 pub fn put_do(
+    alloc: Global,
     code: &mut List<Stmt>,
     place: Place,
     end: u32,
-    name: &Name,
-    parameters: (&Par, &Par, &Par),
+    counting: Counting,
 ) -> Result<(), AllocError>
-    ensures { OnOk result (Adds (lines_of code.old.items) (lines_of code.new.items) (λ rest. unlabelled_line place (Loop end name.now (par_of parameters.entry.0.now) (par_of parameters.entry.1.now) (par_of parameters.entry.2.now)) ∷ rest)) }
+    ensures { OnOk result (Adds (lines_of code.old.items) (lines_of code.new.items) (λ rest. unlabelled_line place (Loop end counting.variable (par_of counting.first) (par_of counting.last) (par_of counting.step)) ∷ rest)) }
 {
-    let counting = Counting {
-        variable: name.copy()?,
-        first: copy_par(parameters.0)?,
-        last: copy_par(parameters.1)?,
-        step: copy_par(parameters.2)?,
-    };
-    let alloc = *code.allocator();
-    put(
-        code,
-        None,
-        place,
-        StmtKind::Loop(end, Box::new(alloc, counting)?),
-    )
+    let counting = Box::new(alloc, counting)?;
+    put(code, None, place, StmtKind::Loop(end, counting))
 }
 
 /// RETURN, behind the store of a function's value where there is one.
@@ -203,27 +215,20 @@ pub fn put_return(
     maker: &Maker,
     code: &mut List<Stmt>,
     place: Place,
-    value: &Option<Expr>,
+    value: Option<Expr>,
 ) -> Result<(), AllocError>
-    ensures { OnOk result (Adds (lines_of code.old.items) (lines_of code.new.items) (with_return maker.now.own place (formula_if_any value.now))) }
+    ensures { OnOk result (Adds (lines_of code.old.items) (lines_of code.new.items) (with_return maker.now.own place (formula_if_any value))) }
 {
     if let Some(e) = value {
-        put_value(maker.alloc(), code, place, maker.own()?, e)?;
+        put_value(code, place, maker.own()?, e)?;
     }
     put(code, None, place, StmtKind::Return)
 }
 
 /// A value is put into a name.
-pub fn put_value(
-    alloc: Global,
-    code: &mut List<Stmt>,
-    place: Place,
-    name: Name,
-    e: &Expr,
-) -> Result<(), AllocError>
-    ensures { OnOk result (Adds (lines_of code.old.items) (lines_of code.new.items) (λ rest. unlabelled_line place (Assign (Ref name) (formula_of e.now)) ∷ rest)) }
+pub fn put_value(code: &mut List<Stmt>, place: Place, name: Name, e: Expr) -> Result<(), AllocError>
+    ensures { OnOk result (Adds (lines_of code.old.items) (lines_of code.new.items) (λ rest. unlabelled_line place (Assign (Ref name) (formula_of e)) ∷ rest)) }
 {
-    let e = copy_expr(alloc, e)?;
     put(code, None, place, StmtKind::Assign(Expr::Ref(name), e))
 }
 
@@ -233,12 +238,12 @@ fn put_case(
     code: &mut List<Stmt>,
     place: Place,
     name: Name,
-    e: &Expr,
+    e: Expr,
     label: u32,
 ) -> Result<(), AllocError>
-    ensures { OnOk result (Adds (lines_of code.old.items) (lines_of code.new.items) (λ rest. unlabelled_line place (When (case_test name (formula_of e.now)) (Goto label)) ∷ rest)) }
+    ensures { OnOk result (Adds (lines_of code.old.items) (lines_of code.new.items) (λ rest. unlabelled_line place (When (case_test name (formula_of e)) (Goto label)) ∷ rest)) }
 {
-    let value = Expr::Group(Box::new(alloc, copy_expr(alloc, e)?)?);
+    let value = Expr::Group(Box::new(alloc, e)?);
     let test = paired(alloc, Operator::Eq, Expr::Ref(name), value)?;
     put_choice(alloc, code, place, test, label)
 }
@@ -248,10 +253,10 @@ pub fn put_cases(
     maker: &Maker,
     code: &mut List<Stmt>,
     place: Place,
-    cases: &[Expr],
+    cases: List<Expr>,
     label: u32,
 ) -> Result<(), AllocError>
-    ensures { OnOk result (Adds (lines_of code.old.items) (lines_of code.new.items) (each_test maker.now.spare place (formulas_of cases.now) label)) }
+    ensures { OnOk result (Adds (lines_of code.old.items) (lines_of code.new.items) (each_test maker.now.spare place (formulas_of cases.items) label)) }
 {
     for e in cases {
         let name = maker.spare()?;

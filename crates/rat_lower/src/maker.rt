@@ -91,6 +91,37 @@ impl Maker {
     {
         self.names.fresh_label()
     }
+
+    /// The next two labels.
+    pub fn two_labels(&mut self) -> Result<(u32, u32), Memory>
+        requires { self.old.made + length self.old.taken + 2 ≤ 77000 }
+        ensures first { IfOk result (λ labels. labels.0 ≡ labels_past self.old.taken self.old.made) }
+        ensures second { IfOk result (λ labels. labels.1 ≡ labels_past self.old.taken (self.old.made + 1)) }
+        ensures made { OnOk result (self.new.made ≡ self.old.made + 2) }
+        ensures taken { OnOk result (self.new.taken ≡ self.old.taken) }
+        ensures spare { OnOk result (self.new.spare ≡ self.old.spare) }
+        ensures own { OnOk result (self.new.own ≡ self.old.own) }
+    {
+        let first = self.fresh_label()?;
+        let second = self.fresh_label()?;
+        Ok((first, second))
+    }
+
+    /// The next three labels.
+    pub fn three_labels(&mut self) -> Result<(u32, u32, u32), Memory>
+        requires { self.old.made + length self.old.taken + 3 ≤ 77000 }
+        ensures first { IfOk result (λ labels. labels.0 ≡ labels_past self.old.taken self.old.made) }
+        ensures second { IfOk result (λ labels. labels.1 ≡ labels_past self.old.taken (self.old.made + 1)) }
+        ensures third { IfOk result (λ labels. labels.2 ≡ labels_past self.old.taken (self.old.made + 2)) }
+        ensures made { OnOk result (self.new.made ≡ self.old.made + 3) }
+        ensures taken { OnOk result (self.new.taken ≡ self.old.taken) }
+        ensures spare { OnOk result (self.new.spare ≡ self.old.spare) }
+        ensures own { OnOk result (self.new.own ≡ self.old.own) }
+    {
+        let (first, second) = self.two_labels()?;
+        let third = self.fresh_label()?;
+        Ok((first, second, third))
+    }
 }
 
 // The labels of the source are kept.

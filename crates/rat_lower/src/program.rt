@@ -14,10 +14,10 @@ use std::alloc::Global;
 
 /// The units of FORTRAN that do what those of a program do, each in its place, or the first fault of the checks. Each is sound
 /// (X3.9-1966, sections 3 to 9). A unit of at most 20,000 tokens has room for its labels and names.
-pub fn lower(alloc: Global, program: &RatProgram) -> Result<List<Unit>, Refusal>
-    requires room { AllHaveRoom (program_of program.now).routines }
-    ensures fault { Tells result (first_fault (program_of program.now)) }
-    ensures serves { IfOk result (λ made. AllServe (program_of program.now).routines program.now.finish made.items) }
+pub fn lower(alloc: Global, program: RatProgram) -> Result<List<Unit>, Refusal>
+    requires room { AllHaveRoom (program_of program).routines }
+    ensures fault { Tells result (first_fault (program_of program)) }
+    ensures serves { IfOk result (λ made. AllServe (program_of program).routines program.finish made.items) }
 {
     match check_units(alloc, &program.units) {
         Ok(()) => Ok(lower_accepted(alloc, program)?),
@@ -39,14 +39,15 @@ fn check_units(alloc: Global, units: &[RatUnit]) -> Result<(), Refusal>
 }
 
 /// The same of a program in which the checks find no fault, which are not made again.
-pub fn lower_accepted(alloc: Global, program: &RatProgram) -> Result<List<Unit>, Memory>
-    requires room { AllHaveRoom (program_of program.now).routines }
-    requires accepted { first_fault (program_of program.now) ≡ None }
-    ensures { IfOk result (λ made. AllServe (program_of program.now).routines program.now.finish made.items) }
+pub fn lower_accepted(alloc: Global, program: RatProgram) -> Result<List<Unit>, Memory>
+    requires room { AllHaveRoom (program_of program).routines }
+    requires accepted { first_fault (program_of program) ≡ None }
+    ensures { IfOk result (λ made. AllServe (program_of program).routines program.finish made.items) }
 {
-    let mut made = Vec::new(alloc);
-    for unit in &program.units {
-        let unit = lower_unit(alloc, unit, program.finish)?;
+    let RatProgram { units, finish } = program;
+    let mut made = Vec::with_capacity(alloc, units.len())?;
+    for unit in units {
+        let unit = lower_unit(alloc, unit, finish)?;
         let Ok(()) = made.push(unit) else {
             return Err(Memory);
         };

@@ -2,7 +2,7 @@
 ghost use Rattle.std.specs.Prelude.{◌≡◌, ◌+◌, ◌++◌, ◌≤◌, ◌<◌, [], length, true, false, IfOk, OnOk};
 ghost use Rattle.f66_tree.specs.Units.{is_main, is_note, name_of};
 ghost use Rattle.f66_tree.specs.Views.{act_of, header_of, lines_of};
-ghost use Rattle.rat_tree.specs.Views.{commands, rat_routine_of};
+ghost use Rattle.rat_tree.specs.Views.{commands};
 ghost use Rattle.rat_lower.specs.Code.{all_labels, declared_if, end_unless, ends_itself, ends_so, is_transfer};
 ghost use Rattle.name_alloc.specs.MadeNames.{next_name};
 ghost use Rattle.name_alloc.specs.Numbers.{starting};
@@ -13,40 +13,48 @@ use crate::{Around, Maker, emit_all, have_switch, put};
 use f66_tree::{Declared, Header, Stmt, StmtKind, TypeWord};
 use ground::{List, Memory, Place};
 use name_alloc::Names;
-use rat_tree::RatUnit;
+use rat_tree::RatStmt;
 use std::alloc::{AllocError, Global};
 
-/// The statements of FORTRAN that do what a unit does whose text ends at `finish`. The next of `names` is to hold
+/// The statements of FORTRAN that do what a unit with this header and body does whose text ends at `finish`. The next of `names` is to hold
 /// the values of its switches, and `taken` are its labels, which those that are made differ from.
 pub fn lower_body(
     alloc: Global,
     names: Names,
     taken: &[u32],
-    unit: &RatUnit,
+    header: &Header,
+    body: List<RatStmt>,
+    place: Place,
     finish: Place,
 ) -> Result<List<Stmt>, Memory>
-    requires room { length taken.now + all_labels (commands unit.now.body.items) ≤ 77000 }
+    requires room { length taken.now + all_labels (commands body.items) ≤ 77000 }
     requires none_made { names.numbers.made ≡ [] }
     requires few_names { length names.kept < 99999 }
     requires no_labels { names.labels ≡ starting 23000 }
-    ensures code { IfOk result (λ code. IsUnitCode (labels_past taken.now) (next_name names) (rat_routine_of unit.now) finish (lines_of code.items)) }
-    ensures ends { IfOk result (λ code. ends_itself (header_of unit.now.header) (lines_of code.items) ≡ true) }
+    ensures code { IfOk result (λ code. IsUnitCode (labels_past taken.now) (next_name names) (record { header = header_of header.now; body = commands body.items; place = place }) finish (lines_of code.items)) }
+    ensures ends { IfOk result (λ code. ends_itself (header_of header.now) (lines_of code.items) ≡ true) }
 {
-    let mut maker = Maker::new(alloc, names, &unit.header, taken)?;
-    unit_code(&mut maker, unit, finish)
+    let mut maker = Maker::new(alloc, names, header, taken)?;
+    unit_code(&mut maker, header, body, place, finish)
 }
 
 // The statements of a unit, by a maker that has made no label yet.
-fn unit_code(maker: &mut Maker, unit: &RatUnit, finish: Place) -> Result<List<Stmt>, Memory>
-    requires room { maker.old.made + length maker.old.taken + all_labels (commands unit.now.body.items) ≤ 77000 }
+fn unit_code(
+    maker: &mut Maker,
+    header: &Header,
+    body: List<RatStmt>,
+    place: Place,
+    finish: Place,
+) -> Result<List<Stmt>, Memory>
+    requires room { maker.old.made + length maker.old.taken + all_labels (commands body.items) ≤ 77000 }
     requires none_made { maker.old.made ≡ 0 }
-    requires own { maker.old.own ≡ name_of (header_of unit.now.header) }
-    ensures code { IfOk result (λ code. IsUnitCode (labels_past maker.old.taken) maker.old.spare (rat_routine_of unit.now) finish (lines_of code.items)) }
-    ensures ends { IfOk result (λ code. ends_itself (header_of unit.now.header) (lines_of code.items) ≡ true) }
+    requires own { maker.old.own ≡ name_of (header_of header.now) }
+    ensures code { IfOk result (λ code. IsUnitCode (labels_past maker.old.taken) maker.old.spare (record { header = header_of header.now; body = commands body.items; place = place }) finish (lines_of code.items)) }
+    ensures ends { IfOk result (λ code. ends_itself (header_of header.now) (lines_of code.items) ≡ true) }
 {
     // Most statements become one.
-    let mut code = Vec::with_capacity(maker.alloc(), unit.body.len())?;
-    put_unit(maker, &mut code, unit, finish)?;
+    let mut code = Vec::with_capacity(maker.alloc(), body.len())?;
+    put_unit(maker, &mut code, header, body, place, finish)?;
     Ok(code)
 }
 
@@ -54,19 +62,21 @@ fn unit_code(maker: &mut Maker, unit: &RatUnit, finish: Place) -> Result<List<St
 fn put_unit(
     maker: &mut Maker,
     code: &mut List<Stmt>,
-    unit: &RatUnit,
+    header: &Header,
+    body: List<RatStmt>,
+    place: Place,
     finish: Place,
 ) -> Result<(), Memory>
-    requires room { maker.old.made + length maker.old.taken + all_labels (commands unit.now.body.items) ≤ 77000 }
+    requires room { maker.old.made + length maker.old.taken + all_labels (commands body.items) ≤ 77000 }
     requires none_made { maker.old.made ≡ 0 }
-    requires own { maker.old.own ≡ name_of (header_of unit.now.header) }
+    requires own { maker.old.own ≡ name_of (header_of header.now) }
     requires none_put { code.old.items ≡ [] }
-    ensures code { OnOk result (IsUnitCode (labels_past maker.old.taken) maker.old.spare (rat_routine_of unit.now) finish (lines_of code.new.items)) }
-    ensures ends { OnOk result (ends_itself (header_of unit.now.header) (lines_of code.new.items) ≡ true) }
+    ensures code { OnOk result (IsUnitCode (labels_past maker.old.taken) maker.old.spare (record { header = header_of header.now; body = commands body.items; place = place }) finish (lines_of code.new.items)) }
+    ensures ends { OnOk result (ends_itself (header_of header.now) (lines_of code.new.items) ≡ true) }
 {
-    put_spare(maker, code, unit.place, have_switch(&unit.body))?;
-    emit_all(maker, code, &unit.body, &Around::Outside)?;
-    put_end(code, finish, &unit.header)?;
+    put_spare(maker, code, place, have_switch(&body))?;
+    emit_all(maker, code, body, &Around::Outside)?;
+    put_end(code, finish, header)?;
     Ok(())
 }
 

@@ -1,11 +1,7 @@
 -- The lists in a tree, one member after another: what is added so far, and what the members left would add.
-use Rattle.std.proofs.Common.{◌≡◌, ℕ, zero, suc, ◌+◌, ◌<◌, ◌≤◌, List, [], ◌∷◌, ◌++◌, length, drop, get_or, sym, ap, ◌∙◌, arith, Option, Some, None}
-use Rattle.std.proofs.Math.Seq.{drop-cons}
-use Rattle.std.proofs.Math.ListN.{drop_of_length-le}
+use Rattle.std.proofs.Common.{◌≡◌, ℕ, zero, suc, ◌+◌, ◌<◌, ◌≤◌, List, [], ◌∷◌, ◌++◌, length, get_or, refl, sym, ap, ◌∙◌, arith, Option, Some, None}
 use Rattle.ground.specs.declared.place.Place.{Place}
-use Rattle.f66_tree.specs.declared.expression.Expr.{Expr}
 use Rattle.f66_tree.specs.Syntax.{Text, Formula, Formulas, AndFormula, When, Goto, Line, unlabelled_line}
-use Rattle.f66_tree.specs.Views.{formula_of, formulas_of}
 use Rattle.rat_tree.specs.declared.program.RatStmt.{RatStmt}
 use Rattle.rat_tree.specs.Syntax.{Command, Commands, NoCommand, AndCommand}
 use Rattle.rat_tree.specs.Views.{command, commands}
@@ -13,10 +9,10 @@ use Rattle.rat_lower.specs.Code.{Rings, case_test, all_labels, code_of, all_code
 use Rattle.rat_lower.specs.Emitted.{Making, labels_past, Adds, Emitted, AllEmitted}
 use Rattle.rat_lower.proofs.Emitting.Sizes.{size_of, size_of_all}
 
-pub next_formulas : (list : List Expr) (i : ℕ) (e : Expr) → i < length list → e ≡ get_or list i e → formulas_of (drop i list) ≡ AndFormula (formula_of e) (formulas_of (drop (i + 1) list))
-next_formulas list i e lt is =
-    let k : suc i ≡ i + 1 = omega arith in
-    ap formulas_of (drop-cons list i e lt) ∙ ap (λ x. AndFormula (formula_of x) (formulas_of (drop (suc i) list))) (sym is) ∙ ap (λ m. AndFormula (formula_of e) (formulas_of (drop m list))) k
+-- where the length that an iterator tells is zero, nothing is left
+pub none_left : {A : Type 0} (xs : List A) (k : ℕ) → k ≡ length xs → k ≡ 0 → xs ≡ []
+none_left [] k long none = refl
+none_left (x ∷ xs) k long none = absurd (omega (arith, long, none))
 
 -- ---- statements ----
 
@@ -45,15 +41,6 @@ so_far_more all left s ls before now after old new newer h e = record {
 
 pub so_far_all : (all : Commands) (ls : Rings) (before now : Making) (old new : List Line) → SoFar all NoCommand ls before now old new → AllEmitted all ls before now old new
 so_far_all all ls before now old new h = record { taken = h.taken; spare = h.spare; own = h.own; made = omega (arith, h.made); added = record { by = h.added } }
-
--- the next statement of a list
-pub next_command : (list : List RatStmt) (i : ℕ) (s : RatStmt) → i < length list → s ≡ get_or list i s → commands (drop i list) ≡ AndCommand (command s) (commands (drop (i + 1) list))
-next_command list i s lt is =
-    let e : suc i ≡ i + 1 = omega arith in
-    ap commands (drop-cons list i s lt) ∙ ap (λ x. AndCommand (command x) (commands (drop (suc i) list))) (sym is) ∙ ap (λ m. AndCommand (command s) (commands (drop m list))) e
-
-pub last_command : (list : List RatStmt) (i : ℕ) → length list ≤ i → commands (drop i list) ≡ NoCommand
-last_command list i le = ap commands (drop_of_length-le list le)
 
 pub member_size : (list : List RatStmt) (i : ℕ) (s : RatStmt) → i < length list → s ≡ get_or list i s → size_of (command s) ≤ size_of_all (commands list)
 member_size list i s lt is = let h = ap (λ x. size_of (command x)) is in omega (arith, h, inner list i s lt)

@@ -1,5 +1,5 @@
 -- Blocks and switches in memory, and the statements that they become.
-use Rattle.std.proofs.Common.{◌≡◌, ℕ, zero, suc, ◌+◌, ◌<◌, List, [], ◌∷◌, ◌++◌, length, drop, get_or, refl, sym, ap, ◌∙◌, subst, arith, Option, Some, None, Bool, true, false, if◌then◌else◌}
+use Rattle.std.proofs.Common.{◌≡◌, ℕ, ◌+◌, List, ◌∷◌, ◌++◌, refl, sym, ap, ◌∙◌, subst, arith, Option, Some, None, Bool, true, false, if◌then◌else◌}
 use Rattle.std.proofs.Common.{Vec, Global, Result, Ok, Err, OnOk}
 use Rattle.ground.specs.declared.place.Place.{Place}
 use Rattle.ground.specs.declared.fault.Memory.{Memory}
@@ -7,10 +7,9 @@ use Rattle.f66_tree.specs.declared.expression.Expr.{Expr}
 use Rattle.f66_tree.specs.Syntax.{Formulas, Line}
 use Rattle.f66_tree.specs.Views.{formula_of, formulas_of}
 use Rattle.rat_tree.specs.declared.program.RatStmt.{RatStmt}
-use Rattle.std.proofs.Math.Seq.{drop-cons}
 use Rattle.rat_tree.specs.declared.program.RatCase.{RatCase, out-RatCase, roll-out-RatCase}
 use Rattle.rat_tree.specs.declared.program.RatKind.TheVariants.{Block, Switch}
-use Rattle.rat_tree.specs.Syntax.{Command, Commands, Clauses, NoClause, AndClause}
+use Rattle.rat_tree.specs.Syntax.{Command, Commands, Clauses, AndClause}
 use Rattle.rat_tree.specs.Views.{labelled, command_of, command, commands, clause_then, clauses}
 use Rattle.rat_tree.proofs.Rows.{block_commands, switch_clauses, case_clause}
 use Rattle.rat_lower.specs.Around.{behind_label, behind_mark}
@@ -89,24 +88,10 @@ from_switch s e v list (Err x) ls before after old mid new is value mark h = tt
 
 -- ---- clauses ----
 
-clause_is : (c : RatCase) (rest : Clauses) → clause_then c rest ≡ AndClause (formulas_of (out-RatCase c).tests.items) (out-RatCase c).fallback (commands (out-RatCase c).body.items) (out-RatCase c).place rest
+pub clause_is : (c : RatCase) (rest : Clauses) → clause_then c rest ≡ AndClause (formulas_of (out-RatCase c).tests.items) (out-RatCase c).fallback (commands (out-RatCase c).body.items) (out-RatCase c).place rest
 clause_is c rest =
     let o = out-RatCase c in
     sym (ap (λ x. clause_then x rest) (roll-out-RatCase c)) ∙ case_clause o.tests o.fallback o.body o.place rest
-
-pub next_clause : (list : List RatCase) (i : ℕ) (c : RatCase) → i < length list → c ≡ get_or list i c →
-    clauses (drop i list) ≡ AndClause (formulas_of (out-RatCase c).tests.items) (out-RatCase c).fallback (commands (out-RatCase c).body.items) (out-RatCase c).place (clauses (drop (i + 1) list))
-next_clause list i c lt is =
-    let e : suc i ≡ i + 1 = omega arith in
-    ap clauses (drop-cons list i c lt) ∙ ap (λ x. clause_then x (clauses (drop (suc i) list))) (sym is) ∙ ap (λ m. clause_then c (clauses (drop m list))) e ∙ clause_is c (clauses (drop (i + 1) list))
-
-pub clause_size : (list : List RatCase) (i : ℕ) (c : RatCase) → i < length list → c ≡ get_or list i c → size_of_all (commands (out-RatCase c).body.items) < size_of_clauses (clauses list)
-clause_size list i c lt is = let h = ap (λ x. size_of_all (commands (out-RatCase x).body.items)) is in omega (arith, h, inner list i c lt)
-  where
-    inner : (xs : List RatCase) (j : ℕ) (d : RatCase) → j < length xs → size_of_all (commands (out-RatCase (get_or xs j d)).body.items) < size_of_clauses (clauses xs)
-    inner [] j d p = absurd (omega arith)
-    inner (x ∷ xs) zero d p = omega (arith, ap size_of_clauses (clause_is x (clauses xs)))
-    inner (x ∷ xs) (suc j) d p = omega (arith, ap size_of_clauses (clause_is x (clauses xs)), inner xs j d (omega arith))
 
 -- some clauses are done, and those left would make all
 pub record ClausesSoFar (all left : Clauses) (out : ℕ) (ls : Rings) (default : Option ℕ) (before now : Making) (old new inner outer : List Line) : Type 0 where
