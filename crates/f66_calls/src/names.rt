@@ -23,7 +23,7 @@ pub fn saying_breaks(
     ensures { IfOk result
         (λ o. o ≡ first_rule (breaks_rule (context_in names.now.declarations) (acts_in names.now.declarations) i (act_said saying.now))) }
 {
-    saying_rule(alloc, names, i, saying)
+    saying_rule(alloc, names, i, saying, &mut Vec::new(alloc))
 }
 
 /// Whether a statement is built so far.

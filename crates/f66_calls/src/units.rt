@@ -22,7 +22,7 @@ pub fn statement_breaks(
     ensures { IfOk result
         (λ o. o ≡ first_rule (breaks_rule (context_in names.now.declarations) (acts_in names.now.declarations) i (act_of kind.now))) }
 {
-    broken_rule(alloc, names, i, kind)
+    broken_rule(alloc, names, i, kind, &mut Vec::new(alloc))
 }
 
 /// The rule with the smallest number that a header breaks.

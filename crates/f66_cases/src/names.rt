@@ -20,7 +20,13 @@ fn rule_of_last(alloc: Global, statements: &[Stmt]) -> Result<Option<Rule>, Allo
     }
     let names = unit_names_of(alloc, &header, &sayings)?;
     match statements.split_last() {
-        Some((last, before)) => broken_rule(alloc, &names, before.len(), &last.kind),
+        Some((last, before)) => broken_rule(
+            alloc,
+            &names,
+            before.len(),
+            &last.kind,
+            &mut Vec::new(alloc),
+        ),
         None => Ok(None),
     }
 }

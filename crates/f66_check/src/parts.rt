@@ -10,6 +10,7 @@ ghost use Rattle.f66_flow.specs.Under.{lines_under};
 ghost use Rattle.f66_check.specs.UnitChecks.{breaks_statement, breaks_piece};
 
 use f66_flow::{Flow, Scope};
+use f66_names::Use;
 use f66_tree::Stmt;
 use rule_table::{Rule, lesser};
 use std::alloc::{AllocError, Global};
@@ -17,13 +18,14 @@ use unit_rules::UnitNames;
 
 /// The rule with the smallest number that the statement with the number i breaks, where no earlier one breaks a rule of
 /// order, labels or DO ranges.
-fn broken_rule(
+fn broken_rule<'a>(
     alloc: Global,
     scope: Scope,
     flow: &Flow,
     names: &UnitNames,
     i: usize,
-    statement: &Stmt,
+    statement: &'a Stmt,
+    uses: &mut Vec<Use<'a>>,
 ) -> Result<Option<Rule>, AllocError>
     requires within { i < length flow.now.labels.statements.now }
     requires earlier { (j : ℕ) (k : Rule) → j < i → breaks_flow_at scope (context_in names.now.declarations).header (lines_under flow.now) j k ≡ false }
@@ -31,7 +33,7 @@ fn broken_rule(
         (λ o. o ≡ first_rule (breaks_statement scope (context_in names.now.declarations) (acts_in names.now.declarations) (lines_under flow.now) i (line_of statement.now))) }
 {
     let by_flow = f66_flow::broken_rule(scope, names.declarations.header, flow, i, statement);
-    let by_name = unit_rules::broken_rule(alloc, names, i, &statement.kind)?;
+    let by_name = unit_rules::broken_rule(alloc, names, i, &statement.kind, uses)?;
     Ok(lesser(by_flow, by_name))
 }
 
@@ -66,8 +68,9 @@ pub fn first_broken(
     if let Some(rule) = of_header {
         return Ok(Some((0, rule)));
     }
+    let mut uses = Vec::new(alloc);
     for (i, statement) in flow.labels.statements.iter().enumerate() {
-        let broken = broken_rule(alloc, scope, flow, names, i, statement)?;
+        let broken = broken_rule(alloc, scope, flow, names, i, statement, &mut uses)?;
         if let Some(rule) = broken {
             return Ok(Some((i + 1, rule)));
         }

@@ -66,7 +66,9 @@ pub fn is_foreign(declarations: &Declarations, name: &Name) -> bool
 pub fn is_real_by_letter(declarations: &Declarations, name: &Name) -> bool
     ensures { result ≡ is_real_by_letter (context_in declarations.now) name.now }
 {
-    is_other(type_of(declarations, name)) && !is_foreign(declarations, name)
+    // Whatever its declarations say, a name with the letter of an integer is none.
+    is_other(by_header(declarations.header, name))
+        && (is_other(type_of(declarations, name)) && !is_foreign(declarations, name))
 }
 
 /// The type of a name's values.

@@ -15,7 +15,7 @@ ghost use Rattle.rat_check.specs.Survey.{is_among};
 use crate::long_texts::{is_long_form, is_long_header};
 use crate::{Before, Form, LabelSet, Part};
 use f66_flow::is_specification;
-use f66_names::{Declarations, Saying};
+use f66_names::{Declarations, Saying, Use};
 use f66_tree::{Header, StmtKind};
 use rule_table::{Rule, lesser};
 use std::alloc::{AllocError, Global};
@@ -42,21 +42,23 @@ fn length_rule(header: &Header) -> Option<Rule>
     None
 }
 
-/// Of the rules that a part, which says this of names, breaks, that with the smallest number.
-pub fn broken_rule(
+/// Of the rules that a part, which says this of names, breaks, that with the smallest number. A list of uses serves one part after
+/// another.
+pub fn broken_rule<'a>(
     alloc: Global,
     names: &UnitNames,
     formats: &LabelSet,
     before: &Before,
     part: &Part,
-    sayings: &[Saying],
+    sayings: &[Saying<'a>],
+    uses: &mut Vec<Use<'a>>,
 ) -> Result<Option<Rule>, AllocError>
     requires said { acts_of sayings.now ≡ said_by (context_in names.now.declarations).header (form_of part.now.form) }
     requires within { before.now.said + length sayings.now < 2 ^ 64 }
     ensures { IfOk result (λ o. o ≡ rule_broken (whole_by names.now formats.now) (before_of before.now) (part_of part.now)) }
 {
     let own = own_rule(names.declarations.header, formats, before, part);
-    let by_names = names_rule(alloc, names, before.said, sayings)?;
+    let by_names = names_rule(alloc, names, before.said, sayings, uses)?;
     Ok(lesser(own, by_names))
 }
 
@@ -91,11 +93,12 @@ fn own_rule(header: &Header, formats: &LabelSet, before: &Before, part: &Part) -
 }
 
 /// The rules of names, types, counts, constants and stores, where the first saying is the n-th of the unit.
-fn names_rule(
+fn names_rule<'a>(
     alloc: Global,
     names: &UnitNames,
     n: usize,
-    sayings: &[Saying],
+    sayings: &[Saying<'a>],
+    uses: &mut Vec<Use<'a>>,
 ) -> Result<Option<Rule>, AllocError>
     requires { n + length sayings.now < 2 ^ 64 }
     ensures { IfOk result
@@ -103,7 +106,7 @@ fn names_rule(
 {
     let mut broken = None;
     for (i, saying) in sayings.iter().enumerate() {
-        let rule = saying_rule(alloc, names, n + i, saying)?;
+        let rule = saying_rule(alloc, names, n + i, saying, uses)?;
         broken = lesser(broken, rule);
     }
     Ok(broken)

@@ -161,9 +161,10 @@ fn check_parts(
     let mut before = Before::new(alloc);
     let _said = names.declarations.sayings.len();
     let mut sayings = Vec::new(alloc);
+    let mut uses = Vec::new(alloc);
     for part in parts {
         sayings_into(names.declarations.header, part.form, &mut sayings)?;
-        let broken = broken_rule(alloc, names, formats, &before, part, &sayings)?;
+        let broken = broken_rule(alloc, names, formats, &before, part, &sayings, &mut uses)?;
         if let Some(rule) = broken {
             return Err(Refusal::Fault(rule.fault(part.place)));
         }

@@ -1,10 +1,9 @@
 // The classes of names.
-ghost use Rattle.std.specs.Prelude.{◌≡◌, ℕ, List, IfOk, OnOk, map, Some, None, option_map, is_some, if◌then◌else◌};
+ghost use Rattle.std.specs.Prelude.{◌≡◌, ℕ, List, IfOk, OnOk, map, Some, None, option_map};
 ghost use Rattle.std.specs.HashMap.{get_by};
-ghost use Rattle.std.specs.List.{list_any};
 ghost use Rattle.std.specs.Option.{option_or};
 ghost use Rattle.std.specs.Str.{bytes_eq};
-ghost use Rattle.rule_table.specs.Words.{find_map, is_some_and};
+ghost use Rattle.rule_table.specs.Words.{find_map};
 ghost use Rattle.f66_tree.specs.Views.{header_of};
 ghost use Rattle.f66_names.specs.ActViews.{act_said};
 ghost use Rattle.f66_names.specs.UseViews.{use_of};
@@ -144,6 +143,10 @@ fn note_use<'a>(
         ((q : List ℕ) → get_by (λ k. bytes_eq q k.now) table.new
         ≡ option_or (get_by (λ k. bytes_eq q k.now) table.old) (role_given (context_in declarations.now) q (use_of used.now))) }
 {
+    // Most names have their first class by then.
+    if table.contains_key(used.name.as_bytes()) {
+        return Ok(());
+    }
     match role_used(declarations, used) {
         Some(role) => note(table, used.name.as_bytes(), role),
         None => Ok(()),

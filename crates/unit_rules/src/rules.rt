@@ -1,6 +1,5 @@
 // The rule with the smallest number that a statement breaks.
 ghost use Rattle.std.specs.Prelude.{◌≡◌, ◌||◌, not, map, option_map, is_some, Some, IfOk};
-ghost use Rattle.std.specs.List.{list_any};
 ghost use Rattle.rule_table.specs.FaultRules.{first_rule};
 ghost use Rattle.rule_table.specs.Words.{find_map, is_some_and};
 ghost use Rattle.f66_tree.specs.Views.{act_of};
@@ -15,7 +14,7 @@ ghost use Rattle.unit_rules.specs.Judged.{judged_uses};
 ghost use Rattle.unit_rules.specs.Listed.{more_names, more_uses};
 ghost use Rattle.unit_rules.specs.ListViews.{AreLists};
 ghost use Rattle.unit_rules.specs.PartRules.{breaks_used};
-ghost use Rattle.unit_rules.specs.Roles.{misuses, miscalls, mixes_roles};
+ghost use Rattle.unit_rules.specs.Roles.{miscalls, mixes_roles};
 ghost use Rattle.unit_rules.specs.Storage.{lists_bad_constant as lists_bad};
 ghost use Rattle.unit_rules.specs.Types.{clashes};
 ghost use Rattle.unit_rules.specs.UnitRules.{has_long_name as has_long, has_foreign_name as has_foreign, counts_wrong as counts_other, is_duplicate, breaks_rule};
@@ -45,29 +44,30 @@ use rule_table::Rule;
 use std::alloc::{AllocError, Global};
 
 /// The rule with the smallest number that the statement with the number i breaks, of those on names, types, counts,
-/// constants and stores (X3.9-1966, sections 3.5, 5 to 8 and 10.1).
-pub fn broken_rule(
+/// constants and stores (X3.9-1966, sections 3.5, 5 to 8 and 10.1). A list of uses serves one statement after another.
+pub fn broken_rule<'a>(
     alloc: Global,
     names: &UnitNames,
     i: usize,
-    kind: &StmtKind,
+    kind: &'a StmtKind,
+    uses: &mut Vec<Use<'a>>,
 ) -> Result<Option<Rule>, AllocError>
     ensures { IfOk result
         (λ o. o ≡ first_rule (breaks_rule (context_in names.now.declarations) (acts_in names.now.declarations) i (act_of kind.now))) }
 {
     match kind {
         StmtKind::Assign(target, _) if is_readable(&names.declarations, target) => {
-            assignment_rule(alloc, names, kind)
+            assignment_rule(names, kind, uses)
         }
         _ => statement_rule(alloc, names, i, kind),
     }
 }
 
 /// The same of an assignment to a place, of which all names that it uses have classes and counts.
-fn assignment_rule(
-    alloc: Global,
+fn assignment_rule<'a>(
     names: &UnitNames,
-    kind: &StmtKind,
+    kind: &'a StmtKind,
+    uses: &mut Vec<Use<'a>>,
 ) -> Result<Option<Rule>, AllocError>
     ensures { IfOk result
         (λ o. o ≡ first_rule (breaks_used (context_in names.now.declarations) (acts_in names.now.declarations) (uses_in (act_of kind.now)) (not (has_form (act_of kind.now))) (clashes (context_in names.now.declarations) (act_of kind.now)) (stores_wrong (context_in names.now.declarations) (act_of kind.now)))) }
@@ -75,14 +75,7 @@ fn assignment_rule(
     let misformed = !has_form(kind);
     let clashing = clashes(&names.declarations, kind);
     let stored = stores_wrong(&names.declarations, kind);
-    part_rule(
-        alloc,
-        names,
-        &Saying::Act(kind),
-        misformed,
-        clashing,
-        stored,
-    )
+    part_rule(names, &Saying::Act(kind), misformed, clashing, stored, uses)
 }
 
 /// The same of any statement.

@@ -15,7 +15,7 @@ use crate::rules::broken_rule;
 use crate::types::fits;
 use crate::used::part_rule;
 use f66_names::{
-    Declarations, Saying, counts, is_array, is_counting_form, is_name, may_be, stands,
+    Declarations, Saying, Use, counts, is_array, is_counting_form, is_name, may_be, stands,
 };
 use f66_tree::{Expr, Name};
 use ground::Kind;
@@ -23,38 +23,39 @@ use rule_table::Rule;
 use std::alloc::{AllocError, Global};
 
 /// The rule with the smallest number that a statement or a part of one breaks, the i-th that the unit says, of those on names,
-/// types, counts, constants and stores (X3.9-1966, sections 3.5, 5 to 8 and 10.1).
-pub fn saying_rule(
+/// types, counts, constants and stores (X3.9-1966, sections 3.5, 5 to 8 and 10.1). A list of uses serves one saying after another.
+pub fn saying_rule<'a>(
     alloc: Global,
     names: &UnitNames,
     i: usize,
-    saying: &Saying,
+    saying: &Saying<'a>,
+    uses: &mut Vec<Use<'a>>,
 ) -> Result<Option<Rule>, AllocError>
     ensures { IfOk result
         (λ o. o ≡ first_rule (breaks_rule (context_in names.now.declarations) (acts_in names.now.declarations) i (act_said saying.now))) }
 {
     let declarations = &names.declarations;
     match *saying {
-        Saying::Act(kind) => broken_rule(alloc, names, i, kind),
+        Saying::Act(kind) => broken_rule(alloc, names, i, kind, uses),
         Saying::Condition(e) => {
             let clashing = !fits(declarations, e, Kind::Logical);
-            part_rule(alloc, names, saying, !stands(0, e), clashing, false)
+            part_rule(names, saying, !stands(0, e), clashing, false, uses)
         }
         Saying::Value(e) => {
             let clashing = !fits(declarations, e, Kind::Integer);
-            part_rule(alloc, names, saying, !stands(0, e), clashing, false)
+            part_rule(names, saying, !stands(0, e), clashing, false, uses)
         }
         Saying::Counting(variable, first, last, step) => {
             let misformed = !is_counting_form(variable, first, last, step);
             let clashing = !counts(declarations, variable, first, last, step);
             let stored = is_array(declarations, variable);
-            part_rule(alloc, names, saying, misformed, clashing, stored)
+            part_rule(names, saying, misformed, clashing, stored, uses)
         }
         Saying::Returned(name, e) => {
             let misformed = !is_returned_form(name, e);
             let clashing = clashes_returned(declarations, name, e);
             let stored = is_array(declarations, name);
-            part_rule(alloc, names, saying, misformed, clashing, stored)
+            part_rule(names, saying, misformed, clashing, stored, uses)
         }
     }
 }

@@ -1,5 +1,5 @@
 // The rule with the smallest number that a statement or a part of one breaks by the names that it uses.
-ghost use Rattle.std.specs.Prelude.{◌≡◌, Some, map, IfOk};
+ghost use Rattle.std.specs.Prelude.{◌≡◌, map, IfOk};
 ghost use Rattle.std.specs.List.{list_any};
 ghost use Rattle.rule_table.specs.FaultRules.{first_rule};
 ghost use Rattle.f66_names.specs.ActViews.{act_said};
@@ -7,30 +7,33 @@ ghost use Rattle.f66_names.specs.DeclarationViews.{context_in, acts_in};
 ghost use Rattle.f66_names.specs.Uses.{uses_in};
 ghost use Rattle.f66_names.specs.UseViews.{use_of};
 ghost use Rattle.unit_rules.specs.PartRules.{breaks_used};
-ghost use Rattle.unit_rules.specs.Roles.{misuses, role_of, has_other_role};
+ghost use Rattle.unit_rules.specs.Roles.{misuses, role_of};
 
 use crate::UnitNames;
 use crate::roles::{Role, has_other_role, role_used};
-use f66_names::{Saying, Use, has_long_use, has_other_use, has_wrong_use, uses_of_saying};
+use f66_names::{
+    Manner, Saying, Use, collect_in_saying, has_long_use, has_other_use, has_wrong_use,
+};
 use f66_tree::Name;
 use rule_table::Rule;
-use std::alloc::{AllocError, Global};
+use std::alloc::AllocError;
 
 /// What a part of a statement breaks of which it is known whether it has another form or type than it is to have, and whether
-/// it stores where it may not.
-pub fn part_rule(
-    alloc: Global,
+/// it stores where it may not. The list gets the names that it uses.
+pub fn part_rule<'a>(
     names: &UnitNames,
-    saying: &Saying,
+    saying: &Saying<'a>,
     misformed: bool,
     clashing: bool,
     stored: bool,
+    uses: &mut Vec<Use<'a>>,
 ) -> Result<Option<Rule>, AllocError>
     ensures { IfOk result
         (λ o. o ≡ first_rule (breaks_used (context_in names.now.declarations) (acts_in names.now.declarations) (uses_in (act_said saying.now)) misformed clashing stored)) }
 {
-    let uses = uses_of_saying(alloc, saying)?;
-    Ok(used_rule(names, &uses, misformed, clashing, stored))
+    uses.clear();
+    collect_in_saying(saying, uses)?;
+    Ok(used_rule(names, uses, misformed, clashing, stored))
 }
 
 fn used_rule(
@@ -70,18 +73,18 @@ fn used_rule(
 fn misuses(names: &UnitNames, used: &Use) -> bool
     ensures { result ≡ misuses (context_in names.now.declarations) (acts_in names.now.declarations) (use_of used.now) }
 {
-    match role_used(&names.declarations, used) {
-        Some(role) => is_in_other_role(names, used.name, role),
-        None => false,
+    let first = first_role(names, used.name);
+    match (first, used.manner) {
+        // Most names are variables, and stand alone.
+        (Some(Role::Variable), Manner::Alone) => false,
+        _ => has_other_role(role_used(&names.declarations, used), first),
     }
 }
 
-fn is_in_other_role(names: &UnitNames, name: &Name, role: Role) -> bool
-    ensures { result
-        ≡ has_other_role (Some role) (role_of (context_in names.now.declarations) (acts_in names.now.declarations) name.now) }
+fn first_role(names: &UnitNames, name: &Name) -> Option<Role>
+    ensures { result ≡ role_of (context_in names.now.declarations) (acts_in names.now.declarations) name.now }
 {
-    let first = names.roles.get(name.as_bytes()).copied();
-    has_other_role(Some(role), first)
+    names.roles.get(name.as_bytes()).copied()
 }
 
 /// Whether a name is used in another class than its first one (section 10.1).
