@@ -6,4 +6,5 @@ pub mod LoopLemmas
 pub mod RuleLemmas
 pub mod CleanLemmas
 pub mod SaidLemmas
+mod ShortTexts
 mod Examples

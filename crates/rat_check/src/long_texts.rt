@@ -5,7 +5,7 @@ ghost use Rattle.rat_tree.specs.Views.{act_if_any, formula_if_any};
 ghost use Rattle.rat_check.specs.FormViews.{form_of};
 ghost use Rattle.rat_check.specs.LongTexts.{is_long_header, is_long_statement, is_long_expression, are_some_long, is_long_if_any, is_long_test, is_long_form};
 
-use crate::Form;
+use crate::{Form, is_short_assignment, room_behind};
 use f66_tree::{Expr, Header, StmtKind};
 use stmt_text::{expression_text, header_text, statement_text};
 
@@ -35,12 +35,16 @@ pub fn is_long_form(form: Form) -> bool
 fn is_long_statement(kind: &StmtKind) -> bool
     ensures { result ≡ is_long_statement (act_of kind.now) }
 {
-    statement_text(kind).is_none()
+    !is_short_assignment(kind) && statement_text(kind).is_none()
 }
 
 fn is_long_expression(e: &Expr) -> bool
     ensures { result ≡ is_long_expression (formula_of e.now) }
 {
+    // Most expressions are short by far.
+    if room_behind(e, 1200).is_some() {
+        return false;
+    }
     match expression_text(e) {
         Some(text) => text.len() > 1200,
         None => true,
