@@ -25,6 +25,10 @@ pub fn add_token(
 ) -> Result<(), Refusal>
     ensures { Came (token_made dialect (table macros.now) token (made output.old)) result (made output.new) }
 {
+    // Most texts define no macro.
+    if macros.is_empty() {
+        return output.put(token);
+    }
     match macro_of(alloc, dialect, macros, &token.kind)? {
         Some(number) => replace(alloc, dialect, macros, number, token.place, output),
         None => output.put(token),
@@ -63,12 +67,7 @@ fn macro_of(
     ensures within { IfOk result (λ found. IfSome found (λ n. n < length (table macros.now))) }
 {
     match kind {
-        TokenKind::Word(name) => {
-            if macros.is_empty() {
-                return Ok(None);
-            }
-            number_named(alloc, dialect, macros, name.as_bytes())
-        }
+        TokenKind::Word(name) => number_named(alloc, dialect, macros, name.as_bytes()),
         _ => Ok(None),
     }
 }
