@@ -1,14 +1,15 @@
 -- The line from a place on, step by step.
-use Rattle.std.proofs.Common.{◌≡◌, ℕ, zero, suc, ◌+◌, ◌<◌, ◌≤◌, true, List, [], ◌∷◌, ◌++◌, length, get_or, drop, refl, sym, ◌∙◌, ap, arith, append_assoc, add-zero, length-drop, subst}
-use Rattle.std.proofs.lemmas.List.{drop-drop}
+use Rattle.std.proofs.Common.{◌≡◌, ℕ, zero, suc, ◌+◌, ◌-◌, ◌<◌, ◌≤◌, true, None, Some, take, if◌then◌else◌, List, [], ◌∷◌, ◌++◌, length, get_or, drop, refl, sym, ◌∙◌, ap, arith, append_assoc, add-zero, length-drop, subst}
+use Rattle.std.proofs.lemmas.List.{drop-drop, take_more}
 use Rattle.std.proofs.lemmas.List.Elements.{All-push}
 use Rattle.free_scan.proofs.StepLemmas.{drop-at}
-use Rattle.std.specs.Prelude.{All}
+use Rattle.std.specs.Prelude.{All, Option}
 use Rattle.ground.specs.declared.token.Dialect.{Dialect}
 use Rattle.free_scan.specs.declared.lines.Character.{Character}
 use Rattle.free_scan.specs.declared.lines.Part.{Part}
 use Rattle.free_scan.specs.declared.lines.Part.TheVariants.{Ends, Dropped, Joined, Kept}
-use Rattle.free_scan.specs.Lines.{Line, line, part, with_characters, ends_at, IsWithin}
+use Rattle.free_scan.specs.Characters.{is_blank}
+use Rattle.free_scan.specs.Lines.{Line, line, part, with_characters, ends_at, last_byte, IsWithin}
 
 -- what the loop keeps: the line from the start is what was read, and then the line from here
 pub record IsRead (d : Dialect) (text : List ℕ) (start number at now : ℕ) (cs : List Character) : Type 0 where
@@ -83,3 +84,17 @@ module _ (d : Dialect) (text : List ℕ) (start number at now : ℕ) (cs : List 
     numbered = omega (arith, read.numbered);
     within = All-push (IsWithin start (length text)) cs _ read.within (record { after_start = omega (arith, read.reached); in_text = omega arith; counted = read.counted; numbered = read.numbered });
   }
+
+-- of characters and one more, that one is the last that isn't blank, or it doesn't count
+last_byte_push : (found : Option ℕ) (cs : List Character) (c : Character) → last_byte found (cs ++ c ∷ []) ≡ (if is_blank c.byte then last_byte found cs else Some c.byte)
+last_byte_push found [] c = refl
+last_byte_push found (x ∷ cs) c = last_byte_push (if is_blank x.byte then found else Some x.byte) cs c
+
+-- the same of the first characters of a line
+pub last_byte_take : (cs : List Character) (n : ℕ) (other : Character) → 0 < n → n ≤ length cs
+    → last_byte None (take n cs) ≡ (if is_blank (get_or cs (n - 1) other).byte then last_byte None (take (n - 1) cs) else Some (get_or cs (n - 1) other).byte)
+last_byte_take cs n other some h =
+    let on : n - 1 + 1 ≡ n = omega arith in
+    ap (λ m. last_byte None (take m cs)) (sym on)
+    ∙ ap (last_byte None) (take_more cs (n - 1) other (omega arith))
+    ∙ last_byte_push None (take (n - 1) cs) (get_or cs (n - 1) other)

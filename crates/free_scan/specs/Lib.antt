@@ -6,3 +6,4 @@ pub mod Spellings
 pub mod Lexemes
 pub mod IncludeNames
 pub mod Tokens
+pub mod Left

@@ -193,6 +193,10 @@ pub fn add_tokens(
     let mut at = 0;
     while at < characters.len() {
         let first = characters[at];
+        if is_gap(first.byte) {
+            at += 1;
+            continue;
+        }
         let place = Place {
             file,
             line: first.line,

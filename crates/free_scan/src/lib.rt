@@ -8,5 +8,6 @@ mod lines;
 mod quotes;
 mod scanner;
 mod spellings;
+mod text_tokens;
 
-pub use scanner::{Scanned, scan};
+pub use text_tokens::{Scanned, Scanner, scan};

@@ -12,13 +12,6 @@ use crate::lines::{Character, LineEnding, line_size, read_line};
 use ground::{Dialect, Fault, FaultKind, List, Memory, Place, Sign, Text, Token, TokenKind};
 use std::alloc::{AllocError, Global};
 
-/// The tokens of a text, and the fault after them if it has one.
-#[derive(Debug, Drop)]
-pub struct Scanned {
-    pub tokens: List<Token>,
-    pub fault: Option<Fault>,
-}
-
 /// Where a line starts: its place in the text, its number, how many of Ratfor's parentheses are open, and whether it
 /// continues the line before.
 #[derive(Clone, Copy, Debug)]
@@ -36,53 +29,10 @@ pub enum Outcome {
     Stops(Fault),
 }
 
-/// The tokens of a text in the order in which they stand, and a fault right after the tokens before it: 1 BadByte,
-/// 2 UnclosedQuote, 3 NumberTooLarge, 8 PercentLine, or 30 Limit with the number 11. The places have the number of the
-/// file. The text has fewer than 4,294,967,295 bytes. The rules are those of Kernighan's paper on Ratfor and of
-/// Feldman's on EFL, as docs/TEXT.md states them.
-pub fn scan(alloc: Global, dialect: Dialect, text: &[u8], file: u16) -> Result<Scanned, Memory>
-    requires { length text.now < 4294967295 }
-    ensures tokens { IfOk result (λ all. all.tokens.items ≡ (scanned dialect text.now file).tokens) }
-    ensures fault { IfOk result (λ all. all.fault ≡ (scanned dialect text.now file).fault) }
-{
-    let mut tokens = Vec::new(alloc);
-    let fault = add_lines(alloc, dialect, text, file, &mut tokens)?;
-    // The list lives on while the text is gathered, so it gives back the room that it grew beyond its tokens.
-    tokens.shrink_to_fit();
-    Ok(Scanned { tokens, fault })
-}
+/// So many open parentheses count as out of memory.
+const MOST_OPEN: usize = 1 << 62;
 
-/// Adds the tokens of a text, up to the first fault.
-fn add_lines(
-    alloc: Global,
-    dialect: Dialect,
-    text: &[u8],
-    file: u16,
-    tokens: &mut Vec<Token>,
-) -> Result<Option<Fault>, AllocError>
-    requires short { length text.now < 4294967295 }
-    requires none { tokens.old.items ≡ [] }
-    ensures tokens { OnOk result (tokens.new.items ≡ (scanned dialect text.now file).tokens) }
-    ensures fault { IfOk result (λ fault. fault ≡ (scanned dialect text.now file).fault) }
-{
-    let mut characters = Vec::new(alloc);
-    let mut start = LineStart {
-        next: 0,
-        number: 1,
-        opened: 0,
-        continues: false,
-    };
-    while start.next < text.len() {
-        match scan_line(alloc, dialect, text, file, start, &mut characters, tokens)? {
-            Outcome::Goes(after) => start = after,
-            Outcome::Stops(fault) => return Ok(Some(fault)),
-        }
-    }
-    tokens.push(token_at(file, start.number, TokenKind::TextEnd))?;
-    Ok(None)
-}
-
-fn token_at(file: u16, line: u32, kind: TokenKind) -> Token
+pub(crate) fn token_at(file: u16, line: u32, kind: TokenKind) -> Token
     ensures { result ≡ token_of file line kind }
 {
     Token {
@@ -92,7 +42,7 @@ fn token_at(file: u16, line: u32, kind: TokenKind) -> Token
 }
 
 /// Adds the tokens of the line that starts here.
-fn scan_line(
+pub(crate) fn scan_line(
     alloc: Global,
     dialect: Dialect,
     text: &[u8],
@@ -105,12 +55,12 @@ fn scan_line(
     requires in_text { start.next < length text.now }
     requires counted { start.number ≤ start.next + 1 }
     requires numbered { 0 < start.number }
-    requires few_open { start.opened ≤ length tokens.old.items }
+    requires few_open { start.opened < 2 ^ 62 }
     ensures tokens { OnOk result (tokens.new.items
         ≡ tokens.old.items ++ tokens_in (line_reading dialect text.now file start)) }
     ensures outcome { IfOk result (λ o. o ≡ outcome (line_reading dialect text.now file start)) }
     ensures place { IfOk result (λ o. IfGoes o (λ after. IsPlace (start.next + 1) (length text.now) after.next after.number)) }
-    ensures few_open { IfOk result (λ o. IfGoes o (λ after. after.opened ≤ length tokens.new.items)) }
+    ensures few_open { IfOk result (λ o. IfGoes o (λ after. after.opened < 2 ^ 62)) }
 {
     if begins_with(b'%', &text[start.next..]) {
         let place = Place {
@@ -137,7 +87,7 @@ fn add_line(
     tokens: &mut Vec<Token>,
 ) -> Result<Outcome, AllocError>
     requires short { length text.now < 4294967295 }
-    requires few_open { start.opened ≤ length tokens.old.items }
+    requires few_open { start.opened < 2 ^ 62 }
     requires within { All (IsWithin start.next (length text.now)) characters.now }
     requires place { IsPlace (start.next + 1) (length text.now) ending.next ending.number }
     ensures tokens { OnOk result (tokens.new.items ≡ tokens.old.items
@@ -145,7 +95,7 @@ fn add_line(
     ensures outcome { IfOk result (λ o. o
         ≡ outcome (line_of dialect text.now file start (record { characters = characters.now; ending = ending }))) }
     ensures place { IfOk result (λ o. IfGoes o (λ after. IsPlace (start.next + 1) (length text.now) after.next after.number)) }
-    ensures few_open { IfOk result (λ o. IfGoes o (λ after. after.opened ≤ length tokens.new.items)) }
+    ensures few_open { IfOk result (λ o. IfGoes o (λ after. after.opened < 2 ^ 62)) }
 {
     let line = begun(characters);
     match include_at(start.continues, line) {
@@ -240,19 +190,22 @@ fn plain_line(
     ending: LineEnding,
     tokens: &mut Vec<Token>,
 ) -> Result<Outcome, AllocError>
-    requires few_open { start.opened ≤ length tokens.old.items }
+    requires few_open { start.opened < 2 ^ 62 }
     requires counted { 0 < ending.number }
     ensures tokens { OnOk result (tokens.new.items
         ≡ tokens.old.items ++ tokens_in (plain_line_of dialect text.now file start characters.now ending)) }
     ensures outcome { IfOk result (λ o. o ≡ outcome (plain_line_of dialect text.now file start characters.now ending)) }
     ensures place { IfOk result (λ o. IfGoes o (λ after. (after.next ≡ ending.next) × (after.number ≡ ending.number))) }
-    ensures few_open { IfOk result (λ o. IfGoes o (λ after. after.opened ≤ length tokens.new.items)) }
+    ensures few_open { IfOk result (λ o. IfGoes o (λ after. after.opened < 2 ^ 62)) }
 {
     let count = tokens.len();
     if let Some(fault) = add_tokens(alloc, dialect, text, file, characters, tokens)? {
         return Ok(Outcome::Stops(fault));
     }
     let opened = open_parentheses(dialect, start.opened, &tokens[count..]);
+    if opened >= MOST_OPEN {
+        return Err(AllocError);
+    }
     let goes_on = !ending.ended || is_continued(dialect, characters) || opened > 0;
     let continues = goes_on && (start.continues || tokens.len() > count);
     if !goes_on {
@@ -315,13 +268,15 @@ fn is_continued(dialect: Dialect, characters: &[Character]) -> bool
 fn last_byte(characters: &[Character]) -> Option<u8>
     ensures { result ≡ last_byte_of None characters.now }
 {
-    let mut last = None;
-    for character in characters {
-        if !is_blank(character.byte) {
-            last = Some(character.byte);
+    let mut count = characters.len();
+    while count > 0 {
+        let byte = characters[count - 1].byte;
+        if !is_blank(byte) {
+            return Some(byte);
         }
+        count -= 1;
     }
-    last
+    None
 }
 
 fn is_continuing(dialect: Dialect, byte: u8) -> bool

@@ -1,7 +1,10 @@
--- The last byte of all that isn't blank is that of those left, or the last one so far.
-use Rattle.std.proofs.Common.{◌≡◌, drop, None}
+-- The last byte that isn't blank is that of the first so many characters.
+use Rattle.std.proofs.Common.{◌≡◌, ◌≤◌, None, length, take}
 use Rattle.free_scan.specs.Lines.{last_byte}
 use Rattle.free_scan.proofs.scanner.last_byte.Given as goal
 
-abbrev pub invariant-loop-character : goal.invariant-loop-character
-invariant-loop-character l = last_byte None l.characters ≡ last_byte l.last (drop l.character-index l.characters)
+abbrev pub invariant-loop-count : goal.invariant-loop-count
+invariant-loop-count l = (last_byte None l.characters ≡ last_byte None (take l.count l.characters)) × (l.count ≤ length l.characters)
+
+abbrev pub decreases-loop-count : goal.decreases-loop-count
+decreases-loop-count l = l.count
