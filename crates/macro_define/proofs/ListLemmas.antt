@@ -1,6 +1,8 @@
 -- Lists: positions under a map, and the rest of a list at a place; and steps that follow one another up to a fault.
-use Rattle.std.proofs.Common.{◌≡◌, ℕ, zero, suc, ◌+◌, Bool, not, cond, nat_lt, List, [], ◌∷◌, length, map, drop, refl, sym, ◌∙◌, ap, arith, position, slice_get, Some, None, Result, Ok, Err}
-use Rattle.std.specs.List.{prefix_len}
+use Rattle.std.proofs.Common.{◌≡◌, ℕ, zero, suc, ◌+◌, Bool, true, false, not, cond, nat_lt, List, [], ◌∷◌, length, map, drop, refl, sym, ◌∙◌, ap, arith, position, slice_get, Some, None, Result, Ok, Err}
+use Rattle.std.specs.Prelude.{Option}
+use Rattle.std.specs.List.{position_from, prefix_len}
+use Rattle.std.proofs.Math.Nat.{zero-add}
 use Rattle.macro_define.specs.Made.{and_then}
 
 prefix_len-map : {A B : Type 0} (p : B → Bool) (f : A → B) (xs : List A) → prefix_len p (map f xs) ≡ prefix_len (λ x. p (f x)) xs
@@ -15,6 +17,27 @@ pub position-map : {A B : Type 0} (p : B → Bool) (f : A → B) (xs : List A) �
 position-map p f xs =
     ap (λ n. cond (nat_lt n (length (map f xs))) (Some n) None) (prefix_len-map (λ x. not (p x)) f xs)
     ∙ ap (λ k. cond (nat_lt (prefix_len (λ x. not (p (f x))) xs) k) (Some (prefix_len (λ x. not (p (f x))) xs)) None) (length-of_map f xs)
+
+-- the first place where a test holds, counted on from i
+counted_on : {A : Type 0} (p : A → Bool) (i : ℕ) (xs : List A) → Option ℕ
+counted_on p i xs = cond (nat_lt (prefix_len (λ x. not (p x)) xs) (length xs)) (Some (i + prefix_len (λ x. not (p x)) xs)) None
+
+counted_next : {A : Type 0} (p : A → Bool) (i : ℕ) (x : A) (xs : List A) (b : Bool) → p x ≡ b → position_from p (i + 1) xs ≡ counted_on p (i + 1) xs
+    → cond b (Some i) (position_from p (i + 1) xs) ≡ counted_on p i (x ∷ xs)
+unfolding counted_on
+counted_next p i x xs true e h = grind (arith, e)
+counted_next p i x xs false e h = grind (arith, e, h)
+
+position_from-counted : {A : Type 0} (p : A → Bool) (i : ℕ) (xs : List A) → position_from p i xs ≡ counted_on p i xs
+unfolding counted_on
+position_from-counted p i [] = refl
+position_from-counted p i (x ∷ xs) = counted_next p i x xs (p x) refl (position_from-counted p (i + 1) xs)
+
+pub position-from : {A : Type 0} (p : A → Bool) (xs : List A) → position p xs ≡ position_from p 0 xs
+unfolding counted_on
+position-from p xs =
+    ap (λ n. cond (nat_lt (prefix_len (λ x. not (p x)) xs) (length xs)) (Some n) None) (sym (zero-add (prefix_len (λ x. not (p x)) xs)))
+    ∙ sym (position_from-counted p 0 xs)
 
 pub drop-at_none : {A : Type 0} (xs : List A) (n : ℕ) → slice_get xs n ≡ None → drop n xs ≡ []
 drop-at_none [] zero h = refl

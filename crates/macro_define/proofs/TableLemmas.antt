@@ -1,12 +1,15 @@
 -- The table of macros as its names and texts.
-use Rattle.std.proofs.Common.{◌≡◌, ℕ, Bool, true, false, List, [], ◌∷◌, ◌++◌, ◌||◌, map, refl, ap, ◌∙◌, if◌then◌else◌}
+use Rattle.std.proofs.Common.{◌≡◌, ℕ, Bool, true, false, List, [], ◌∷◌, ◌++◌, ◌||◌, map, position, refl, ap, sym, ◌∙◌, if◌then◌else◌}
 use Rattle.std.specs.Prelude.{Vec}
 use Rattle.std.specs.Str.{bytes_eq}
 use Rattle.std.specs.declared.alloc.Global.{Global}
 use Rattle.indexmap.specs.IndexMap.{insert_entry}
 use Rattle.indexmap.specs.IndexSet.{insert_key}
-use Rattle.std.specs.List.{list_any}
+use Rattle.std.specs.List.{list_any, position_from}
+use Rattle.std.specs.Map.{keys_of}
 use Rattle.ground.specs.declared.token.TokenKind.{TokenKind}
+use Rattle.macro_define.specs.Macros.{number_of}
+use Rattle.macro_define.proofs.ListLemmas.{position-from, position-map}
 
 abbrev shown : Vec ℕ Global × Vec TokenKind Global → List ℕ × List TokenKind
 shown e = (e.0.items, e.1.items)
@@ -43,3 +46,12 @@ pub keys-insert : (ks : List (Vec ℕ Global)) (k : Vec ℕ Global)
 keys-insert ks k =
     with_key ks k (list_any (λ x. bytes_eq k.items x.items) ks)
     ∙ ap (λ b. if b then map (λ x. x.items) ks else map (λ x. x.items) ks ++ k.items ∷ []) (any-shown ks k)
+
+-- the number of a macro is the place of its key
+pub number_of_key : (es : List (Vec ℕ Global × Vec TokenKind Global)) (key : List ℕ) → number_of (map shown es) key ≡ position (λ k. bytes_eq key k.items) (keys_of es)
+number_of_key es key =
+    position-map (bytes_eq key) (λ m. m.0) (map shown es) ∙ position-map (λ m. bytes_eq key m.0) shown es
+    ∙ sym (position-map (λ k. bytes_eq key k.items) (λ e. e.0) es)
+
+pub number_from_keys : (es : List (Vec ℕ Global × Vec TokenKind Global)) (key : List ℕ) → number_of (map shown es) key ≡ position_from (λ k. bytes_eq key k.items) 0 (keys_of es)
+number_from_keys es key = number_of_key es key ∙ position-from (λ k. bytes_eq key k.items) (keys_of es)

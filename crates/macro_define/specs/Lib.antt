@@ -9,3 +9,4 @@ pub mod Answers
 pub mod Expansion
 pub mod Gathered
 pub mod GatherAnswers
+pub mod Plain

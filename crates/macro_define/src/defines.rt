@@ -11,9 +11,9 @@ ghost use Rattle.macro_define.specs.Defines.{define_of, enclosed_define as enclo
 ghost use Rattle.macro_define.specs.Ends.{IsEnd, IsAtEnd};
 
 use crate::macros::{Macros, key, number_of};
+use free_scan::Scanner;
 use ground::{Dialect, Fault, FaultKind, Place, Refusal, Sign, Token, TokenKind, is_spelled};
 use std::alloc::{AllocError, Global};
-use std::collections::VecDeque;
 
 /// The number of macros that a text may have.
 const MACRO_LIMIT: usize = 4096;
@@ -73,27 +73,20 @@ pub fn define(
     dialect: Dialect,
     place: Place,
     macros: &mut Macros,
-    tokens: &mut VecDeque<Token>,
+    tokens: &mut Scanner<'_>,
 ) -> Result<(), Refusal>
-    ensures made { Came (define_of dialect place (table macros.old) tokens.old.items) result (tokens.new.items, table macros.new) }
-    ensures fewer { length tokens.new.items ≤ length tokens.old.items }
+    ensures made { Came (define_of dialect place (table macros.old) tokens.old.tokens) result (tokens.new.tokens, table macros.new) }
+    ensures fewer { OnOk result (length tokens.new.tokens ≤ length tokens.old.tokens) }
+    ensures fault { OnOk result (tokens.new.fault ≡ tokens.old.fault) }
 {
-    match next_token(tokens) {
+    match tokens.next()? {
         None => Ok(()),
-        Some(first) if is_open(&first.kind) => match next_token(tokens) {
+        Some(first) if is_open(&first.kind) => match tokens.next()? {
             None => Ok(()),
             Some(name) => define_named(alloc, dialect, place, true, name, macros, tokens),
         },
         Some(name) => define_named(alloc, dialect, place, false, name, macros, tokens),
     }
-}
-
-/// Takes the next token.
-pub fn next_token(tokens: &mut VecDeque<Token>) -> Option<Token>
-    ensures token { MatchOption result ((tokens.old.items ≡ []) × (tokens.new.items ≡ [])) (λ token. tokens.old.items ≡ token ∷ tokens.new.items) }
-    ensures fewer { length tokens.new.items ≤ length tokens.old.items }
-{
-    tokens.pop_front()
 }
 
 /// Takes what stands behind the name, which this token must be.
@@ -104,10 +97,11 @@ fn define_named(
     enclosed: bool,
     token: Token,
     macros: &mut Macros,
-    tokens: &mut VecDeque<Token>,
+    tokens: &mut Scanner<'_>,
 ) -> Result<(), Refusal>
-    ensures made { Came (named_define dialect place enclosed (table macros.old) token.place (name_in token.kind) tokens.old.items) result (tokens.new.items, table macros.new) }
-    ensures fewer { length tokens.new.items ≤ length tokens.old.items }
+    ensures made { Came (named_define dialect place enclosed (table macros.old) token.place (name_in token.kind) tokens.old.tokens) result (tokens.new.tokens, table macros.new) }
+    ensures fewer { OnOk result (length tokens.new.tokens ≤ length tokens.old.tokens) }
+    ensures fault { OnOk result (tokens.new.fault ≡ tokens.old.fault) }
 {
     let Token { kind, place: at } = token;
     let TokenKind::Word(name) = kind else {
@@ -139,12 +133,13 @@ fn define_enclosed(
     place: Place,
     name: Vec<u8>,
     macros: &mut Macros,
-    tokens: &mut VecDeque<Token>,
+    tokens: &mut Scanner<'_>,
 ) -> Result<(), Refusal>
-    ensures made { Came (enclosed_define_of place (table macros.old) name.items tokens.old.items) result (tokens.new.items, table macros.new) }
-    ensures fewer { length tokens.new.items ≤ length tokens.old.items }
+    ensures made { Came (enclosed_define_of place (table macros.old) name.items tokens.old.tokens) result (tokens.new.tokens, table macros.new) }
+    ensures fewer { OnOk result (length tokens.new.tokens ≤ length tokens.old.tokens) }
+    ensures fault { OnOk result (tokens.new.fault ≡ tokens.old.fault) }
 {
-    match next_token(tokens) {
+    match tokens.next()? {
         None => Ok(()),
         Some(comma) if is_comma(&comma.kind) => match enclosed_text(alloc, tokens)? {
             Enclosed::Closed(text) => Ok(keep(macros, name, text)?),
@@ -156,13 +151,14 @@ fn define_enclosed(
 }
 
 /// Takes the text up to the parenthesis that closes the define.
-fn enclosed_text(alloc: Global, tokens: &mut VecDeque<Token>) -> Result<Enclosed, AllocError>
-    ensures end { IfOk result (λ end. IsEnd (enclosed_text_of 0 [] tokens.old.items) end tokens.new.items) }
-    ensures fewer { length tokens.new.items ≤ length tokens.old.items }
+fn enclosed_text(alloc: Global, tokens: &mut Scanner<'_>) -> Result<Enclosed, AllocError>
+    ensures end { IfOk result (λ end. IsEnd (enclosed_text_of 0 [] tokens.old.tokens) end tokens.new.tokens) }
+    ensures fewer { OnOk result (length tokens.new.tokens ≤ length tokens.old.tokens) }
+    ensures fault { OnOk result (tokens.new.fault ≡ tokens.old.fault) }
 {
     let mut text = Vec::new(alloc);
     let mut opened = 0usize;
-    while let Some(token) = next_token(tokens) {
+    while let Some(token) = tokens.next()? {
         if ends_text(&token.kind) {
             return Ok(Enclosed::Broken);
         }
@@ -193,10 +189,11 @@ fn define_line(
     alloc: Global,
     name: Vec<u8>,
     macros: &mut Macros,
-    tokens: &mut VecDeque<Token>,
+    tokens: &mut Scanner<'_>,
 ) -> Result<(), Refusal>
-    ensures made { Came (line_define_of (table macros.old) name.items tokens.old.items) result (tokens.new.items, table macros.new) }
-    ensures fewer { length tokens.new.items ≤ length tokens.old.items }
+    ensures made { Came (line_define_of (table macros.old) name.items tokens.old.tokens) result (tokens.new.tokens, table macros.new) }
+    ensures fewer { OnOk result (length tokens.new.tokens ≤ length tokens.old.tokens) }
+    ensures fault { OnOk result (tokens.new.fault ≡ tokens.old.fault) }
 {
     let text = line_text(alloc, tokens)?;
     keep(macros, name, text)?;
@@ -204,28 +201,33 @@ fn define_line(
 }
 
 /// Takes the text up to the end of the line.
-fn line_text(alloc: Global, tokens: &mut VecDeque<Token>) -> Result<Vec<TokenKind>, AllocError>
-    ensures text { IfOk result (λ text. line_text_of [] tokens.old.items ≡ (text.items, tokens.new.items)) }
-    ensures fewer { length tokens.new.items ≤ length tokens.old.items }
+fn line_text(alloc: Global, tokens: &mut Scanner<'_>) -> Result<Vec<TokenKind>, AllocError>
+    ensures text { IfOk result (λ text. line_text_of [] tokens.old.tokens ≡ (text.items, tokens.new.tokens)) }
+    ensures fewer { OnOk result (length tokens.new.tokens ≤ length tokens.old.tokens) }
+    ensures fault { OnOk result (tokens.new.fault ≡ tokens.old.fault) }
 {
     let mut text = Vec::new(alloc);
-    while let Some(token) = next_in_line(tokens) {
+    while let Some(token) = next_in_line(tokens)? {
         text.push(token.kind)?;
     }
     Ok(text)
 }
 
 /// Takes the next token, if it stands before the end of the line.
-fn next_in_line(tokens: &mut VecDeque<Token>) -> Option<Token>
-    ensures token { MatchOption result ((tokens.new.items ≡ tokens.old.items) × IsAtEnd tokens.old.items)
-        (λ token. (tokens.old.items ≡ token ∷ tokens.new.items) × (ends_text_of token.kind ≡ false)) }
-    ensures fewer { length tokens.new.items ≤ length tokens.old.items }
+fn next_in_line(tokens: &mut Scanner<'_>) -> Result<Option<Token>, AllocError>
+    ensures token { IfOk result (λ next. MatchOption next ((tokens.new.tokens ≡ tokens.old.tokens) × IsAtEnd tokens.old.tokens)
+        (λ token. (tokens.old.tokens ≡ token ∷ tokens.new.tokens) × (ends_text_of token.kind ≡ false))) }
+    ensures fewer { OnOk result (length tokens.new.tokens ≤ length tokens.old.tokens) }
+    ensures fault { OnOk result (tokens.new.fault ≡ tokens.old.fault) }
 {
-    let next = tokens.front()?;
+    let Some(next) = tokens.next()? else {
+        return Ok(None);
+    };
     if ends_text(&next.kind) {
-        return None;
+        tokens.put_back(next)?;
+        return Ok(None);
     }
-    next_token(tokens)
+    Ok(Some(next))
 }
 
 /// Keeps a macro.

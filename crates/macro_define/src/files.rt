@@ -1,19 +1,20 @@
 // The files of a text, token by token, each include in its place.
-ghost use Rattle.std.specs.Prelude.{◌≡◌, ◌≤◌, ◌<◌, length, OnOk, Ok};
+ghost use Rattle.std.specs.Prelude.{◌≡◌, ◌≤◌, ◌<◌, [], length, IfOk, OnOk, Ok};
 ghost use Rattle.macro_define.specs.Answers.{Answers, Through};
-ghost use Rattle.macro_define.specs.Expansion.{GatherState, behind_name, define_token, end_of, file_made, include_made, part, plain_token, quoted_next, is_quoted as is_quoted_of, is_text_end as is_text_end_of};
+ghost use Rattle.macro_define.specs.Expansion.{GatherState, behind_name, define_token, end_of, file_made, include_made, part, plain_token, quoted_next};
 ghost use Rattle.macro_define.specs.Gathered.{Gathers, HasCause, IsUnasked, world};
+ghost use Rattle.macro_define.specs.Plain.{HasPassed};
 
-use crate::defines::{FirstWord, define, ends_line, first_word, next_token};
+use crate::defines::{FirstWord, define, ends_line, first_word};
 use crate::fetches::{fault_in, fetch_file, file_number, refusal_in};
 use crate::gathering::Gathering;
 use crate::macros::add_token;
+use crate::plain::{add_plain_lines, is_text_end};
 use crate::refusal::TextRefusal;
-use free_scan::scan;
+use free_scan::Scanner;
 use ground::{Dialect, Fault, Place, Text, Token, TokenKind};
 use ports::Library;
-use std::alloc::Global;
-use std::collections::VecDeque;
+use std::alloc::{AllocError, Global};
 
 /// The number of characters of a file's name in an include.
 const LONGEST_NAME: usize = 255;
@@ -81,12 +82,13 @@ pub fn add_file<L: Library>(
     ensures becomes { L.becomes library.old library.new }
     ensures cause { HasCause (L.faults library.old) (L.faults library.new) result }
 {
-    let scanned = scan(alloc, dialect, text, file_number(&gathering.files, name))?;
-    let mut tokens = VecDeque::from_vec(scanned.tokens);
-    let mut begins = true;
-    while let Some(token) = next_token(&mut tokens) {
+    let number = file_number(&gathering.files, name);
+    let mut tokens = Scanner::new(alloc, dialect, text, number);
+    let mut line = Vec::new(alloc);
+    let mut begins = pass_plain_lines(dialect, true, &mut tokens, &mut line, gathering)?;
+    while let Some(token) = tokens.next()? {
         let first = first_word(begins, &token.kind);
-        begins = ends_line(&token.kind);
+        let ended = ends_line(&token.kind);
         add_part(
             alloc,
             dialect,
@@ -99,8 +101,38 @@ pub fn add_file<L: Library>(
             &mut tokens,
             gathering,
         )?;
+        begins = pass_plain_lines(dialect, ended, &mut tokens, &mut line, gathering)?;
     }
-    end_file(alloc, name, scanned.fault)
+    let fault = tokens.fault()?;
+    end_file(alloc, name, fault)
+}
+
+/// Adds the tokens of the lines up to the next one that has to be looked at token by token, where a line begins. Whether one begins
+/// behind them.
+fn pass_plain_lines(
+    dialect: Dialect,
+    begins: bool,
+    tokens: &mut Scanner<'_>,
+    line: &mut Vec<Token>,
+    gathering: &mut Gathering,
+) -> Result<bool, AllocError>
+    requires { line.old.items ≡ [] }
+    ensures passed { IfOk result (HasPassed dialect begins tokens.old.tokens tokens.new.tokens gathering.old gathering.new) }
+    ensures fault { OnOk result (tokens.new.fault ≡ tokens.old.fault) }
+    ensures none { OnOk result (line.new.items ≡ []) }
+    ensures room { gathering.new.room ≡ gathering.old.room }
+{
+    if !begins {
+        return Ok(false);
+    }
+    add_plain_lines(
+        dialect,
+        &gathering.macros,
+        true,
+        tokens,
+        line,
+        &mut gathering.output,
+    )
 }
 
 /// Ends a file's tokens, at a fault of the scan if there is one.
@@ -125,14 +157,15 @@ fn add_part<L: Library>(
     name: &[u8],
     first: FirstWord,
     token: Token,
-    tokens: &mut VecDeque<Token>,
+    tokens: &mut Scanner<'_>,
     gathering: &mut Gathering,
 ) -> Result<(), TextRefusal>
     requires { gathering.old.room ≤ 4194304 }
     ensures made { Through (L.files library.old) (λ names. L.fetches library.old names library.new) (λ before after.
-        Gathers (part (include_made dialect depth name.now) dialect outermost name.now first token tokens.old.items (world gathering.old before))
-        result (Ok (tokens.new.items, world gathering.new after)) after) }
-    ensures fewer { length tokens.new.items ≤ length tokens.old.items }
+        Gathers (part (include_made dialect depth name.now) dialect outermost name.now first token tokens.old.tokens (world gathering.old before))
+        result (Ok (tokens.new.tokens, world gathering.new after)) after) }
+    ensures fewer { OnOk result (length tokens.new.tokens ≤ length tokens.old.tokens) }
+    ensures fault { OnOk result (tokens.new.fault ≡ tokens.old.fault) }
     ensures room { OnOk result (gathering.new.room ≤ 4194304) }
     ensures same { L.files library.new ≡ L.files library.old }
     ensures becomes { L.becomes library.old library.new }
@@ -140,7 +173,7 @@ fn add_part<L: Library>(
 {
     match first {
         FirstWord::Define => { add_define(alloc, dialect, name, token.place, tokens, gathering) }
-        FirstWord::Include => match next_name(tokens) {
+        FirstWord::Include => match next_name(tokens)? {
             Some((place, file)) => add_include(
                 alloc,
                 dialect,
@@ -158,25 +191,22 @@ fn add_part<L: Library>(
 }
 
 /// Takes the name of a file, which stands quoted with the place of its line.
-fn next_name(tokens: &mut VecDeque<Token>) -> Option<(Place, Text)>
-    ensures name { result ≡ quoted_next tokens.old.items }
-    ensures rest { tokens.new.items ≡ behind_name tokens.old.items }
-    ensures fewer { length tokens.new.items ≤ length tokens.old.items }
+fn next_name(tokens: &mut Scanner<'_>) -> Result<Option<(Place, Text)>, AllocError>
+    ensures name { IfOk result (λ name. name ≡ quoted_next tokens.old.tokens) }
+    ensures rest { OnOk result (tokens.new.tokens ≡ behind_name tokens.old.tokens) }
+    ensures fewer { OnOk result (length tokens.new.tokens ≤ length tokens.old.tokens) }
+    ensures fault { OnOk result (tokens.new.fault ≡ tokens.old.fault) }
 {
-    if !is_quoted(&tokens.front()?.kind) {
-        return None;
-    }
-    let Token { kind, place } = next_token(tokens)?;
+    let Some(Token { kind, place }) = tokens.next()? else {
+        return Ok(None);
+    };
     match kind {
-        TokenKind::Quoted(name) => Some((place, name)),
-        _ => None,
+        TokenKind::Quoted(name) => Ok(Some((place, name))),
+        kind => {
+            tokens.put_back(Token { kind, place })?;
+            Ok(None)
+        }
     }
-}
-
-fn is_quoted(kind: &TokenKind) -> bool
-    ensures { result ≡ is_quoted_of kind.now }
-{
-    matches!(kind, TokenKind::Quoted(_))
 }
 
 /// Keeps the macro of a define whose word stands at this place.
@@ -185,11 +215,12 @@ fn add_define(
     dialect: Dialect,
     name: &[u8],
     place: Place,
-    tokens: &mut VecDeque<Token>,
+    tokens: &mut Scanner<'_>,
     gathering: &mut Gathering,
 ) -> Result<(), TextRefusal>
-    ensures made { (a : Answers) → Gathers (define_token dialect name.now place tokens.old.items (world gathering.old a)) result (Ok (tokens.new.items, world gathering.new a)) a }
-    ensures fewer { length tokens.new.items ≤ length tokens.old.items }
+    ensures made { (a : Answers) → Gathers (define_token dialect name.now place tokens.old.tokens (world gathering.old a)) result (Ok (tokens.new.tokens, world gathering.new a)) a }
+    ensures fewer { OnOk result (length tokens.new.tokens ≤ length tokens.old.tokens) }
+    ensures fault { OnOk result (tokens.new.fault ≡ tokens.old.fault) }
     ensures room { gathering.new.room ≡ gathering.old.room }
     ensures unasked { IsUnasked result }
 {
@@ -225,10 +256,4 @@ fn add_plain(
         Ok(()) => Ok(()),
         Err(refusal) => Err(refusal_in(alloc, name, refusal)),
     }
-}
-
-fn is_text_end(kind: &TokenKind) -> bool
-    ensures { result ≡ is_text_end_of kind.now }
-{
-    matches!(kind, TokenKind::TextEnd)
 }

@@ -7,6 +7,7 @@ mod files;
 mod gathering;
 mod macros;
 mod output;
+mod plain;
 mod refusal;
 mod uses;
 mod whole_text;

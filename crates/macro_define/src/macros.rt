@@ -4,9 +4,11 @@ ghost use Rattle.std.specs.List.{list_any};
 ghost use Rattle.std.specs.Option.{option_copied};
 ghost use Rattle.macro_define.specs.Made.{Came, Goes, and_then, made};
 ghost use Rattle.macro_define.specs.Macros.{key as key_of, kind_made, macro_of as macro_of_kind, number_of as number_of_name, replaced, text_of, token_made};
+ghost use Rattle.macro_define.specs.Plain.{IsLone, lone_made};
 ghost use Rattle.macro_define.specs.Uses.{in_progress, still_made, table, used};
 
 use crate::output::Output;
+use crate::plain::may_name_macro;
 use crate::uses::{Use, Uses};
 use ground::{Dialect, Fault, FaultKind, Place, Refusal, Token, TokenKind};
 use indexmap::IndexMap;
@@ -14,6 +16,9 @@ use std::alloc::{AllocError, Global};
 
 /// The texts of macros by their names, in the order of the first define of each. A name is as it is compared.
 pub type Macros = IndexMap<Vec<u8>, Vec<TokenKind>>;
+
+/// Up to so many macros are looked through sooner than a name is hashed.
+const FEW: usize = 8;
 
 /// Adds what a token makes: itself, or what the macro that it names stands for (Kernighan's and Feldman's macros).
 pub fn add_token(
@@ -53,7 +58,23 @@ pub fn number_of(macros: &Macros, key: &[u8]) -> Option<usize>
     ensures number { result ≡ number_of_name (table macros.now) key.now }
     ensures within { IfSome result (λ n. n < length (table macros.now)) }
 {
+    if macros.len() <= FEW {
+        return number_among(macros, key);
+    }
     macros.get_index_of(key)
+}
+
+/// The same of a table that is looked through.
+#[tactic(auto, using(crate::proofs::TableLemmas::number_from_keys))]
+fn number_among(macros: &Macros, key: &[u8]) -> Option<usize>
+    ensures { result ≡ number_of_name (table macros.now) key.now }
+{
+    for (number, name) in macros.keys().enumerate() {
+        if key == name.as_slice() {
+            return Some(number);
+        }
+    }
+    None
 }
 
 /// The number of the macro that a token names.
@@ -103,12 +124,45 @@ fn replace(
     requires { number < length (table macros.now) }
     ensures { Came (replaced dialect (table macros.now) place (length (table macros.now)) [] number (made output.old)) result (made output.new) }
 {
+    // Most macros stand for one token.
+    if let Some(kind) = lone_kind(dialect, macros, number) {
+        return put_lone(kind, place, output);
+    }
     let mut uses = Uses::new(alloc);
     begin(dialect, macros, number, place, &mut uses, output)?;
     while let Some(innermost) = uses.pop() {
         go_on(alloc, dialect, macros, innermost, place, &mut uses, output)?;
     }
     Ok(())
+}
+
+/// The text of a macro.
+fn text_at(macros: &Macros, number: usize) -> Option<&[TokenKind]>
+    ensures { IfSome result (λ text. text.now ≡ text_of (table macros.now) number) }
+{
+    let (_, text) = macros.get_index(number)?;
+    Some(text.as_slice())
+}
+
+/// The one token of a macro's text, where it has no more and this names no macro.
+fn lone_kind(dialect: Dialect, macros: &Macros, number: usize) -> Option<&TokenKind>
+    ensures { IfSome result (λ kind. IsLone dialect (table macros.now) number kind.now) }
+{
+    match text_at(macros, number)? {
+        [kind] if !may_name_macro(dialect, macros, kind) => Some(kind),
+        _ => None,
+    }
+}
+
+/// Adds the one token that a macro stands for.
+fn put_lone(kind: &TokenKind, place: Place, output: &mut Output) -> Result<(), Refusal>
+    ensures { Came (lone_made place kind.now (made output.old)) result (made output.new) }
+{
+    output.count(place)?;
+    output.put(Token {
+        kind: kind.clone()?,
+        place,
+    })
 }
 
 /// Goes on with the innermost text, which is taken from the uses: adds what its next token makes, if it has one.

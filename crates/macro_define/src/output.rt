@@ -1,6 +1,7 @@
 // The tokens that are made, of which there are at most 200,000.
-ghost use Rattle.std.specs.Prelude.{◌≡◌, []};
+ghost use Rattle.std.specs.Prelude.{◌≡◌, ◌≤◌, ◌+◌, [], length, OnOk, vec_len, vec_capacity};
 ghost use Rattle.macro_define.specs.Made.{Came, counted, made, put as put_token};
+ghost use Rattle.macro_define.specs.Plain.{with_all};
 
 use ground::{Fault, Place, Refusal, Token};
 use std::alloc::{AllocError, Global};
@@ -39,13 +40,15 @@ impl Output {
         Ok(())
     }
 
-    /// Makes room for one more token. The list grows by a sixteenth at a time, since it lives on while the tree is made.
-    fn make_room(&mut self) -> Result<(), AllocError>
-        ensures { made self.new ≡ made self.old }
+    /// Makes room for so many more tokens. The list grows by a sixteenth at a time, since it lives on while the tree is made.
+    fn make_room(&mut self, more: usize) -> Result<(), AllocError>
+        ensures same { made self.new ≡ made self.old }
+        ensures room { OnOk result (vec_len self.new.tokens + more ≤ vec_capacity self.new.tokens) }
     {
         let count = self.tokens.len();
-        if count == self.tokens.capacity() {
-            self.tokens.reserve_exact(count / 16 + 64)?;
+        if more > self.tokens.capacity() - count {
+            self.tokens
+                .reserve_exact(more.saturating_add(count / 16 + 64))?;
         }
         Ok(())
     }
@@ -55,8 +58,21 @@ impl Output {
         ensures { Came (put_token token (made self.old)) result (made self.new) }
     {
         self.count(token.place)?;
-        self.make_room()?;
-        self.tokens.push(token).map_err(AllocError::from)?;
+        self.make_room(1)?;
+        self.tokens.push_reserved(token);
+        Ok(())
+    }
+
+    /// Counts tokens, no more than are left, and adds them.
+    pub fn put_all(&mut self, tokens: &mut Vec<Token>) -> Result<(), AllocError>
+        requires { length tokens.old.items ≤ self.old.left }
+        ensures put { OnOk result (made self.new ≡ with_all tokens.old.items (made self.old)) }
+        ensures none { OnOk result (tokens.new.items ≡ []) }
+    {
+        let count = tokens.len();
+        self.make_room(count)?;
+        self.tokens.append(tokens)?;
+        self.left -= count;
         Ok(())
     }
 }

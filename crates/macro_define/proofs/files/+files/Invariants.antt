@@ -1,6 +1,6 @@
 -- Each file that an include adds may nest one less. In a file, what it makes is what its tokens from here on make, of which
 -- there are at most n.
-use Rattle.std.proofs.Common.{◌≡◌, ℕ, ◌+◌, ◌*◌, ◌≤◌, length}
+use Rattle.std.proofs.Common.{◌≡◌, ℕ, ◌+◌, ◌*◌, ◌≤◌, [], length}
 use Rattle.macro_define.specs.Answers.{Through}
 use Rattle.macro_define.specs.Expansion.{file_made, from_tokens, include_made}
 use Rattle.macro_define.specs.Gathered.{world}
@@ -15,16 +15,17 @@ decreases-add_include g l = 3 * l.depth
 abbrev pub decreases-add_part : goal.decreases-add_part
 decreases-add_part g l = 3 * l.depth + 1
 
-abbrev pub invariant-add_file-loop-token : goal.invariant-add_file-loop-token
-invariant-add_file-loop-token g l =
-    (n : ℕ) × ((length l.tokens.items ≤ n)
+abbrev pub invariant-add_file-loop-line : goal.invariant-add_file-loop-line
+invariant-add_file-loop-line g l =
+    (n : ℕ) × ((length l.tokens.tokens ≤ n)
     × Through (g.L.Library.files l.fn.library) (λ names. g.L.Library.fetches l.fn.library names l.library) (λ before after.
     file_made l.dialect (include_made l.dialect l.depth l.name) l.outermost l.name l.text (world l.fn.gathering before)
-    ≡ from_tokens (include_made l.dialect l.depth l.name) l.dialect l.outermost l.name n l.begins l.tokens.items l.scanned.fault (world l.gathering after))
+    ≡ from_tokens (include_made l.dialect l.depth l.name) l.dialect l.outermost l.name n l.begins l.tokens.tokens l.tokens.fault (world l.gathering after))
     × (l.gathering.room ≤ 4194304)
     × (g.L.Library.files l.library ≡ g.L.Library.files l.fn.library)
     × g.L.Library.becomes l.fn.library l.library
-    × (g.L.Library.faults l.library ≡ g.L.Library.faults l.fn.library))
+    × (g.L.Library.faults l.library ≡ g.L.Library.faults l.fn.library)
+    × (l.line.items ≡ []))
 
-abbrev pub decreases-add_file-loop-token : goal.decreases-add_file-loop-token
-decreases-add_file-loop-token g l = length l.tokens.items
+abbrev pub decreases-add_file-loop-line : goal.decreases-add_file-loop-line
+decreases-add_file-loop-line g l = length l.tokens.tokens

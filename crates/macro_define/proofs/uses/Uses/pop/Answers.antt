@@ -1,5 +1,5 @@
 -- Behind the innermost text there is none of its macro.
-use Rattle.std.proofs.Common.{◌≡◌, ◌==◌, ◌++◌, ◌∷◌, [], List, Option, Some, None, IfSome, false, subst, ℕ}
+use Rattle.std.proofs.Common.{◌≡◌, ◌==◌, ◌++◌, List, Option, Some, None, IfSome, false, subst, ℕ}
 use Rattle.std.specs.List.{list_any}
 use Rattle.std.specs.Option.{option_to_list}
 use Rattle.std.specs.HashMap.{HashMap}

@@ -1,5 +1,5 @@
 -- The table has the new place, where the text then stands.
-use Rattle.std.proofs.Common.{◌≡◌, ◌==◌, ◌++◌, ◌∷◌, [], false, rules, sym, ◌∙◌, ap, subst, length, Some}
+use Rattle.std.proofs.Common.{◌≡◌, ◌==◌, ◌++◌, ◌∷◌, [], false, rules, ◌∙◌, ap, subst, length, Some}
 use Rattle.std.specs.Prelude.{nat_eq}
 use Rattle.std.specs.List.{list_any}
 use Rattle.std.specs.HashMap.{Updates}
