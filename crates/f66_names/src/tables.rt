@@ -54,14 +54,40 @@ pub fn tables_of<'a>(alloc: Global, sayings: &[Saying<'a>]) -> Result<Tables<'a>
     })
 }
 
-/// What a table has of a name. Most tables are empty, and take no hash of a name.
-pub(crate) fn value_of<'t, V>(table: &'t HashMap<&[u8], V>, name: &[u8]) -> Option<&'t V>
+/// Up to so many names are looked through sooner than a name is hashed.
+const FEW: usize = 16;
+
+/// What a table has of a name.
+pub fn value_of<'t, V>(table: &'t HashMap<&[u8], V>, name: &[u8]) -> Option<&'t V>
     ensures value { option_copied result ≡ get_by (λ k. bytes_eq name.now k.now) table.now }
 {
-    if table.is_empty() {
-        return None;
+    if table.len() <= FEW {
+        return value_among(table, name);
     }
     table.get(name)
+}
+
+/// The same of a table that is looked through.
+fn value_among<'t, V>(table: &'t HashMap<&[u8], V>, name: &[u8]) -> Option<&'t V>
+    ensures value { option_copied result ≡ get_by (λ k. bytes_eq name.now k.now) table.now }
+{
+    for (key, value) in table.iter() {
+        if are_same(name, key) {
+            return Some(value);
+        }
+    }
+    None
+}
+
+/// Whether two names are the same, byte by byte, since most of them differ in the first.
+fn are_same(one: &[u8], other: &[u8]) -> bool
+    ensures { result ≡ bytes_eq one.now other.now }
+{
+    match (one, other) {
+        ([], []) => true,
+        ([first, one @ ..], [second, other @ ..]) => first == second && are_same(one, other),
+        _ => false,
+    }
 }
 
 /// The names whose type a statement gives (X3.9-1966, section 7.2.1.6).

@@ -37,7 +37,7 @@ use crate::used::{has_misuse, part_rule};
 use f66_names::{
     Declarations, Saying, Use, has_bad_constant, has_bad_format, has_large_array, has_long_name,
     has_long_use, has_other_type, has_other_use, has_wrong_use, is_array, is_long, is_readable,
-    redeclares, stores_wrong, uses_of_statement,
+    redeclares, stores_wrong, uses_of_statement, value_of,
 };
 use f66_tree::{Name, StmtKind};
 use rule_table::Rule;
@@ -227,7 +227,7 @@ fn is_miscalled(names: &UnitNames, called: Option<&Name>) -> bool
 fn miscalls(names: &UnitNames, name: &Name) -> bool
     ensures { result ≡ miscalls (context_in names.now.declarations) (acts_in names.now.declarations) name.now }
 {
-    let first = names.roles.get(name.as_bytes()).copied();
+    let first = value_of(&names.roles, name.as_bytes()).copied();
     has_other_role(Some(Role::Subroutine), first)
         || (has_type(&names.declarations, name) || is_array(&names.declarations, name))
 }

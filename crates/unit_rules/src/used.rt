@@ -12,7 +12,7 @@ ghost use Rattle.unit_rules.specs.Roles.{misuses, role_of};
 use crate::UnitNames;
 use crate::roles::{Role, has_other_role, role_used};
 use f66_names::{
-    Manner, Saying, Use, collect_in_saying, has_long_use, has_other_use, has_wrong_use,
+    Manner, Saying, Use, collect_in_saying, has_long_use, has_other_use, has_wrong_use, value_of,
 };
 use f66_tree::Name;
 use rule_table::Rule;
@@ -84,7 +84,7 @@ fn misuses(names: &UnitNames, used: &Use) -> bool
 fn first_role(names: &UnitNames, name: &Name) -> Option<Role>
     ensures { result ≡ role_of (context_in names.now.declarations) (acts_in names.now.declarations) name.now }
 {
-    names.roles.get(name.as_bytes()).copied()
+    value_of(&names.roles, name.as_bytes()).copied()
 }
 
 /// Whether a name is used in another class than its first one (section 10.1).
