@@ -9,12 +9,13 @@ ghost use Rattle.f66_mentions.specs.UnitViews.{context_in};
 
 use crate::unit_names::UnitNames;
 use f66_tree::{Name, Par};
+use name_tables::value_of;
 
 /// The dimensions of a name, of which a variable has none.
 pub fn sizes_of<'a>(names: &UnitNames<'a>, name: &[u8]) -> &'a [Par]
     ensures { map par_of result.now ≡ sizes_of name.now (context_in names.now).notes }
 {
-    match names.dims.get(name) {
+    match value_of(&names.dims, name) {
         Some(sizes) => sizes,
         None => &[],
     }
@@ -24,7 +25,7 @@ pub fn sizes_of<'a>(names: &UnitNames<'a>, name: &[u8]) -> &'a [Par]
 pub fn is_dummy(names: &UnitNames, name: &[u8]) -> bool
     ensures { result ≡ is_dummy name.now (header_of names.now.unit.now.header) }
 {
-    names.dummies.contains_key(name)
+    value_of(&names.dummies, name).is_some()
 }
 
 fn is_text(name: &Name, text: &[u8]) -> bool

@@ -39,7 +39,7 @@ pub use sorts::{
 pub use store_rules::{
     has_bad_constant, has_bad_size, has_large_array, is_large, is_readable, stores_wrong,
 };
-pub use tables::{declared_in, typed_in, value_of};
+pub use tables::{declared_in, typed_in};
 pub use uses::{
     Use, collect_all, collect_in_saying, collect_pars, collect_target, uses_of_saying,
     uses_of_statement,

@@ -9,10 +9,10 @@ ghost use Rattle.f66_names.specs.Sorts.{form_by, name_form, is_array_name, type_
 ghost use Rattle.f66_names.specs.DeclarationViews.{context_in};
 
 use crate::declarations::Declarations;
-use crate::tables::value_of;
 use crate::{Arity, NameForm};
 use f66_tree::{Header, Name, TypeWord};
 use ground::Kind;
+use name_tables::value_of;
 
 /// What a name is: an array, an intrinsic function, or something else.
 pub fn form_of(declarations: &Declarations, name: &Name) -> NameForm

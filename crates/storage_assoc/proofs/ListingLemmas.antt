@@ -1,10 +1,9 @@
 -- One name more in a list of names with numbers.
-use Rattle.std.proofs.Common.{◌≡◌, ◌<◌, ◌+◌, ◌&&◌, ◌||◌, inl, inr, ℕ, zero, suc, Bool, true, false, cond, List, [], ◌∷◌, ◌++◌, length, Option, None, Some, refl, sym, ap, ◌∙◌, arith}
+use Rattle.std.proofs.Common.{◌≡◌, ◌<◌, ◌+◌, ◌&&◌, ◌||◌, inl, inr, ℕ, Bool, true, false, cond, List, [], ◌∷◌, ◌++◌, length, Option, None, Some, refl, sym, ap, ◌∙◌, arith}
 use Rattle.std.proofs.lemmas.Bool.{cases_lt}
 use Rattle.std.proofs.lemmas.List.{get_or_append_left, length-append}
 use Rattle.std.proofs.Math.Seq.{get_or-append_seam}
 use Rattle.std.proofs.lemmas.Slice.Eq.{bytes_eq-Decides}
-use Rattle.std.specs.List.{list_any}
 use Rattle.std.specs.Str.{bytes_eq}
 use Rattle.f66_tree.specs.Syntax.{Text}
 use Rattle.storage_assoc.specs.Listings.{AreNumberedFrom, is_found, name_at}
@@ -16,10 +15,6 @@ found_or false false n None e = refl
 found_or false false n (Some m) e = refl
 found_or true false n o e = absurd (cc)
 found_or false true n o e = absurd (cc)
-
-or_true : (b : Bool) → (b || true) ≡ true
-or_true true = refl
-or_true false = refl
 
 without : (a w : Bool) → (a || (w && false)) ≡ a
 without true w = refl
@@ -46,37 +41,6 @@ found_already find y v listed q = by (bytes_eq q y) refl v
         let there : is_found (find q) ≡ true = ap (λ x. is_found (find x)) ((bytes_eq-Decides q y).0 e) ∙ listed in
         there ∙ sym (ap (λ o. o || (w && bytes_eq q y)) there)
     by false e w = sym (ap (λ b. is_found (find q) || (w && b)) e ∙ without (is_found (find q)) w)
-
--- ---- a name among those listed ----
-
-any_behind : (x : Text) (xs : List Text) (q : Text) (b : Bool) → bytes_eq q x ≡ b → list_any (bytes_eq q) (x ∷ xs) ≡ true → (list_any (bytes_eq q) xs ≡ true → (k : ℕ) × (k < length xs) × (name_at xs k ≡ q)) →
-    (k : ℕ) × (k < length (x ∷ xs)) × (name_at (x ∷ xs) k ≡ q)
-any_behind x xs q true e some behind = (0, omega arith, sym ((bytes_eq-Decides q x).0 e))
-any_behind x xs q false e some behind =
-    let o = behind (sym (ap (λ b. b || list_any (bytes_eq q) xs) e) ∙ some) in
-    (suc o.0, (let h = o.1 in omega (arith, h)), o.2)
-
-any_at : (xs : List Text) (q : Text) → list_any (bytes_eq q) xs ≡ true → (k : ℕ) × (k < length xs) × (name_at xs k ≡ q)
-any_at [] q some = cc
-any_at (x ∷ xs) q some = any_behind x xs q (bytes_eq q x) refl some (any_at xs q)
-
-at_any : (xs : List Text) (k : ℕ) (q : Text) → k < length xs → name_at xs k ≡ q → list_any (bytes_eq q) xs ≡ true
-at_any [] k q within same = absurd (omega arith)
-at_any (x ∷ xs) zero q within same = ap (λ b. b || list_any (bytes_eq q) xs) ((bytes_eq-Decides q x).1 (sym same))
-at_any (x ∷ xs) (suc k) q within same = ap (λ b. bytes_eq q x || b) (at_any xs k q (omega arith) same) ∙ or_true (bytes_eq q x)
-
--- a name is among those listed where it has a number
-pub among_is_found : (first : ℕ) (names : List Text) (find : Text → Option ℕ) → AreNumberedFrom first names find → (q : Text) → list_any (bytes_eq q) names ≡ is_found (find q)
-among_is_found first names find l q = by (list_any (bytes_eq q) names) refl (find q) refl
-  where
-    by : (b : Bool) → list_any (bytes_eq q) names ≡ b → (o : Option ℕ) → find q ≡ o → b ≡ is_found o
-    by true e o f =
-        let at = any_at names q e in
-        ap is_found (sym (ap find (sym at.2) ∙ l.has at.0 at.1)) ∙ ap is_found f
-    by false e None f = refl
-    by false e (Some i) f =
-        let at = l.only q i f in
-        sym e ∙ at_any names at.0 q at.1 at.3
 
 module _ (first : ℕ) (names : List Text) (find find' : Text → Option ℕ) (y : Text) (l : AreNumberedFrom first names find) (absent : find y ≡ None)
     (updated : (q : Text) → find' q ≡ cond (bytes_eq y q) (Some (first + length names)) (find q)) where

@@ -1,9 +1,9 @@
 // Names with numbers, in the order in which they are listed.
-ghost use Rattle.std.specs.Prelude.{◌≡◌, ◌<◌, ◌^◌, ◌||◌, ℕ, List, OnOk, IfOk, false};
-ghost use Rattle.std.specs.List.{list_any};
+ghost use Rattle.std.specs.Prelude.{◌≡◌, ◌<◌, ◌^◌, ◌||◌, ℕ, List, OnOk, false};
 ghost use Rattle.std.specs.Str.{bytes_eq};
 ghost use Rattle.storage_assoc.specs.Listings.{IsListing, has_name};
 
+use name_tables::value_of;
 use std::alloc::{AllocError, Global};
 use std::collections::HashMap;
 
@@ -25,24 +25,11 @@ pub fn no_names<'a>(alloc: Global) -> Listing<'a>
     }
 }
 
-/// Up to so many names a list is looked through sooner than its table.
-const FEW: usize = 8;
-
 /// Whether a name is listed.
 pub(crate) fn is_listed(listing: &Listing, name: &[u8]) -> bool
-    requires { (first : ℕ) × IsListing first listing.now }
     ensures { result ≡ has_name listing.now name.now }
 {
-    if listing.names.len() <= FEW {
-        return is_among(&listing.names, name);
-    }
-    listing.numbers.contains_key(name)
-}
-
-fn is_among(names: &[&[u8]], name: &[u8]) -> bool
-    ensures { result ≡ list_any (λ n. bytes_eq name.now n.now) names.now }
-{
-    names.iter().any(|other| name == *other)
+    value_of(&listing.numbers, name).is_some()
 }
 
 /// Lists a name, where it is not yet listed.

@@ -13,8 +13,9 @@ ghost use Rattle.unit_rules.specs.Roles.{role_by, role_used, role_given, role_ca
 use crate::called::called_in_saying;
 use crate::judged::judged_uses_into;
 use crate::more_uses::more_uses_of_saying;
-use f66_names::{Declarations, Manner, NameForm, Saying, Use, form_of, value_of};
+use f66_names::{Declarations, Manner, NameForm, Saying, Use, form_of};
 use f66_tree::{Header, Name};
+use name_tables::value_of;
 use rule_table::note;
 use std::alloc::{AllocError, Global};
 use std::collections::HashMap;
@@ -143,6 +144,10 @@ fn note_use<'a>(
         ((q : List ℕ) → get_by (λ k. bytes_eq q k.now) table.new
         ≡ option_or (get_by (λ k. bytes_eq q k.now) table.old) (role_given (context_in declarations.now) q (use_of used.now))) }
 {
+    // A store says nothing of a name's class.
+    if let Manner::Stored(_) = used.manner {
+        return Ok(());
+    }
     // Most names have their first class by then.
     if value_of(table, used.name.as_bytes()).is_some() {
         return Ok(());

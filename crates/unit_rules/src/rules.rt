@@ -37,9 +37,10 @@ use crate::used::{has_misuse, part_rule};
 use f66_names::{
     Declarations, Saying, Use, has_bad_constant, has_bad_format, has_large_array, has_long_name,
     has_long_use, has_other_type, has_other_use, has_wrong_use, is_array, is_long, is_readable,
-    redeclares, stores_wrong, uses_of_statement, value_of,
+    redeclares, stores_wrong, uses_of_statement,
 };
 use f66_tree::{Name, StmtKind};
+use name_tables::value_of;
 use rule_table::Rule;
 use std::alloc::{AllocError, Global};
 

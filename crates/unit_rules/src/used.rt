@@ -12,9 +12,10 @@ ghost use Rattle.unit_rules.specs.Roles.{misuses, role_of};
 use crate::UnitNames;
 use crate::roles::{Role, has_other_role, role_used};
 use f66_names::{
-    Manner, Saying, Use, collect_in_saying, has_long_use, has_other_use, has_wrong_use, value_of,
+    Manner, Saying, Use, collect_in_saying, has_long_use, has_other_use, has_wrong_use,
 };
 use f66_tree::Name;
+use name_tables::value_of;
 use rule_table::Rule;
 use std::alloc::AllocError;
 
@@ -73,6 +74,10 @@ fn used_rule(
 fn misuses(names: &UnitNames, used: &Use) -> bool
     ensures { result ≡ misuses (context_in names.now.declarations) (acts_in names.now.declarations) (use_of used.now) }
 {
+    // A store says nothing of a name's class.
+    if let Manner::Stored(_) = used.manner {
+        return false;
+    }
     let first = first_role(names, used.name);
     match (first, used.manner) {
         // Most names are variables, and stand alone.

@@ -1,6 +1,6 @@
 -- Each call goes on behind the first byte.
 use Rattle.std.proofs.Common.{length}
-use Rattle.f66_names.proofs.tables.+are_same.Given as goal
+use Rattle.name_tables.proofs.+are_same.Given as goal
 
 abbrev pub decreases-are_same : goal.decreases-are_same
 decreases-are_same l = length l.one.now
