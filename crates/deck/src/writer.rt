@@ -9,7 +9,7 @@ ghost use Rattle.deck.specs.LongTexts.{Refuses, fault_of_deck, fault_of_header, 
 use card_writer::cards_of;
 use f66_tree::{Header, Stmt, Unit};
 use ground::{Fault, Place, Refusal};
-use stmt_text::{header_text, statement_text};
+use stmt_text::{StatementText, header_text, write_statement};
 
 /// An END line (X3.9-1966, section 3.2.2).
 const END_LINE: &[u8] = b"      END\n";
@@ -55,7 +55,7 @@ pub fn push_unit(unit: &Unit, out: &mut Vec<u8>) -> Result<(), Refusal>
     ensures begun { OnErr result (Begins out.old.items out.new.items) }
 {
     push_header(&unit.header, unit.place, out)?;
-    push_statements(&unit.statements, out)?;
+    push_statements(&unit.statements, &mut StatementText::new(), out)?;
     out.extend_from_slice(END_LINE)?;
     Ok(())
 }
@@ -76,7 +76,11 @@ fn push_header(header: &Header, place: Place, out: &mut Vec<u8>) -> Result<(), R
     Ok(())
 }
 
-fn push_statements(statements: &[Stmt], out: &mut Vec<u8>) -> Result<(), Refusal>
+fn push_statements(
+    statements: &[Stmt],
+    text: &mut StatementText,
+    out: &mut Vec<u8>,
+) -> Result<(), Refusal>
     requires labels { All HasCardLabel statements.now }
     ensures written { OnOk result (out.new.items ≡ out.old.items ++ flat_map statement_cards (lines_of statements.now)) }
     ensures fits { OnOk result (first_fault fault_of_line (lines_of statements.now) ≡ None) }
@@ -84,22 +88,23 @@ fn push_statements(statements: &[Stmt], out: &mut Vec<u8>) -> Result<(), Refusal
     ensures begun { OnErr result (Begins out.old.items out.new.items) }
 {
     for statement in statements {
-        push_one(statement, out)?;
+        push_one(statement, text, out)?;
     }
     Ok(())
 }
 
-fn push_one(statement: &Stmt, out: &mut Vec<u8>) -> Result<(), Refusal>
+/// Adds the cards of one statement, whose text takes the place of another's.
+fn push_one(statement: &Stmt, text: &mut StatementText, out: &mut Vec<u8>) -> Result<(), Refusal>
     requires label { HasCardLabel statement.now }
     ensures written { OnOk result (out.new.items ≡ out.old.items ++ statement_cards (line_of statement.now)) }
     ensures fits { OnOk result (fault_of_line (line_of statement.now) ≡ None) }
     ensures refused { IfErr result (Refuses (fault_of_line (line_of statement.now))) }
     ensures unchanged { OnErr result (out.new.items ≡ out.old.items) }
 {
-    let Some(text) = statement_text(&statement.kind) else {
+    if write_statement(text, &statement.kind).is_none() {
         return Err(too_long(statement.place));
-    };
-    cards_of(statement.label.unwrap_or(0), &text, out)?;
+    }
+    cards_of(statement.label.unwrap_or(0), text, out)?;
     Ok(())
 }
 

@@ -12,5 +12,5 @@ mod writer;
 
 pub use expressions::expression_text;
 pub use headers::header_text;
-pub use statements::statement_text;
+pub use statements::{statement_text, write_statement};
 pub use writer::StatementText;

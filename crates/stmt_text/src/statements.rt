@@ -21,9 +21,19 @@ pub fn statement_text(kind: &StmtKind) -> Option<StatementText>
     ensures text { IfSome result (λ text. text.items ≡ text_of_statement (act_of kind.now)) }
 {
     let mut text = StatementText::new();
-    push_statement(&mut text, kind)?;
-    prove!(text.len() <= 1320);
+    write_statement(&mut text, kind)?;
     Some(text)
+}
+
+/// The same in place of what a text has. One text serves many statements so.
+pub fn write_statement(text: &mut StatementText, kind: &StmtKind) -> Option<()>
+    ensures fits { IsSome result ↔ (length (text_of_statement (act_of kind.now)) ≤ 1320) }
+    ensures text { IsSome result → text.new.items ≡ text_of_statement (act_of kind.now) }
+{
+    text.clear();
+    push_statement(text, kind)?;
+    prove!(text.len() <= 1320);
+    Some(())
 }
 
 fn push_statement(out: &mut StatementText, kind: &StmtKind) -> Option<()>
