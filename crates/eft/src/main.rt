@@ -14,7 +14,14 @@ const BLOCK: usize = 65_536;
 // has at most 4,096.
 const LINES: usize = 8_192;
 
+// How large a block is taken and given back before all others. The C library asks the system for each block that is larger than the
+// largest one that came back to it, and gives it back to the system. Smaller ones it keeps, so that lists which are gone lend their
+// pages to those that come.
+const KEPT: usize = 16_777_216;
+
 fn main(rt: HostRuntime) -> ExitCode {
+    // Where there is no room for it, things go on as they would without it.
+    let _ = Vec::<u8>::with_capacity(rt.alloc(), KEPT);
     let mut told = Vec::new(rt.alloc());
     let status = match run(&rt, &mut told) {
         Ok(status) => status,
