@@ -187,6 +187,7 @@ impl<'a> Scanner<'a> {
     pub fn take_line(&mut self, line: &mut Vec<Token>) -> Result<(), AllocError>
         requires { line.old.items ≡ [] }
         ensures tokens { OnOk result (self.old.tokens ≡ line.new.items ++ self.new.tokens) }
+        ensures some { OnOk result (line.new.items ≡ [] → self.old.tokens ≡ []) }
         ensures fault { OnOk result (self.new.fault ≡ self.old.fault) }
     {
         fetch(
