@@ -4,7 +4,7 @@ use Rattle.std.specs.List.{AllByRecursion, Contains}
 use Rattle.ground.specs.declared.place.Place.{Place}
 use Rattle.f66_tree.specs.Syntax.{Text, Header, Line, Routine}
 use Rattle.f66_tree.specs.Units.{Context, is_main, name_of, notes_of}
-use Rattle.f66_program.specs.Mentions.{Mention, AVariable, mentions_in}
+use Rattle.f66_program.specs.Mentions.{Mention, AVariable, context_of, mentions_in}
 use Rattle.rat_tree.specs.Syntax.{RatRoutine}
 use Rattle.rat_check.specs.Parts.{no_label, Part, with_labels, unit_parts}
 use Rattle.rat_lower.specs.Code.{have_switch, all_code, ends_itself, end_unless, declared_if}
@@ -109,7 +109,7 @@ module _ (u : RatRoutine) (r : Routine) (m : IsMadeOf u r) where
   lacks false e = tt
 
   pub spared : Spared spare (said_routine u) r
-  spared = record { header = m.header; notes = notes; heard = heard; told = told; lacks = lacks (have_switch u.body) refl }
+  spared = record { header = m.header; notes = notes; heard = heard (context_of r); told = told (context_of r); lacks = lacks (have_switch u.body) refl }
 
   abbrev pub pair : Pair
   pair = record { spare = spare; said = said_routine u; made = r; spared = spared }

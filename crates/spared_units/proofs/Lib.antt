@@ -12,3 +12,4 @@ pub mod Rules
 pub mod Limit
 pub mod Numbers
 pub mod Wholes
+pub mod TwinUnits

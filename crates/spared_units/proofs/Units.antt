@@ -93,7 +93,7 @@ module _ (spare : Option Text) (s r : Routine) (h : Spared spare s r) where
   same_mentions lines = each_same _ _ (λ t. act_mentioned (context_of r) (context_of s) same_sizes t.act) lines
 
   pub heard : (m : Mention) → Among (mentions_of_lines (context_of r) r.lines) m → is_spare spare m ⊎ Among (mentions_of_lines (context_of s) s.lines) m
-  heard m k = elim (h.heard (context_of r) m (contained (mentions_of_lines (context_of r) r.lines) m k)) [
+  heard m k = elim (h.heard m (contained (mentions_of_lines (context_of r) r.lines) m k)) [
     | inl e ↦ inl e
     | inr c ↦ inr (subst (λ ms. Among ms m) (same_mentions s.lines) (among (mentions_of_lines (context_of r) s.lines) m c))
   ]
@@ -101,7 +101,7 @@ module _ (spare : Option Text) (s r : Routine) (h : Spared spare s r) where
   pub told : (m : Mention) → Among (mentions_of_lines (context_of s) s.lines) m → Among (mentions_of_lines (context_of r) r.lines) m
   told m k =
       among (mentions_of_lines (context_of r) r.lines) m
-      (h.told (context_of r) m (contained (mentions_of_lines (context_of r) s.lines) m (subst (λ ms. Among ms m) (sym (same_mentions s.lines)) k)))
+      (h.told m (contained (mentions_of_lines (context_of r) s.lines) m (subst (λ ms. Among ms m) (sym (same_mentions s.lines)) k)))
 
   -- a block is named in both
   pub same_blocks : (b : Option Text) → unit_names_block b r ≡ unit_names_block b s

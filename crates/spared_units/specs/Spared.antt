@@ -4,7 +4,7 @@ use Rattle.std.specs.List.{Contains, flat_map, list_any}
 use Rattle.f66_tree.specs.declared.declaration.TypeWord.TheVariants.{Integer}
 use Rattle.f66_tree.specs.Syntax.{Text, Typed, Line, Routine}
 use Rattle.f66_tree.specs.Units.{Note, Context, name_of, notes_of}
-use Rattle.f66_program.specs.Mentions.{Mention, AVariable, ACall, AKnown, mentions_in, is_dummy, declares}
+use Rattle.f66_program.specs.Mentions.{Mention, AVariable, ACall, AKnown, context_of, mentions_in, is_dummy, declares}
 
 -- INTEGER spare
 abbrev pub spare_note : Text → Note
@@ -44,8 +44,8 @@ LacksIfAny s (Some y) = Lacks s y
 pub record Spared (spare : Option Text) (s r : Routine) : Type 0 where
   pub header : r.header ≡ s.header
   pub notes : notes_of r.lines ≡ with_spare spare (notes_of s.lines)
-  pub heard : (c : Context) (m : Mention) → Contains (mentions_of_lines c r.lines) m → is_spare spare m ⊎ Contains (mentions_of_lines c s.lines) m
-  pub told : (c : Context) (m : Mention) → Contains (mentions_of_lines c s.lines) m → Contains (mentions_of_lines c r.lines) m
+  pub heard : (m : Mention) → Contains (mentions_of_lines (context_of r) r.lines) m → is_spare spare m ⊎ Contains (mentions_of_lines (context_of r) s.lines) m
+  pub told : (m : Mention) → Contains (mentions_of_lines (context_of r) s.lines) m → Contains (mentions_of_lines (context_of r) r.lines) m
   pub lacks : LacksIfAny s spare
 
 -- a unit, and the one that it became
@@ -60,3 +60,15 @@ said_units ps = map (λ p. p.said) ps
 
 abbrev pub made_units : List Pair → List Routine
 made_units ps = map (λ p. p.made) ps
+
+-- two units that say the same
+pub record Twins : Type 0 where
+  pub one : Routine
+  pub other : Routine
+  pub same : Spared None one other
+
+abbrev pub ones : List Twins → List Routine
+ones ts = map (λ t. t.one) ts
+
+abbrev pub others : List Twins → List Routine
+others ts = map (λ t. t.other) ts

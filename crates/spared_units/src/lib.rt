@@ -3,4 +3,4 @@
 
 mod laws;
 
-pub use laws::{spared_is_well, spared_is_whole};
+pub use laws::{spared_is_well, spared_is_whole, twins_link};
