@@ -1,1 +1,5 @@
--- The proofs of rat_said.
+-- The lemmas of rat_said.
+pub mod Voices
+pub mod Telling
+pub mod BriefUnits
+pub mod PartsSaid

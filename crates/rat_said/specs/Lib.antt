@@ -1,2 +1,4 @@
 -- The definitions that the contracts of rat_said cite.
 pub mod Said
+pub mod Brief
+pub mod Seen

@@ -83,7 +83,11 @@ fn add_sayings(
     Ok(())
 }
 
-fn add(part: &Part, kind: StmtKind, statements: &mut List<Stmt>) -> Result<(), AllocError>
+pub(crate) fn add(
+    part: &Part,
+    kind: StmtKind,
+    statements: &mut List<Stmt>,
+) -> Result<(), AllocError>
     ensures { OnOk result (lines_of statements.new.items ≡ lines_of statements.old.items ++ said_line (part_of part.now) (act_of kind) ∷ []) }
 {
     statements.push(Stmt {
@@ -95,7 +99,7 @@ fn add(part: &Part, kind: StmtKind, statements: &mut List<Stmt>) -> Result<(), A
 }
 
 /// A statement that says the same.
-fn kind_said(alloc: Global, saying: &Saying) -> Result<StmtKind, AllocError>
+pub(crate) fn kind_said(alloc: Global, saying: &Saying) -> Result<StmtKind, AllocError>
     ensures { IfOk result (λ kind. act_of kind ≡ act_said saying.now) }
 {
     match *saying {
@@ -130,7 +134,7 @@ fn kind_said(alloc: Global, saying: &Saying) -> Result<StmtKind, AllocError>
     }
 }
 
-fn copy_header(alloc: Global, header: &Header) -> Result<Header, AllocError>
+pub(crate) fn copy_header(alloc: Global, header: &Header) -> Result<Header, AllocError>
     ensures { IfOk result (λ copy. header_of copy ≡ header_of header.now) }
 {
     match header {
