@@ -56,16 +56,21 @@ pub all_clean : (us : List RatRoutine) (n : ℕ) → length us ≤ n → ((v : �
 all_clean us n e h = λ k d lt. h k (get_or us k d) (omega (arith, e, lt)) (slice_get-get_or us k d lt)
 
 -- what one unit more says
+pub said_more : (units : List RatUnit) (i : ℕ) (u : RatUnit) → i < length units → u ≡ get_or units i u →
+    map said_routine (map rat_routine_of (take (i + 1) units)) ≡ map said_routine (map rat_routine_of (take i units)) ++ said_routine (rat_routine_of u) ∷ []
+said_more units i u lt is =
+    ap (map said_routine) (ap (map rat_routine_of) (take_more units i u lt ∙ ap (λ y. take i units ++ y ∷ []) (sym is)) ∙ map-append rat_routine_of (take i units) (u ∷ []))
+    ∙ map-append said_routine (map rat_routine_of (take i units)) (rat_routine_of u ∷ [])
+
 pub one_said : (said : List AUnit) (one : AUnit) (units : List RatUnit) (i : ℕ) (u : RatUnit) → i < length units → u ≡ get_or units i u → map routine_of said ≡ map said_routine (map rat_routine_of (take i units)) →
     routine_of one ≡ said_routine (rat_routine_of u) → map routine_of (said ++ one ∷ []) ≡ map said_routine (map rat_routine_of (take (i + 1) units))
 one_said said one units i u lt is e f =
     map-append routine_of said (one ∷ []) ∙ ap (λ rs. rs ++ routine_of one ∷ []) e ∙ ap (λ r. map said_routine (map rat_routine_of (take i units)) ++ r ∷ []) f
-    ∙ sym (map-append said_routine (map rat_routine_of (take i units)) (rat_routine_of u ∷ []))
-    ∙ ap (map said_routine) (sym (map-append rat_routine_of (take i units) (u ∷ [])) ∙ ap (map rat_routine_of) (sym (take_more units i u lt ∙ ap (λ y. take i units ++ y ∷ []) (sym is))))
+    ∙ sym (said_more units i u lt is)
 
 -- ---- a program ----
 
-unmapped : {X Y : Type 0} (P : Y → Type 0) (f : X → Y) (xs : List X) → All P (map f xs) → All (λ x. P (f x)) xs
+pub unmapped : {X Y : Type 0} (P : Y → Type 0) (f : X → Y) (xs : List X) → All P (map f xs) → All (λ x. P (f x)) xs
 unmapped P f xs h = λ k d lt. (let many = length-map xs f in subst P (get_or-map f xs k d (f d) lt) (h k (f d) (omega (arith, lt, many))))
 
 module _ (said : List AUnit) (us : List RatRoutine) (e : map routine_of said ≡ map said_routine us) (clean : AreClean us) where

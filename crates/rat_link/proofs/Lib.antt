@@ -4,3 +4,4 @@ pub mod ReadyLemmas
 pub mod CheckLemmas
 pub mod UntiedLemmas
 pub mod OneFault
+pub mod BriefLemmas

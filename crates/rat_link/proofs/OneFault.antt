@@ -5,7 +5,6 @@ use Rattle.std.proofs.lemmas.List.{take_all}
 use Rattle.std.proofs.lemmas.List.Elements.{All-map}
 use Rattle.std.proofs.lemmas.Option.{none-some, slice_get_within, get_or_from_slice_get}
 use Rattle.ground.specs.declared.fault.Fault.{Fault}
-use Rattle.f66_tree.specs.Syntax.{Routine}
 use Rattle.f66_soundness.proofs.KindLemmas.{some_same}
 use Rattle.f66_program.specs.Association.{IsBadUnit}
 use Rattle.f66_program.specs.Linking.{Program, first_of, place_of_part}

@@ -3,3 +3,4 @@ pub mod Limits
 pub mod Linking
 pub mod Ties
 pub mod Laws
+pub mod Briefs

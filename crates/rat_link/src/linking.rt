@@ -41,7 +41,7 @@ pub fn link_said(alloc: Global, said: &[Unit], finish: Place) -> Result<(), Refu
 }
 
 /// How many storage units the units have where they link.
-fn linked_storage(alloc: Global, said: &[Unit], finish: Place) -> Result<usize, Refusal>
+pub(crate) fn linked_storage(alloc: Global, said: &[Unit], finish: Place) -> Result<usize, Refusal>
     requires ready { All (λ u. IsReady (routine_of u)) said.now }
     requires well { All (λ u. ¬ IsBadUnit (routine_of u)) said.now }
     ensures units { IfOk result (HasUnits (program_of said.now finish).units) }

@@ -1,13 +1,16 @@
--- What a unit says that its rules accept is ready.
-use Rattle.std.proofs.Common.{sym, subst}
-use Rattle.f66_program.specs.Association.{IsBadUnit}
-use Rattle.storage_assoc.specs.Naming.{IsReady}
+-- What a unit says in brief that its rules accept is ready, and has a good association where the unit has.
+use Rattle.f66_tree.specs.Views.{routine_of}
 use Rattle.rat_tree.specs.Views.{rat_routine_of}
+use Rattle.rat_said.specs.Said.{said_routine}
+use Rattle.rat_link.proofs.BriefLemmas.{brief_ready, said_well}
 use Rattle.rat_link.proofs.ReadyLemmas.{said_is_ready}
 use Rattle.rat_link.proofs.checking.check_one.Goals as goal
 
 pub check_association-requires : goal.check_association-requires
-check_association-requires c = record { ready = subst IsReady (sym c.in_ok-said.ensures) (said_is_ready (rat_routine_of c.args.unit.now) c.in_ok-_labels.ensures.fault) }
+check_association-requires c =
+    let u = rat_routine_of c.args.unit.now in
+    record { ready = brief_ready (said_routine u) (routine_of c.in_ok-brief.brief) c.in_ok-brief.ensures (said_is_ready u c.in_ok-_labels.ensures.fault) }
 
-pub returns-clause-clean : goal.returns-clause-clean
-returns-clause-clean c = record { rules = c.in_ok-_labels.ensures.fault; well = subst (λ r. ¬ IsBadUnit r) c.in_ok-said.ensures c.in_ok-check_association.ensures.well }
+pub returns-in-Ok-clause-clean : goal.returns-in-Ok-clause-clean
+returns-in-Ok-clause-clean c =
+    record { rules = c.in_ok-_labels.ensures.fault; well = said_well (said_routine (rat_routine_of c.args.unit.now)) (routine_of c.in_ok-brief.brief) c.in_ok-brief.ensures c.in-Ok.ensures.well }
