@@ -3,6 +3,7 @@ pub mod Table
 pub mod ParseTable
 pub mod LookaheadTables
 pub mod Words
+pub mod WordLengths
 pub mod Limits
 pub mod Ratfor
 pub mod RatforSound

@@ -2,6 +2,7 @@
 
 ghost use Rattle.std.specs.Prelude.{◌≡◌, map};
 ghost use Rattle.std.specs.List.{list_all};
+ghost use Rattle.rat_parse_table.specs.WordLengths.{of_length};
 ghost use Rattle.rat_parse_table.specs.Words.{seen, word_terminal, reserved, terminal_in, is_spelled as spells, is_field_word as field_word, is_edit_word as edit_word, is_letter as letter, is_digit as digit, is_octal as octal, has_octal_digits as octal_digits, number_terminal, text_terminal, sign_terminal};
 
 use crate::table::Terminal;
@@ -22,55 +23,87 @@ pub fn terminal_at(token: &Token) -> Terminal
     }
 }
 
-/// How many letters each reserved word has at least.
-const SHORTEST: usize = 2;
-
 /// A reserved word in capitals, and its terminal.
 type Reserved = (&'static [u8], Terminal);
 
-static WORDS: [Reserved; 36] = [
-    (b"SUBROUTINE", Terminal::Subroutine),
-    (b"FUNCTION", Terminal::Function),
-    (b"BLOCK", Terminal::Block),
-    (b"DATA", Terminal::Data),
-    (b"END", Terminal::End),
+// By their lengths, since most words of a text are names, and are told from those of their length alone.
+
+static TWO: [Reserved; 4] = [
     (b"IF", Terminal::If),
-    (b"ELSE", Terminal::Else),
-    (b"WHILE", Terminal::While),
-    (b"FOR", Terminal::For),
-    (b"REPEAT", Terminal::Repeat),
-    (b"UNTIL", Terminal::Until),
     (b"DO", Terminal::Do),
-    (b"SWITCH", Terminal::Switch),
-    (b"CASE", Terminal::Case),
-    (b"DEFAULT", Terminal::Default),
-    (b"BREAK", Terminal::Leave),
-    (b"NEXT", Terminal::Leave),
-    (b"RETURN", Terminal::Return),
     (b"GO", Terminal::Go),
-    (b"GOTO", Terminal::Goto),
     (b"TO", Terminal::To),
-    (b"CALL", Terminal::Call),
-    (b"CONTINUE", Terminal::Continue),
-    (b"STOP", Terminal::Stop),
-    (b"READ", Terminal::Transfer),
-    (b"WRITE", Terminal::Transfer),
-    (b"FORMAT", Terminal::Format),
-    (b"INTEGER", Terminal::Type),
-    (b"LOGICAL", Terminal::Type),
-    (b"REAL", Terminal::Type),
-    (b"COMPLEX", Terminal::Type),
-    (b"DOUBLE", Terminal::Double),
-    (b"PRECISION", Terminal::Precision),
-    (b"DIMENSION", Terminal::Dimension),
-    (b"COMMON", Terminal::Common),
-    (b"EQUIVALENCE", Terminal::Equivalence),
 ];
 
-fn words() -> &'static [Reserved]
-    ensures { map (λ w. (w.0.now, w.1)) result.now ≡ reserved }
+static THREE: [Reserved; 2] = [(b"END", Terminal::End), (b"FOR", Terminal::For)];
+
+static FOUR: [Reserved; 9] = [
+    (b"DATA", Terminal::Data),
+    (b"ELSE", Terminal::Else),
+    (b"CASE", Terminal::Case),
+    (b"NEXT", Terminal::Leave),
+    (b"GOTO", Terminal::Goto),
+    (b"CALL", Terminal::Call),
+    (b"STOP", Terminal::Stop),
+    (b"READ", Terminal::Transfer),
+    (b"REAL", Terminal::Type),
+];
+
+static FIVE: [Reserved; 5] = [
+    (b"BLOCK", Terminal::Block),
+    (b"WHILE", Terminal::While),
+    (b"UNTIL", Terminal::Until),
+    (b"BREAK", Terminal::Leave),
+    (b"WRITE", Terminal::Transfer),
+];
+
+static SIX: [Reserved; 6] = [
+    (b"REPEAT", Terminal::Repeat),
+    (b"SWITCH", Terminal::Switch),
+    (b"RETURN", Terminal::Return),
+    (b"FORMAT", Terminal::Format),
+    (b"DOUBLE", Terminal::Double),
+    (b"COMMON", Terminal::Common),
+];
+
+static SEVEN: [Reserved; 4] = [
+    (b"DEFAULT", Terminal::Default),
+    (b"INTEGER", Terminal::Type),
+    (b"LOGICAL", Terminal::Type),
+    (b"COMPLEX", Terminal::Type),
+];
+
+static EIGHT: [Reserved; 2] = [
+    (b"FUNCTION", Terminal::Function),
+    (b"CONTINUE", Terminal::Continue),
+];
+
+static NINE: [Reserved; 2] = [
+    (b"PRECISION", Terminal::Precision),
+    (b"DIMENSION", Terminal::Dimension),
+];
+
+static TEN: [Reserved; 1] = [(b"SUBROUTINE", Terminal::Subroutine)];
+
+static ELEVEN: [Reserved; 1] = [(b"EQUIVALENCE", Terminal::Equivalence)];
+
+/// The reserved words of so many letters.
+fn words_of(length: usize) -> &'static [Reserved]
+    ensures { map (λ w. (w.0.now, w.1)) result.now ≡ of_length length reserved }
 {
-    &WORDS
+    match length {
+        2 => &TWO,
+        3 => &THREE,
+        4 => &FOUR,
+        5 => &FIVE,
+        6 => &SIX,
+        7 => &SEVEN,
+        8 => &EIGHT,
+        9 => &NINE,
+        10 => &TEN,
+        11 => &ELEVEN,
+        _ => &[],
+    }
 }
 
 fn word_at(word: &[u8]) -> Terminal
@@ -86,10 +119,7 @@ fn word_at(word: &[u8]) -> Terminal
 fn reserved_at(word: &[u8]) -> Option<Terminal>
     ensures { result ≡ terminal_in reserved word.now }
 {
-    if word.len() < SHORTEST {
-        return None;
-    }
-    for (spelling, terminal) in words() {
+    for (spelling, terminal) in words_of(word.len()) {
         if is_spelled(spelling, word) {
             return Some(*terminal);
         }
