@@ -13,12 +13,12 @@ use Rattle.linker.proofs.PartLemmas.{place_here}
 use Rattle.program_storage.specs.Limits.{IsLargeAt, IsSmallAt, IsFirstLarge}
 use Rattle.program_storage.proofs.FewerLemmas.{fewer_units}
 
-pub small_earlier : (rs : List Routine) → All (λ r. ¬ IsBadUnit r) rs → (i u : ℕ) → i ≤ u → IsSmallAt rs u → ¬ IsLargeAt rs i
-small_earlier rs well i u le small large =
+pub small_earlier : (most : ℕ) (rs : List Routine) → All (λ r. ¬ IsBadUnit r) rs → (i u : ℕ) → i ≤ u → IsSmallAt most rs u → ¬ IsLargeAt most rs i
+small_earlier most rs well i u le small large =
     let few : large.0 ≤ small.0 = fewer_units rs well (suc i) (suc u) large.0 small.0 (omega (arith, le)) large.1 small.1 in
-    let most = small.2 in
+    let least = small.2 in
     let more = large.2 in
-    omega (arith, few, most, more)
+    omega (arith, few, least, more)
 
 map_take : {X Y : Type 0} (f : X → Y) (n : ℕ) (xs : List X) → map f (take n xs) ≡ take n (map f xs)
 map_take f zero xs = refl
@@ -31,7 +31,7 @@ counted f units u total number n =
     let e : u + 1 ≡ suc u = omega arith in
     (number, subst (λ rs. IsNumbering rs number total) (map_take f (u + 1) units ∙ ap (λ k. take k (map f units)) e) n)
 
-too_large : (p : Program) (q : Part) → IsTooLarge p q → IsLargeAt p.units q.unit
+too_large : (p : Program) (q : Part) → IsTooLarge p q → IsLargeAt 2000000 p.units q.unit
 too_large p q b = (b.total, b.has, b.large)
 
 unit_inside : (p : Program) (q : Part) → IsTooLarge p q → q.unit < length p.units
@@ -54,10 +54,10 @@ pub some_units : (rs : List Routine) (total : ℕ) → HasUnits rs total → 0 <
 some_units [] total has lt = absurd (let w = has.1.onto 0 lt in let r = has.1.real w.0 w.1 w.2 0 w.3 in let e : None ≡ Some r.unit = r.here in cc)
 some_units (r ∷ rs) total has lt = omega arith
 
-pub all_large : (rs : List Routine) (last total : ℕ) → suc last ≡ length rs → HasUnits rs total → 2000000 < total → IsLargeAt rs last
-all_large rs last total e has large = (total, subst (λ rs. HasUnits rs total) (sym (ap (λ n. take n rs) e ∙ all_taken rs)) has, large)
+pub all_large : (most : ℕ) (rs : List Routine) (last total : ℕ) → suc last ≡ length rs → HasUnits rs total → most < total → IsLargeAt most rs last
+all_large most rs last total e has large = (total, subst (λ rs. HasUnits rs total) (sym (ap (λ n. take n rs) e ∙ all_taken rs)) has, large)
 
-pub first_large : (p : Program) (u : ℕ) (r : Routine) → slice_get p.units u ≡ Some r → IsFirstLarge p.units u → (f : Fault) → f.kind ≡ Limit → f.number ≡ 8 →
+pub first_large : (p : Program) (u : ℕ) (r : Routine) → slice_get p.units u ≡ Some r → IsFirstLarge 2000000 p.units u → (f : Fault) → f.kind ≡ Limit → f.number ≡ 8 →
     place_of_part r (first_of r) ≡ Some f.place → IsFirstBroken Limit p f
 first_large p u r here l f kind number place = record {
   kind = kind;

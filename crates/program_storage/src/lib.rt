@@ -13,7 +13,7 @@ mod unit_links;
 mod unit_rows;
 mod whole;
 
-pub use limit::storage_limit;
+pub use limit::{first_large, storage_limit};
 pub use numbering::number_program;
 pub use program::ProgramStorage;
 pub use spot::Spot;

@@ -1,5 +1,5 @@
 // The limit on the storage units of a program.
-ghost use Rattle.std.specs.Prelude.{◌<◌, ◌-◌, ℕ, length, map, IfOk, MatchBool, MatchOption};
+ghost use Rattle.std.specs.Prelude.{◌<◌, ◌-◌, length, map, IfOk, MatchBool, MatchOption};
 ghost use Rattle.std.specs.List.{All};
 ghost use Rattle.ground.specs.declared.fault.FaultKind.TheVariants.{Limit as IsLimit};
 ghost use Rattle.ground.specs.declared.place.Place.{Place as APlace};
@@ -34,39 +34,39 @@ pub fn storage_limit(
     if storage.total <= MOST {
         return Ok(None);
     }
-    let first = first_large(alloc, units)?;
+    let first = first_large(alloc, units, MOST)?;
     let fault = limit_fault(&units[first]);
     Ok(Some(fault))
 }
 
-/// Whether the units up to one have too many storage units.
-fn is_large(alloc: Global, units: &[Unit], unit: usize) -> Result<bool, AllocError>
+/// Whether the units up to one have more storage units than this.
+fn is_large(alloc: Global, units: &[Unit], unit: usize, most: usize) -> Result<bool, AllocError>
     requires ready { All (λ u. IsReady (routine_of u)) units.now }
     requires well { All (λ u. ¬ IsBadUnit (routine_of u)) units.now }
     requires inside { unit < length units.now }
-    ensures { IfOk result (λ b. MatchBool b (IsLargeAt (map routine_of units.now) unit) (IsSmallAt (map routine_of units.now) unit)) }
+    ensures { IfOk result (λ b. MatchBool b (IsLargeAt most (map routine_of units.now) unit) (IsSmallAt most (map routine_of units.now) unit)) }
 {
     let storage = number_program(alloc, &units[..unit + 1])?;
-    if storage.total > MOST {
+    if storage.total > most {
         Ok(true)
     } else {
         Ok(false)
     }
 }
 
-/// The first unit up to which there are too many storage units, where all have too many.
-fn first_large(alloc: Global, units: &[Unit]) -> Result<usize, AllocError>
+/// The first unit up to which there are more storage units than this, where all have more.
+pub fn first_large(alloc: Global, units: &[Unit], most: usize) -> Result<usize, AllocError>
     requires ready { All (λ u. IsReady (routine_of u)) units.now }
     requires well { All (λ u. ¬ IsBadUnit (routine_of u)) units.now }
     requires some { 0 < length units.now }
-    requires large { IsLargeAt (map routine_of units.now) (length units.now - 1) }
-    ensures { IfOk result (IsFirstLarge (map routine_of units.now)) }
+    requires large { IsLargeAt most (map routine_of units.now) (length units.now - 1) }
+    ensures { IfOk result (IsFirstLarge most (map routine_of units.now)) }
 {
     let mut low = 0;
     let mut high = units.len() - 1;
     while low < high {
         let middle = low + (high - low) / 2;
-        if is_large(alloc, units, middle)? {
+        if is_large(alloc, units, middle, most)? {
             high = middle;
         } else {
             low = middle + 1;

@@ -19,7 +19,7 @@ use Rattle.rat_tree.specs.declared.program.RatUnit.{RatUnit}
 use Rattle.rat_tree.specs.Syntax.{RatRoutine, RatProgram}
 use Rattle.rat_tree.specs.Views.{rat_routine_of}
 use Rattle.rat_said.specs.Said.{said_routine, said_program}
-use Rattle.rat_link.specs.Limits.{HaveAtMost}
+use Rattle.program_storage.specs.Limits.{HaveAtMost}
 use Rattle.rat_link.specs.Linking.{IsClean, IsUnitFault, IsFirstUnitFault, AreClean, IsLinkFault, IsFirstFaultOf, IsRefusalBy, IsTextLimit, is_limit_kind, is_limit_refusal, most_of_text}
 use Rattle.rat_link.proofs.ReadyLemmas.{said_is_ready}
 

@@ -13,9 +13,9 @@ use Rattle.one_fault.proofs.BadFaults.{one_bad_fault, bad_is_whole}
 use Rattle.one_fault.proofs.LinkFaults as linking
 use Rattle.rat_tree.specs.Syntax.{RatRoutine, RatProgram}
 use Rattle.rat_said.specs.Said.{said_routine, said_program}
-use Rattle.rat_link.specs.Limits.{HaveAtMost}
+use Rattle.program_storage.specs.Limits.{HaveAtMost}
 use Rattle.rat_link.specs.Linking.{IsClean, IsUnitFault, IsFirstUnitFault, most_of_text, IsTextLimit, IsLinkFault, AreClean, IsFirstFaultOf, IsAccepted}
-use Rattle.rat_link.proofs.LimitLemmas.{small_earlier}
+use Rattle.program_storage.proofs.LimitLemmas.{small_earlier}
 
 -- ---- the units one by one ----
 

@@ -1,5 +1,4 @@
 -- The definitions that the contracts of rat_link cite.
-pub mod Limits
 pub mod Linking
 pub mod Ties
 pub mod Laws

@@ -10,7 +10,7 @@ use Rattle.f66_tree.specs.Syntax.{Routine}
 use Rattle.f66_program.specs.Association.{IsBadUnit}
 use Rattle.f66_program.specs.Linking.{Program, first_of, place_of_part, IsFirstFault, IsWhole}
 use Rattle.storage_assoc.specs.Associating.{IsBadFault}
-use Rattle.rat_link.specs.Limits.{HaveAtMost, IsFirstLarge}
+use Rattle.program_storage.specs.Limits.{HaveAtMost, IsFirstLarge}
 use Rattle.rat_tree.specs.Syntax.{RatRoutine, RatProgram}
 use Rattle.rat_check.specs.FirstFault.{unit_fault}
 use Rattle.rat_said.specs.Said.{said_routine, said_program}

@@ -8,8 +8,8 @@ ghost use Rattle.rat_check.specs.Parts.{unit_parts};
 ghost use Rattle.rat_check.specs.PartViews.{parts_seen};
 ghost use Rattle.spared_units.specs.Spared.{Spared};
 ghost use Rattle.rat_link.specs.Briefs.{AreBriefs};
-ghost use Rattle.rat_link.specs.Linking.{AreClean, IsAccepted, IsClean, IsFirstFaultOf, IsFirstUnitFault, IsLinkFault, IsLinked, IsRefusalBy, IsUnitFault};
-ghost use Rattle.rat_said.specs.Said.{said_program, said_routine};
+ghost use Rattle.rat_link.specs.Linking.{AreClean, IsAccepted, IsClean, IsFirstFaultOf, IsFirstUnitFault, IsRefusalBy, IsUnitFault};
+ghost use Rattle.rat_said.specs.Said.{said_routine};
 
 use crate::association::check_association;
 use crate::limit::MOST;

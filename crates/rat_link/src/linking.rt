@@ -8,7 +8,7 @@ ghost use Rattle.f66_program.specs.Linking.{IsWhole};
 ghost use Rattle.linker.specs.Rules.{program_of};
 ghost use Rattle.storage_assoc.specs.Naming.{IsReady};
 ghost use Rattle.whole_program.specs.Linked.{IsLinkRefusal};
-ghost use Rattle.rat_link.specs.Limits.{HaveAtMost};
+ghost use Rattle.program_storage.specs.Limits.{HaveAtMost};
 ghost use Rattle.rat_link.specs.Linking.{IsLinked, IsLinkFault, IsRefusalBy, IsTextLimit, most_of_text};
 
 use crate::limit::{MOST, text_limit};

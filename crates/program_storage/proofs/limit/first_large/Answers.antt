@@ -16,12 +16,12 @@ loop-low-preserved c =
     let rs = map routine_of units in
     let middle = c.loop-low.low + (c.loop-low.high - c.loop-low.low) / 2 in
     let well : All (λ r. ¬ IsBadUnit r) rs = All-map (λ r. ¬ IsBadUnit r) routine_of units c.requires.well in
-    let small : IsSmallAt rs middle = rw c.if-branch.false at c.in_ok-is_large.ensures in
+    let small : IsSmallAt c.args.most rs middle = rw c.if-branch.false at c.in_ok-is_large.ensures in
     record {
       order = (let d = c.loop-low-test.true in omega arith);
       inside = v.inside;
       large = v.large;
-      earlier = λ i i_in. (let le : i ≤ middle = omega arith in small_earlier rs well i middle le small);
+      earlier = λ i i_in. (let le : i ≤ middle = omega arith in small_earlier c.args.most rs well i middle le small);
     }
 
 pub returns : goal.returns

@@ -8,8 +8,8 @@ abbrev pub invariant-loop-low : goal.invariant-loop-low
 invariant-loop-low l = record {
   order : l.low ≤ l.high;
   inside : l.high < length l.units;
-  large : IsLargeAt (map routine_of l.units) l.high;
-  earlier : (i : ℕ) → i < l.low → ¬ IsLargeAt (map routine_of l.units) i;
+  large : IsLargeAt l.most (map routine_of l.units) l.high;
+  earlier : (i : ℕ) → i < l.low → ¬ IsLargeAt l.most (map routine_of l.units) i;
 }
 
 abbrev pub decreases-loop-low : goal.decreases-loop-low

@@ -9,12 +9,12 @@ use Rattle.program_storage.proofs.limit.is_large.Goals as goal
 pub number_program-requires-clause-well : goal.number_program-requires-clause-well
 number_program-requires-clause-well c = All-take (λ u. ¬ IsBadUnit (routine_of u)) (c.args.unit + 1) c.args.units.now c.requires.well
 
-pub returns-then-storage-gt-MOST : goal.returns-then-storage-gt-MOST
-returns-then-storage-gt-MOST c =
+pub returns-then-storage-most : goal.returns-then-storage-most
+returns-then-storage-most c =
     let total = c.in_ok-storage.storage.total in
-    (total, counted routine_of c.args.units.now c.args.unit total _ c.in_ok-storage.ensures.numbered, c.if-storage-gt-MOST.true)
+    (total, counted routine_of c.args.units.now c.args.unit total _ c.in_ok-storage.ensures.numbered, c.if-storage-most.true)
 
 pub returns : goal.returns
 returns c =
     let total = c.in_ok-storage.storage.total in
-    (total, counted routine_of c.args.units.now c.args.unit total _ c.in_ok-storage.ensures.numbered, (let l = c.if-storage-gt-MOST.false in omega (arith, l)))
+    (total, counted routine_of c.args.units.now c.args.unit total _ c.in_ok-storage.ensures.numbered, (let l = c.if-storage-most.false in omega (arith, l)))

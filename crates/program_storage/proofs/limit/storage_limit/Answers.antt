@@ -31,7 +31,7 @@ first_large-requires-clause-large c =
     let many : length (map routine_of units) ≡ length units = length-map units routine_of in
     let l = c.if-storage-le-MOST.false in
     let some = some_units (map routine_of units) c.args.storage.now.total (number_in_program c.args.storage.now, c.requires.numbered) (omega (arith, l)) in
-    all_large (map routine_of units) (length units - 1) c.args.storage.now.total (omega (arith, some, many)) (number_in_program c.args.storage.now, c.requires.numbered) l
+    all_large 2000000 (map routine_of units) (length units - 1) c.args.storage.now.total (omega (arith, some, many)) (number_in_program c.args.storage.now, c.requires.numbered) l
 
 pub returns : goal.returns
 returns c = λ finish.

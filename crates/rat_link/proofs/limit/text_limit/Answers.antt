@@ -5,9 +5,9 @@ use Rattle.f66_tree.specs.Views.{routine_of}
 use Rattle.linker.specs.Rules.{program_of}
 use Rattle.linker.proofs.PartLemmas.{got_mapped}
 use Rattle.program_storage.specs.Numbers.{number_in_program}
-use Rattle.program_storage.proofs.LimitLemmas.{some_units}
+use Rattle.program_storage.proofs.LimitLemmas.{all_large, some_units}
 use Rattle.rat_link.specs.Linking.{most_of_text}
-use Rattle.rat_link.proofs.LimitLemmas.{all_large, text_limit}
+use Rattle.rat_link.proofs.LimitLemmas.{text_limit}
 use Rattle.rat_link.proofs.limit.text_limit.Goals as goal
 
 pub returns-then-storage-le-MOST : goal.returns-then-storage-le-MOST

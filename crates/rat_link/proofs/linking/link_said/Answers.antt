@@ -1,7 +1,7 @@
 -- A program that links and has few storage units is linked; another is asked for the limit first.
 use Rattle.std.proofs.Common.{◌≡◌, Err, IfErr, sym, subst, rules}
 use Rattle.linker.specs.Rules.{program_of}
-use Rattle.rat_link.specs.Limits.{HaveAtMost}
+use Rattle.program_storage.specs.Limits.{HaveAtMost}
 use Rattle.rat_link.specs.Linking.{IsLinkFault, IsRefusalBy, most_of_text}
 use Rattle.rat_link.proofs.CheckLemmas.{link_refusal, limit_refusal}
 use Rattle.rat_link.proofs.linking.link_said.Goals as goal
