@@ -7,7 +7,7 @@ use Rattle.f66_tree.specs.Units.{Context, is_note, notes_of}
 use Rattle.f66_program.specs.Mentions.{Mention, context_of, mentions_in}
 use Rattle.spared_units.specs.Spared.{mentions_of_lines, Spared}
 use Rattle.spared_units.proofs.Among.{Among, among, contained, split, before, behind, of_some, in_all}
-use Rattle.rat_said.specs.Brief.{IsTold, declared_routine}
+use Rattle.rat_said.specs.Brief.{IsTold, declared_lines, declared_routine}
 
 -- ---- what a test leaves of a list ----
 
@@ -36,17 +36,14 @@ module _ {X : Type 0} (test : X → Bool) where
 
 -- ---- declarations ----
 
-abbrev declared : List Line → List Line
-declared lines = filter (λ s. is_note s.act) lines
-
-notes_declared : (lines : List Line) → notes_of (declared lines) ≡ notes_of lines
+notes_declared : (lines : List Line) → notes_of (declared_lines lines) ≡ notes_of lines
 notes_declared [] = refl
 notes_declared (s ∷ lines) = by_answer (is_note s.act) refl (notes_declared lines)
   where
-    by_answer : (v : Bool) → is_note s.act ≡ v → notes_of (declared lines) ≡ notes_of lines →
-        notes_of (cond v (s ∷ declared lines) (declared lines)) ≡ (if v then (record { label = s.label; act = s.act } ∷ notes_of lines) else notes_of lines)
+    by_answer : (v : Bool) → is_note s.act ≡ v → notes_of (declared_lines lines) ≡ notes_of lines →
+        notes_of (cond v (s ∷ declared_lines lines) (declared_lines lines)) ≡ (if v then (record { label = s.label; act = s.act } ∷ notes_of lines) else notes_of lines)
     by_answer true e behind =
-        ap (λ b. if b then (record { label = s.label; act = s.act } ∷ notes_of (declared lines)) else notes_of (declared lines)) e
+        ap (λ b. if b then (record { label = s.label; act = s.act } ∷ notes_of (declared_lines lines)) else notes_of (declared_lines lines)) e
         ∙ ap (λ ns. record { label = s.label; act = s.act } ∷ ns) behind
     by_answer false e behind = behind
 
@@ -58,46 +55,46 @@ notes_before (s ∷ xs) told e = ap (λ ns. if is_note s.act then (record { labe
 
 module _ (s : Routine) (told : List Line) (t : IsTold (context_of (declared_routine s)) s.lines told) where
   abbrev brief : Routine
-  brief = record { header = s.header; lines = declared s.lines ++ told; place = s.place }
+  brief = record { header = s.header; lines = declared_lines s.lines ++ told; place = s.place }
 
   abbrev c : Context
   c = context_of (declared_routine s)
 
   same_context : context_of brief ≡ c
-  same_context = ap (λ ns. record { header = s.header; notes = ns }) (notes_before (declared s.lines) told t.executed)
+  same_context = ap (λ ns. record { header = s.header; notes = ns }) (notes_before (declared_lines s.lines) told t.executed)
 
   abbrev In : Line → List Mention
   In l = mentions_in c l.act
 
   -- what it mentions is mentioned there
-  of_brief : (m : Mention) → Among (mentions_of_lines c (declared s.lines ++ told)) m → Among (mentions_of_lines c s.lines) m
+  of_brief : (m : Mention) → Among (mentions_of_lines c (declared_lines s.lines ++ told)) m → Among (mentions_of_lines c s.lines) m
   of_brief m k =
-      let l = of_some In (declared s.lines ++ told) m k in
-      elim (split (declared s.lines) told l.0 l.1) [
+      let l = of_some In (declared_lines s.lines ++ told) m k in
+      elim (split (declared_lines s.lines) told l.0 l.1) [
         | inl a ↦ in_all In s.lines l.0 m (of_left (λ l. is_note l.act) s.lines l.0 a) l.2
         | inr b ↦ among (mentions_of_lines c s.lines) m (t.heard m (contained (mentions_of_lines c told) m (in_all In told l.0 m b l.2)))
       ]
 
   -- and what is mentioned there it mentions
-  to_brief : (m : Mention) → Among (mentions_of_lines c s.lines) m → Among (mentions_of_lines c (declared s.lines ++ told)) m
+  to_brief : (m : Mention) → Among (mentions_of_lines c s.lines) m → Among (mentions_of_lines c (declared_lines s.lines ++ told)) m
   to_brief m k = by_answer (is_note l.0.act) refl
     where
       l : (l : Line) × Among s.lines l × Among (In l) m
       l = of_some In s.lines m k
 
-      in_told : (n : Line) × Among told n × Among (In n) m → Among (mentions_of_lines c (declared s.lines ++ told)) m
-      in_told n = in_all In (declared s.lines ++ told) n.0 m (behind (declared s.lines) told n.0 n.1) n.2
+      in_told : (n : Line) × Among told n × Among (In n) m → Among (mentions_of_lines c (declared_lines s.lines ++ told)) m
+      in_told n = in_all In (declared_lines s.lines ++ told) n.0 m (behind (declared_lines s.lines) told n.0 n.1) n.2
 
-      by_answer : (v : Bool) → is_note l.0.act ≡ v → Among (mentions_of_lines c (declared s.lines ++ told)) m
-      by_answer true e = in_all In (declared s.lines ++ told) l.0 m (before (declared s.lines) told l.0 (left (λ l. is_note l.act) s.lines l.0 l.1 e)) l.2
+      by_answer : (v : Bool) → is_note l.0.act ≡ v → Among (mentions_of_lines c (declared_lines s.lines ++ told)) m
+      by_answer true e = in_all In (declared_lines s.lines ++ told) l.0 m (before (declared_lines s.lines) told l.0 (left (λ l. is_note l.act) s.lines l.0 l.1 e)) l.2
       by_answer false e = in_told (of_some In told m (among (mentions_of_lines c told) m (t.mentioned l.0 m (contained s.lines l.0 l.1) e (contained (In l.0) m l.2))))
 
   pub says_the_same : Spared None s brief
   says_the_same = record {
     header = refl;
-    notes = notes_before (declared s.lines) told t.executed ∙ notes_declared s.lines;
-    heard = λ m i. inr (there s.lines m (contained (mentions_of_lines c s.lines) m (of_brief m (among (mentions_of_lines c (declared s.lines ++ told)) m (here (declared s.lines ++ told) m i)))));
-    told = λ m i. there (declared s.lines ++ told) m (contained (mentions_of_lines c (declared s.lines ++ told)) m (to_brief m (among (mentions_of_lines c s.lines) m (here s.lines m i))));
+    notes = notes_before (declared_lines s.lines) told t.executed ∙ notes_declared s.lines;
+    heard = λ m i. inr (there s.lines m (contained (mentions_of_lines c s.lines) m (of_brief m (among (mentions_of_lines c (declared_lines s.lines ++ told)) m (here (declared_lines s.lines ++ told) m i)))));
+    told = λ m i. there (declared_lines s.lines ++ told) m (contained (mentions_of_lines c (declared_lines s.lines ++ told)) m (to_brief m (among (mentions_of_lines c s.lines) m (here s.lines m i))));
     lacks = tt;
   }
     where

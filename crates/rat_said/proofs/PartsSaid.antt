@@ -1,6 +1,5 @@
 -- What one part more of a unit says.
 use Rattle.std.proofs.Common.{◌≡◌, Bool, List, [], ◌∷◌, ◌++◌, map, refl, sym, ap, ◌∙◌, subst, append-nil, append_assoc}
-use Rattle.std.specs.List.{filter}
 use Rattle.std.proofs.lemmas.List.{map-append}
 use Rattle.std.proofs.lemmas.List.Concat.{flat_map-append}
 use Rattle.std.proofs.lemmas.List.Elements.{filter-append}
@@ -9,7 +8,7 @@ use Rattle.f66_tree.specs.Units.{Context, is_note}
 use Rattle.rat_check.specs.Parts.{Part}
 use Rattle.rat_check.specs.Said.{said_by}
 use Rattle.rat_said.specs.Said.{or_continue, said_line, part_lines, said_lines}
-use Rattle.rat_said.specs.Brief.{IsTelling}
+use Rattle.rat_said.specs.Brief.{IsTelling, declared_lines}
 use Rattle.rat_said.proofs.Telling.{left_out}
 
 -- ---- lines ----
@@ -19,24 +18,21 @@ more_said h vs v = flat_map-append (part_lines h) vs (v ∷ []) ∙ ap (λ ls. s
 
 -- ---- declarations ----
 
-abbrev declared : List Line → List Line
-declared lines = filter (λ s. is_note s.act) lines
-
-joined : (xs ys : List Line) → declared (xs ++ ys) ≡ declared xs ++ declared ys
+joined : (xs ys : List Line) → declared_lines (xs ++ ys) ≡ declared_lines xs ++ declared_lines ys
 joined xs ys = filter-append (λ s. is_note s.act) xs ys
 
 -- a CONTINUE is none
-continue_apart : (v : Part) (acts : List Act) → declared (map (said_line v) (or_continue acts)) ≡ declared (map (said_line v) acts)
+continue_apart : (v : Part) (acts : List Act) → declared_lines (map (said_line v) (or_continue acts)) ≡ declared_lines (map (said_line v) acts)
 continue_apart v [] = refl
 continue_apart v (a ∷ acts) = refl
 
-pub more_declared : (h : Header) (vs : List Part) (v : Part) (acts : List Act) → acts ≡ said_by h v.form → declared (said_lines h (vs ++ v ∷ [])) ≡ declared (said_lines h vs) ++ declared (map (said_line v) acts)
+pub more_declared : (h : Header) (vs : List Part) (v : Part) (acts : List Act) → acts ≡ said_by h v.form → declared_lines (said_lines h (vs ++ v ∷ [])) ≡ declared_lines (said_lines h vs) ++ declared_lines (map (said_line v) acts)
 more_declared h vs v acts e =
-    ap declared (more_said h vs v) ∙ joined (said_lines h vs) (part_lines h v)
-    ∙ ap (λ ls. declared (said_lines h vs) ++ ls) (continue_apart v (said_by h v.form) ∙ ap (λ bs. declared (map (said_line v) bs)) (sym e))
+    ap declared_lines (more_said h vs v) ∙ joined (said_lines h vs) (part_lines h v)
+    ∙ ap (λ ls. declared_lines (said_lines h vs) ++ ls) (continue_apart v (said_by h v.form) ∙ ap (λ bs. declared_lines (map (said_line v) bs)) (sym e))
 
-pub one_declared : (f : Act → Line) (acts : List Act) (a : Act) → declared (map f (acts ++ a ∷ [])) ≡ declared (map f acts) ++ declared (f a ∷ [])
-one_declared f acts a = ap declared (map-append f acts (a ∷ [])) ∙ joined (map f acts) (f a ∷ [])
+pub one_declared : (f : Act → Line) (acts : List Act) (a : Act) → declared_lines (map f (acts ++ a ∷ [])) ≡ declared_lines (map f acts) ++ declared_lines (f a ∷ [])
+one_declared f acts a = ap declared_lines (map-append f acts (a ∷ [])) ∙ joined (map f acts) (f a ∷ [])
 
 -- ---- telling ----
 

@@ -41,7 +41,7 @@ abbrev pub is_idle : Act → Bool
 is_idle Continue = true
 is_idle a = false
 
--- The uses of a statement name all that it mentions: it calls no subroutine, and it is executed.
+-- The uses of a statement name all that it mentions: it is no CALL, and it declares no name.
 abbrev pub is_told_by_uses : Act → Bool
 is_told_by_uses (When e a) = is_idle a
 is_told_by_uses (Invoke x es) = false
@@ -54,9 +54,13 @@ is_told_by_uses a = true
 
 -- ---- units ----
 
--- those statements of a unit that are not executed
+-- those statements that are not executed
+abbrev pub declared_lines : List Line → List Line
+declared_lines lines = filter (λ s. is_note s.act) lines
+
+-- and a unit of them alone
 abbrev pub declared_routine : Routine → Routine
-declared_routine r = record { header = r.header; lines = filter (λ s. is_note s.act) r.lines; place = r.place }
+declared_routine r = record { header = r.header; lines = declared_lines r.lines; place = r.place }
 
 -- Statements that are executed, and that tell in brief what others say: they mention what those mention of these that are executed, and
 -- no more.

@@ -1,10 +1,9 @@
 // Units of FORTRAN that say in brief what those of Ratfor say. Whoever asks what a unit mentions, and not where, needs no more: linking
 // a program of many units that use each name a hundred times would else copy each statement.
 ghost use Rattle.std.specs.Prelude.{◌≡◌, ◌++◌, ◌∷◌, [], List, None, map, IfOk, OnOk};
-ghost use Rattle.std.specs.List.{filter};
 ghost use Rattle.f66_tree.specs.Syntax.{Line};
 ghost use Rattle.f66_tree.specs.Units.{is_note};
-ghost use Rattle.f66_tree.specs.Views.{act_of, header_of, lines_of, routine_of};
+ghost use Rattle.f66_tree.specs.Views.{header_of, lines_of, routine_of};
 ghost use Rattle.f66_names.specs.ActViews.{act_said, acts_of};
 ghost use Rattle.f66_program.specs.Mentions.{context_of};
 ghost use Rattle.f66_mentions.specs.UnitViews.{context_in};
@@ -12,8 +11,8 @@ ghost use Rattle.rat_tree.specs.Views.{commands, rat_routine_of};
 ghost use Rattle.rat_check.specs.Parts.{unit_parts};
 ghost use Rattle.rat_check.specs.PartViews.{part_of, parts_seen};
 ghost use Rattle.spared_units.specs.Spared.{Spared};
-ghost use Rattle.rat_said.specs.Brief.{IsTold, declared_routine};
-ghost use Rattle.rat_said.specs.Said.{part_lines, said_line, said_lines, said_routine};
+ghost use Rattle.rat_said.specs.Brief.{IsTold, declared_lines, declared_routine};
+ghost use Rattle.rat_said.specs.Said.{said_line, said_lines, said_routine};
 ghost use Rattle.rat_said.specs.Seen.{Tells};
 
 use crate::said::{add, copy_header, kind_said};
@@ -65,7 +64,7 @@ fn declarations_in<'a>(
     header: &'a Header,
     parts: &[Part<'a>],
 ) -> Result<List<Stmt>, AllocError>
-    ensures { IfOk result (λ list. lines_of list.items ≡ filter (λ s. is_note s.act) (said_lines (header_of header.now) (parts_seen parts.now))) }
+    ensures { IfOk result (λ list. lines_of list.items ≡ declared_lines (said_lines (header_of header.now) (parts_seen parts.now))) }
 {
     let mut declarations = Vec::new(alloc);
     let mut sayings = Vec::new(alloc);
@@ -83,7 +82,7 @@ fn add_declarations(
     declarations: &mut List<Stmt>,
 ) -> Result<(), AllocError>
     ensures { OnOk result (lines_of declarations.new.items
-        ≡ lines_of declarations.old.items ++ filter (λ s. is_note s.act) (map (said_line (part_of part.now)) (acts_of sayings.now))) }
+        ≡ lines_of declarations.old.items ++ declared_lines (map (said_line (part_of part.now)) (acts_of sayings.now))) }
 {
     for saying in sayings {
         if is_declaration(saying) {
