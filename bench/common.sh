@@ -5,6 +5,7 @@ eft=$here/crates/eft/out/eft
 layers=$here/crates/bench/out/bench
 status=0
 rounds=3
+turns=15
 work=$(mktemp -d) || exit 1
 trap 'rm -rf "$work"' EXIT
 
@@ -36,4 +37,11 @@ compare() { # WHAT TOOK BESIDE WANTED
         printf "%s: %.2f ms beside %.2f ms, %.1f times%s\n", what, took / 1e6, beside / 1e6, took / beside, asked
         exit wanted != "any" && took > wanted * beside
     }' || status=1
+}
+
+# Tells the same of the turn with the middle ratio, of a line of both times for each turn: the speed of a machine that is shared changes
+# all the time.
+compare_turns() { # WHAT WANTED
+    pair=$(awk '{ print $1 / $2, $1, $2 }' | sort -n | sed -n "$(((turns + 1) / 2))p" | cut -d " " -f 2-)
+    compare "$1" "${pair% *}" "${pair#* }" "$2"
 }

@@ -25,7 +25,6 @@ unit() { # GROUPS
 unit 145 >"$work/large"
 unit 14 >"$work/small"
 
-turns=15
 for turn in $(seq "$turns"); do
     for layer in gather parse compile check; do
         layer_time "$layer" ratfor "$work/large" 5 >"$work/$layer.large.$turn"
@@ -38,19 +37,18 @@ own_time() { # LAYER BEFORE UNIT TURN
     echo $(($(cat "$work/$1.$3.$4") - $(cat "$work/$2.$3.$4")))
 }
 
-# The two times of the turn with the middle ratio, of a line for each turn.
-middle() {
-    awk '{ print $1 / $2, $1, $2 }' | sort -n | sed -n "$(((turns + 1) / 2))p" | cut -d " " -f 2-
-}
-
 # Tells a layer's own time over the large unit beside that over the small one.
 grows() { # WHAT LAYER BEFORE
-    pair=$(for turn in $(seq "$turns"); do echo "$(own_time "$2" "$3" large "$turn") $(own_time "$2" "$3" small "$turn")"; done | middle)
-    compare "$1 2,900 statements and 280" "${pair% *}" "${pair#* }" 12
+    for turn in $(seq "$turns"); do
+        echo "$(own_time "$2" "$3" large "$turn") $(own_time "$2" "$3" small "$turn")"
+    done >"$work/$2"
+    compare_turns "$1 2,900 statements and 280" 12 <"$work/$2"
 }
 
 grows lowering compile parse
 grows checking check compile
-pair=$(for turn in $(seq "$turns"); do echo "$(cat "$work/compile.large.$turn") $(cat "$work/gather.large.$turn")"; done | middle)
-compare "the whole front, and gathering alone" "${pair% *}" "${pair#* }" 2
+for turn in $(seq "$turns"); do
+    echo "$(cat "$work/compile.large.$turn") $(cat "$work/gather.large.$turn")"
+done >"$work/front"
+compare_turns "the whole front, and gathering alone" 2 <"$work/front"
 exit $status

@@ -1,6 +1,7 @@
 #!/bin/sh
 # How fast the tokens of a text become its tree: whether ten times the tokens take at most twelve times as long, and how many times as
-# long as gathering alone it takes. A text of EFL has a fault behind its parse, so there the built program's own time is taken.
+# long as gathering alone it takes. All are measured in fifteen turns, and the turn with the middle ratio counts. A text of EFL has a
+# fault behind its parse, so there the built program's own time is taken.
 . "$(dirname "$0")/common.sh"
 wants "$layers"
 wants "$eft"
@@ -39,9 +40,13 @@ efl_time() { # FILE
 measured() { # LANGUAGE SHAPE
     $2_unit >"$work/$2.small"
     for number in 1 2 3 4 5 6 7 8 9 10; do cat "$work/$2.small"; done >"$work/$2.large"
-    large=$($1_time "$work/$2.large")
-    compare "$2: 200,000 tokens and 20,000" "$large" "$($1_time "$work/$2.small")" 12
-    compare "$2: 200,000 tokens, and gathering them" "$large" "$(layer_time gather "$1" "$work/$2.large" 5)" 2.5
+    for turn in $(seq "$turns"); do
+        large=$($1_time "$work/$2.large")
+        echo "$large $($1_time "$work/$2.small")" >>"$work/$2.grown"
+        echo "$large $(layer_time gather "$1" "$work/$2.large" 5)" >>"$work/$2.gathered"
+    done
+    compare_turns "$2: 200,000 tokens and 20,000" 12 <"$work/$2.grown"
+    compare_turns "$2: 200,000 tokens, and gathering them" 2.5 <"$work/$2.gathered"
 }
 
 measured ratfor sums
