@@ -7,9 +7,9 @@
 s/\brat_grammar\b/rat_parse/g
 s/\brat_table\b/rat_parse_table/g
 s/\brat_parts\b/rat_parse_values/g
-s/\brat_phrases\b/rat_parse_expressions/g
-s/\brat_plain\b/rat_parse_plain/g
-s/\brat_statements\b/rat_parse_control/g
+s/\brat_phrases\b/rat_parse_values/g
+s/\brat_plain\b/rat_parse_values/g
+s/\brat_statements\b/rat_parse_values/g
 s/\bf66_sound\b/f66_soundness/g
 s/\bGatherRefusal\b/TextRefusal/g
 # modules

@@ -22,9 +22,9 @@ use Rattle.rat_parse_values.specs.Kinds as part
 use Rattle.rat_parse_values.specs.Values.{Val, last_of, others, at}
 use Rattle.rat_parse_values.specs.Values as val
 use Rattle.rat_parse_values.specs.Parts.{place_in, name_in, number_in, count_or_one, is_word, is_minus, sign_in, type_word, as_exprs, as_joins, as_names, as_pars, as_declareds, as_areas, as_entries, as_statements, as_clauses, as_units, as_par, as_formula, as_act, as_command, as_header, name_if_any, act_part, formula_part, with_declared, with_area, with_clause, with_routine}
-use Rattle.rat_parse_expressions.specs.Phrases.{joined, signed, applied}
-use Rattle.rat_parse_plain.specs.Plain.{transfer}
-use Rattle.rat_parse_control.specs.Statements.{conditional, repetition, with_own_label, labelled_value, left, typed, typed_unit}
+use Rattle.rat_parse_values.specs.Phrases.{joined, signed, applied}
+use Rattle.rat_parse_values.specs.Plain.{transfer}
+use Rattle.rat_parse_values.specs.Statements.{conditional, repetition, with_own_label, labelled_value, left, typed, typed_unit}
 use Rattle.rat_parse.specs.Build.{build}
 use Rattle.rat_room.proofs.Weights.{total, if_any}
 use Rattle.rat_room.proofs.TreeWeights.{Each}

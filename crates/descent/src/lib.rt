@@ -2,5 +2,7 @@
 #![tactic(auto)]
 
 mod reader;
+mod tables;
 
 pub use reader::{GiveUp, Reader, begin, close, last, open, take};
+pub use tables::Tables;

@@ -5,7 +5,8 @@ ghost use Rattle.grammar.specs.declared.language.Symbol.TheVariants.{Terminal};
 ghost use Rattle.grammar.specs.declared.language.Event.TheVariants.{Open, Close};
 ghost use Rattle.descent.specs.Reading.{Reads, Begun, Ends, with_meters};
 
-use grammar::{Event, Language};
+use crate::tables::Tables;
+use grammar::Event;
 use ground::Token;
 use std::alloc::{AllocError, AllocFailed};
 
@@ -35,7 +36,7 @@ impl<T: Drop> From<AllocFailed<T>> for GiveUp {
 }
 
 /// A reader before the first token of a text.
-pub fn begin<L: Language>(
+pub fn begin<L: Tables>(
     tokens: &[Token],
     meters: L::Meters,
 ) -> Result<Reader<'_, L::Terminal, L::Meters>, GiveUp>
@@ -52,7 +53,7 @@ pub fn begin<L: Language>(
 }
 
 /// Takes the next token, which is this terminal, where it passes no limit and is not the last.
-pub fn take<'a, L: Language>(
+pub fn take<'a, L: Tables>(
     reader: &mut Reader<'a, L::Terminal, L::Meters>,
     terminal: L::Terminal,
 ) -> Result<&'a Token, GiveUp>
@@ -78,24 +79,21 @@ pub fn take<'a, L: Language>(
 }
 
 /// Counts that a production opens.
-pub fn open<L: Language>(reader: &mut Reader<'_, L::Terminal, L::Meters>, production: L::Production)
+pub fn open<L: Tables>(reader: &mut Reader<'_, L::Terminal, L::Meters>, production: L::Production)
     ensures { reader.new ≡ with_meters reader.old (L.meter.next (Open production) reader.old.meters) }
 {
     reader.meters = L::next_meters(reader.meters, Event::Open(production));
 }
 
 /// Counts that a production closes.
-pub fn close<L: Language>(
-    reader: &mut Reader<'_, L::Terminal, L::Meters>,
-    production: L::Production,
-)
+pub fn close<L: Tables>(reader: &mut Reader<'_, L::Terminal, L::Meters>, production: L::Production)
     ensures { reader.new ≡ with_meters reader.old (L.meter.next (Close production) reader.old.meters) }
 {
     reader.meters = L::next_meters(reader.meters, Event::Close(production));
 }
 
 /// The last token of a text, where it is this terminal and passes no limit.
-pub fn last<'a, L: Language>(
+pub fn last<'a, L: Tables>(
     reader: &Reader<'a, L::Terminal, L::Meters>,
     terminal: L::Terminal,
 ) -> Result<&'a Token, GiveUp>

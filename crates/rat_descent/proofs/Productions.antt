@@ -16,7 +16,7 @@ use Rattle.rat_parse_table.specs.Ratfor.{certificate}
 use Rattle.rat_parse_table.specs.RatforSound.{sound}
 use Rattle.rat_parse_values.specs.Values.{Val, tok, formula, joins}
 use Rattle.rat_parse_values.specs.Parts.{as_joins, kind_sign, operator_of}
-use Rattle.rat_parse_expressions.specs.Phrases.{joined}
+use Rattle.rat_parse_values.specs.Phrases.{joined}
 use Rattle.rat_parse.specs.Build.{build}
 use Rattle.rat_parse.specs.Ratfor.{grammar}
 use Rattle.descent.proofs.ReadingLemmas as descent

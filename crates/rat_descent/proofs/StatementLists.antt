@@ -19,7 +19,7 @@ use Rattle.descent.specs.Reading.{done, next}
 use Rattle.rat_descent.specs.Reading.{Reader, Reads, Gives}
 use Rattle.rat_parse_values.specs.Values as val
 use Rattle.rat_parse_values.specs.Kinds as part
-use Rattle.rat_parse_control.specs.Statements.{repetition}
+use Rattle.rat_parse_values.specs.Statements.{repetition}
 use Rattle.rat_descent.specs.Statements.{stated, before, before_clauses, until_in, repeated_so}
 use Rattle.rat_descent.proofs.Productions.{production, nothing}
 

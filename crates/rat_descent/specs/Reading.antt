@@ -15,7 +15,7 @@ use Rattle.rat_parse_table.specs.Limits.{meter}
 use Rattle.rat_parse_table.specs.Ratfor.{certificate}
 use Rattle.rat_parse_values.specs.Values.{Val}
 use Rattle.rat_parse_values.specs.Parts.{as_formula, as_joins}
-use Rattle.rat_parse_expressions.specs.Phrases.{joined}
+use Rattle.rat_parse_values.specs.Phrases.{joined}
 use Rattle.rat_parse.specs.Ratfor.{grammar}
 
 abbrev pub Reader : Type 0

@@ -6,8 +6,8 @@ ghost use Rattle.f66_tree.specs.Views.{formula_of, formulas_of, declared_of};
 ghost use Rattle.rat_tree.specs.Syntax.{Block, Repeat, RepeatUntil, Do, Switch, AndClause};
 ghost use Rattle.rat_tree.specs.Views.{command as command_seen, commands as commands_of, clauses as clauses_of, clause_then};
 ghost use Rattle.rat_parse_values.specs.Values.{tok, command, declareds, range_of};
-ghost use Rattle.rat_parse_control.specs.Choices.{boxed_command, chosen};
-ghost use Rattle.rat_parse_control.specs.Statements.{declares, labelled_value, left};
+ghost use Rattle.rat_parse_values.specs.Choices.{boxed_command, chosen};
+ghost use Rattle.rat_parse_values.specs.Statements.{declares, labelled_value, left};
 ghost use Rattle.rat_descent.specs.Statements.{stated, unlabelled, until_of, repeated_so};
 
 use crate::tokens::{is_next, type_at};

@@ -6,7 +6,7 @@ ghost use Rattle.f66_tree.specs.Syntax.{Not, Group};
 ghost use Rattle.f66_tree.specs.Views.{formula_of};
 ghost use Rattle.rat_parse_table.specs.declared.table.Nonterminal.TheVariants as nonterminals;
 ghost use Rattle.rat_parse_values.specs.Values.{tok, formula, formulas, located};
-ghost use Rattle.rat_parse_expressions.specs.Phrases.{signed as signed_so};
+ghost use Rattle.rat_parse_values.specs.Phrases.{signed as signed_so};
 ghost use Rattle.rat_descent.specs.Reading.{Reads, Formed};
 
 use crate::reader::{Reader, close_production, is_at, open_production, take_token};
@@ -180,7 +180,7 @@ fn prime(alloc: Global, reader: &mut Reader<'_>, room: usize) -> Result<Expr, Gi
         Terminal::Truth => Ok(Expr::Truth(is_true(sign_of_kind(
             &take_token(reader, Terminal::Truth)?.kind,
         )))),
-        Terminal::Open => Ok(group(alloc, reader, room)?),
+        Terminal::Open => group(alloc, reader, room),
         _ => {
             let (_, e) = reference(alloc, reader, room)?;
             Ok(e)

@@ -7,7 +7,7 @@ ghost use Rattle.f66_tree.specs.Views.{field_then, fields_of};
 ghost use Rattle.rat_parse_table.specs.declared.table.Nonterminal.TheVariants as nonterminals;
 ghost use Rattle.rat_parse_values.specs.Values.{tok, field, fields as fields_value};
 ghost use Rattle.rat_parse_values.specs.Parts.{as_fields, kind_text, count_in};
-ghost use Rattle.rat_parse_expressions.specs.Phrases.{counted_field};
+ghost use Rattle.rat_parse_values.specs.Phrases.{counted_field};
 ghost use Rattle.rat_descent.specs.Reading.{Reads, Gives};
 ghost use Rattle.rat_descent.specs.Formats.{Enclosed};
 
@@ -16,9 +16,8 @@ use crate::tokens::{name_of, number_token};
 use descent::GiveUp;
 use f66_tree::Field;
 use ground::{List, Token, TokenKind};
-use rat_parse_expressions::formats::word_field;
 use rat_parse_table::Terminal;
-use rat_parse_values::{capped_count, integer_of_kind};
+use rat_parse_values::{capped_count, integer_of_kind, word_field};
 use std::alloc::Global;
 
 fn count_of(token: &Token) -> u16

@@ -6,6 +6,7 @@ mod control;
 mod declarations;
 mod expressions;
 mod formats;
+mod language;
 mod parser;
 mod plain;
 mod reader;

@@ -8,11 +8,12 @@ ghost use Rattle.rat_parse_table.specs.Limits.{meter};
 ghost use Rattle.rat_parse_table.specs.Ratfor.{certificate};
 ghost use Rattle.rat_parse.specs.Ratfor.{grammar as ratfor, whole};
 
+use crate::language::Ratfor;
 use crate::units::units;
 use descent::{GiveUp, begin, last};
 use grammar::Event;
 use ground::{List, Refusal, Token};
-use rat_parse::Ratfor;
+use rat_parse::refusal_of;
 use rat_parse_table::{Production, Terminal, first_counts, next_counts};
 use rat_tree::RatProgram;
 use std::alloc::Global;
@@ -27,7 +28,8 @@ pub fn parse(alloc: Global, tokens: &List<Token>) -> Result<RatProgram, Refusal>
 {
     match program(alloc, tokens) {
         Ok(program) => Ok(program),
-        Err(GiveUp) => rat_parse::parse(alloc, tokens),
+        // It gives up at a fault, and where memory is at its end.
+        Err(GiveUp) => Err(refusal_of(alloc, tokens)),
     }
 }
 

@@ -6,7 +6,7 @@ ghost use Rattle.f66_tree.specs.Views.{formula_of, act_of, par_of, entries_of};
 ghost use Rattle.rat_parse_table.specs.declared.table.Nonterminal.TheVariants as nonterminals;
 ghost use Rattle.rat_parse_values.specs.Values.{deed, tok};
 ghost use Rattle.rat_parse_values.specs.Parts.{as_act, as_exprs, octal_if_any};
-ghost use Rattle.rat_parse_plain.specs.Plain.{transfer as transferred};
+ghost use Rattle.rat_parse_values.specs.Plain.{transfer as transferred};
 ghost use Rattle.rat_descent.specs.Reading.{Reads, Gives, Formed};
 
 use crate::aliases::{groups, presets};
@@ -88,9 +88,9 @@ pub fn simple(
     ensures { IfOk result (λ s. Reads (nonterminal_symbol nonterminals.Simple) reader.old (deed s.0 (act_of s.1)) reader.new) }
 {
     if is_at(reader, Terminal::Call) {
-        Ok(invocation(alloc, reader, room)?)
+        invocation(alloc, reader, room)
     } else {
-        Ok(assignment(alloc, reader, room)?)
+        assignment(alloc, reader, room)
     }
 }
 
@@ -129,7 +129,7 @@ fn target(alloc: Global, reader: &mut Reader<'_>) -> Result<StmtKind, GiveUp>
     ensures { IfOk result (λ s. Gives nonterminals.Target as_act reader.old (act_of s) reader.new) }
 {
     if is_at(reader, Terminal::Open) {
-        return Ok(computed(alloc, reader)?);
+        return computed(alloc, reader);
     }
     let label = number_of(number_token(reader)?);
     Ok(StmtKind::Goto(label))
@@ -240,14 +240,14 @@ pub fn plain(
 {
     match reader.seen {
         Terminal::Name | Terminal::FieldWord | Terminal::Call => Ok(simple(alloc, reader, room)?),
-        Terminal::Go | Terminal::Goto => Ok(go(alloc, reader)?),
+        Terminal::Go | Terminal::Goto => go(alloc, reader),
         Terminal::Continue => {
             let place = take_token(reader, Terminal::Continue)?.place;
             Ok((place, StmtKind::Continue))
         }
-        Terminal::Stop => Ok(stop(reader)?),
-        Terminal::Transfer => Ok(transfer(alloc, reader, room)?),
-        Terminal::Format => Ok(format(alloc, reader, room)?),
-        _ => Ok(specification(alloc, reader, room)?),
+        Terminal::Stop => stop(reader),
+        Terminal::Transfer => transfer(alloc, reader, room),
+        Terminal::Format => format(alloc, reader, room),
+        _ => specification(alloc, reader, room),
     }
 }

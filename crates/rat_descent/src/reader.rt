@@ -8,9 +8,9 @@ ghost use Rattle.rat_parse_table.specs.ParseTable.{predict_at};
 ghost use Rattle.rat_parse_values.specs.Values.{tok};
 ghost use Rattle.rat_descent.specs.Reading.{Reads, opened, closed};
 
+use crate::language::Ratfor;
 use descent::{GiveUp, close, open, take};
 use ground::Token;
-use rat_parse::Ratfor;
 use rat_parse_table::{Counts, Nonterminal, Production, Terminal, predict};
 
 pub type Reader<'a> = descent::Reader<'a, Terminal, Counts>;

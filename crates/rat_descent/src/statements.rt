@@ -7,7 +7,7 @@ ghost use Rattle.rat_tree.specs.Views.{act_if_any, formula_if_any, commands, cla
 ghost use Rattle.rat_parse_table.specs.declared.table.Nonterminal.TheVariants as nonterminals;
 ghost use Rattle.rat_parse_values.specs.Values.{formula, clause as clause_value};
 ghost use Rattle.rat_parse_values.specs.Parts.{act_part, formula_part, count_or_one, as_statements, as_clauses};
-ghost use Rattle.rat_parse_control.specs.Choices.{boxed_command, command_if_any};
+ghost use Rattle.rat_parse_values.specs.Choices.{boxed_command, command_if_any};
 ghost use Rattle.rat_descent.specs.Reading.{Reads, Gives, Passes};
 ghost use Rattle.rat_descent.specs.Statements.{stated, unlabelled, until_in, until_of};
 
@@ -89,7 +89,7 @@ pub fn bare(alloc: Global, reader: &mut Reader<'_>, room: usize) -> Result<(Plac
     ensures { IfOk result (λ s. Reads (nonterminal_symbol nonterminals.Bare) reader.old (unlabelled s.0 s.1) reader.new) }
 {
     match reader.seen {
-        Terminal::Type | Terminal::Double => Ok(typed(alloc, reader)?),
+        Terminal::Type | Terminal::Double => typed(alloc, reader),
         _ => Ok(untyped(alloc, reader, room)?),
     }
 }
@@ -117,15 +117,15 @@ pub fn untyped(
             take_token(reader, Terminal::Semicolon)?.place,
             RatKind::Empty,
         )),
-        Terminal::OpenBrace => Ok(block(alloc, reader, room)?),
-        Terminal::If => Ok(conditional(alloc, reader, room)?),
-        Terminal::While => Ok(while_loop(alloc, reader, room)?),
-        Terminal::For => Ok(for_loop(alloc, reader, room)?),
-        Terminal::Repeat => Ok(repeat_loop(alloc, reader, room)?),
-        Terminal::Do => Ok(do_loop(alloc, reader, room)?),
-        Terminal::Switch => Ok(switch(alloc, reader, room)?),
-        Terminal::Leave => Ok(leave(reader)?),
-        Terminal::Return => Ok(return_from(alloc, reader, room)?),
+        Terminal::OpenBrace => block(alloc, reader, room),
+        Terminal::If => conditional(alloc, reader, room),
+        Terminal::While => while_loop(alloc, reader, room),
+        Terminal::For => for_loop(alloc, reader, room),
+        Terminal::Repeat => repeat_loop(alloc, reader, room),
+        Terminal::Do => do_loop(alloc, reader, room),
+        Terminal::Switch => switch(alloc, reader, room),
+        Terminal::Leave => leave(reader),
+        Terminal::Return => return_from(alloc, reader, room),
         _ => {
             let (place, kind) = plain(alloc, reader, room)?;
             ending(reader)?;
@@ -383,7 +383,7 @@ fn clause(alloc: Global, reader: &mut Reader<'_>, room: usize) -> Result<RatCase
     ensures { IfOk result (λ c. Reads (nonterminal_symbol nonterminals.Clause) reader.old (clause_value (clause_then c)) reader.new) }
 {
     if is_at(reader, Terminal::Case) {
-        return Ok(case(alloc, reader, room)?);
+        return case(alloc, reader, room);
     }
     let place = take_token(reader, Terminal::Default)?.place;
     take_token(reader, Terminal::Colon)?;

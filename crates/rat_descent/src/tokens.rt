@@ -10,11 +10,9 @@ ghost use Rattle.rat_descent.specs.Reading.{Reads};
 use crate::reader::{Reader, is_at, take_token};
 use descent::GiveUp;
 use f66_tree::{Name, Operator, TypeWord};
-use ground::{Token, TokenKind};
+use ground::{Text, Token, TokenKind};
 use rat_parse_table::Terminal;
-use rat_parse_values::{
-    capped_label, integer_of_kind, kind_is, name_of_kind, operator_of, sign_of_kind,
-};
+use rat_parse_values::{capped_label, integer_of_kind, kind_is, operator_of, sign_of_kind};
 use std::alloc::{AllocError, Global};
 
 pub fn name_token<'a>(reader: &mut Reader<'a>) -> Result<&'a Token, GiveUp>
@@ -41,7 +39,10 @@ pub fn number_token<'a>(reader: &mut Reader<'a>) -> Result<&'a Token, GiveUp>
 pub fn name_of(token: &Token) -> Result<Name, AllocError>
     ensures { IfOk result (λ name. name ≡ kind_name token.now.kind) }
 {
-    Ok(name_of_kind(token.kind.clone()?))
+    match &token.kind {
+        TokenKind::Word(word) => Ok(Name::new(word.clone()?.into_capitals())),
+        _ => Ok(Name::new(Text::empty())),
+    }
 }
 
 pub fn operator_at(token: &Token) -> Operator

@@ -196,11 +196,11 @@ fn unit_text(alloc: Global, reader: &mut Reader<'_>) -> Result<RatUnit, GiveUp>
     ensures { IfOk result (λ u. Reads (nonterminal_symbol nonterminals.UnitText) reader.old (routine (rat_routine_of u)) reader.new) }
 {
     match reader.seen {
-        Terminal::Subroutine | Terminal::Function | Terminal::Block => Ok(headed(alloc, reader)?),
-        Terminal::Type | Terminal::Double => Ok(typed_unit(alloc, reader)?),
-        Terminal::Octal | Terminal::Number => Ok(marked_main(alloc, reader)?),
-        Terminal::End => Ok(empty_main(alloc, reader)?),
-        _ => Ok(plain_main(alloc, reader)?),
+        Terminal::Subroutine | Terminal::Function | Terminal::Block => headed(alloc, reader),
+        Terminal::Type | Terminal::Double => typed_unit(alloc, reader),
+        Terminal::Octal | Terminal::Number => marked_main(alloc, reader),
+        Terminal::End => empty_main(alloc, reader),
+        _ => plain_main(alloc, reader),
     }
 }
 

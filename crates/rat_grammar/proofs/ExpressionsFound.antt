@@ -15,7 +15,7 @@ use Rattle.rat_parse_table.specs.declared.table.Production.TheVariants as p
 use Rattle.rat_parse_table.specs.Words.{reserved, terminal_in, word_seen, is_field_word, is_octal, sign_terminal}
 use Rattle.rat_parse_values.specs.Values.{Val, nothing, tok, formula, located, formulas, joins}
 use Rattle.rat_parse_values.specs.Parts.{as_formula, operator_of}
-use Rattle.rat_parse_expressions.specs.Phrases.{joined}
+use Rattle.rat_parse_values.specs.Phrases.{joined}
 use Rattle.rat_grammar.specs.Tokens.{Tokens, token, one, capitals, name, place_at}
 use Rattle.rat_grammar.specs.Expressions as e
 use Rattle.rat_grammar.specs.Laws.{IsSome}

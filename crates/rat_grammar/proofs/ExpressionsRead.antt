@@ -9,7 +9,7 @@ use Rattle.f66_tree.specs.Syntax.{Formula, Int, Pair, Group, Not}
 use Rattle.rat_parse_table.specs.declared.table.Production.TheVariants as p
 use Rattle.rat_parse_values.specs.Values.{tok, formula, located}
 use Rattle.rat_parse_values.specs.Parts.{name_in, integer_in, sign_in, operator_of, as_formula}
-use Rattle.rat_parse_expressions.specs.Phrases.{joined, signed, truth as truth_value}
+use Rattle.rat_parse_values.specs.Phrases.{joined, signed, truth as truth_value}
 use Rattle.rat_grammar.specs.Tokens.{Tokens, one}
 use Rattle.rat_grammar.specs.Expressions as e
 use Rattle.rat_grammar.proofs.Readings.{Joins}

@@ -14,8 +14,8 @@ use Rattle.rat_parse_values.specs.Values.{Val, tok, nothing, par}
 use Rattle.rat_parse_values.specs.Values as val
 use Rattle.rat_parse_values.specs.Kinds as part
 use Rattle.rat_parse_values.specs.Parts.{name_in, integer_in, number_in, count_in, text_in, place_in, first_letter, octal_if_any, step_or_one, name_if_any}
-use Rattle.rat_parse_expressions.specs.Phrases.{signed, applied_if, begun, worded, counted_field, truth as truth_value}
-use Rattle.rat_parse_plain.specs.Plain.{counted_with, transfer}
+use Rattle.rat_parse_values.specs.Phrases.{signed, applied_if, begun, worded, counted_field, truth as truth_value}
+use Rattle.rat_parse_values.specs.Plain.{counted_with, transfer}
 use Rattle.rat_grammar.specs.Tokens.{Tokens, one, Sign, Name, Number, word, Listed, Several}
 use Rattle.rat_grammar.specs.Expressions as e
 use Rattle.rat_grammar.specs.Formats as f

@@ -17,7 +17,7 @@ use Rattle.rat_parse_values.specs.Values.{Val}
 use Rattle.rat_parse_values.specs.Values as val
 use Rattle.rat_parse_values.specs.Kinds as part
 use Rattle.rat_parse_values.specs.Parts.{name_in, integer_in, place_in, type_word, as_formula, act_part, formula_part, count_or_one, octal_if_any, step_or_one, name_if_any}
-use Rattle.rat_parse_expressions.specs.Phrases.{joined, applied, applied_if, counted_field}
+use Rattle.rat_parse_values.specs.Phrases.{joined, applied, applied_if, counted_field}
 use Rattle.rat_grammar.specs.Tokens.{Perhaps, Tokens, TextEnd, Sign, Word, Name, Number, place_at, Listed, Several, Lines, Stop}
 use Rattle.rat_grammar.specs.Expressions as e
 use Rattle.rat_grammar.specs.Formats as f

@@ -5,7 +5,7 @@ use Rattle.f66_tree.specs.declared.declaration.TypeWord.{TypeWord}
 use Rattle.f66_tree.specs.Syntax.{Formula, Act}
 use Rattle.rat_tree.specs.Syntax as tree
 use Rattle.rat_tree.specs.Syntax.{Command, Commands, RatRoutine}
-use Rattle.rat_parse_control.specs.Statements.{with_own_label}
+use Rattle.rat_parse_values.specs.Statements.{with_own_label}
 use Rattle.rat_grammar.specs.Tokens.{Tokens, one, Lines, Name, name, Several}
 use Rattle.rat_grammar.specs.Expressions as e
 use Rattle.rat_grammar.specs.Declarations as d

@@ -17,7 +17,7 @@ use Rattle.rat_parse_table.specs.Words.{seen}
 use Rattle.rat_parse_values.specs.Values.{Val, tok, nothing, command, deed, formula}
 use Rattle.rat_parse_values.specs.Values as val
 use Rattle.rat_parse_values.specs.Parts.{name_in, number_in, act_part, formula_part, count_or_one, type_word}
-use Rattle.rat_parse_control.specs.Statements.{conditional, repetition, with_own_label, left}
+use Rattle.rat_parse_values.specs.Statements.{conditional, repetition, with_own_label, left}
 use Rattle.rat_parse.specs.Ratfor.{grammar}
 use Rattle.rat_grammar.specs.Tokens.{Perhaps, Tokens, Word, word, Lines, Stop, place_at}
 use Rattle.rat_grammar.specs.Expressions as e

@@ -14,7 +14,7 @@ use Rattle.rat_parse_table.specs.declared.table.Nonterminal.TheVariants as n
 use Rattle.rat_parse_table.specs.declared.table.Production.TheVariants as p
 use Rattle.rat_parse_values.specs.Values.{Val, tok, names, heading, commands, routine, routines, program}
 use Rattle.rat_parse_values.specs.Parts.{capped, type_word}
-use Rattle.rat_parse_control.specs.Statements.{main}
+use Rattle.rat_parse_values.specs.Statements.{main}
 use Rattle.rat_parse.specs.Ratfor.{grammar}
 use Rattle.rat_grammar.specs.Tokens.{Perhaps, Tokens, token, one, Word, word, Name, name, place_at, Lines, Stop, Several}
 use Rattle.rat_grammar.specs.Declarations as d

@@ -14,7 +14,7 @@ use Rattle.rat_parse_table.specs.Words.{is_spelled}
 use Rattle.rat_parse_values.specs.Values.{Val, tok, heading}
 use Rattle.rat_parse_values.specs.Values as val
 use Rattle.rat_parse_values.specs.Parts.{name_in, number_in, type_word}
-use Rattle.rat_parse_control.specs.Statements.{typed_from, with_own_label, main}
+use Rattle.rat_parse_values.specs.Statements.{typed_from, with_own_label, main}
 use Rattle.rat_grammar.specs.Tokens.{Perhaps, Tokens, one, capitals, word, Name, Number, Word, place_at, Lines, Stop, Listed, Several}
 use Rattle.rat_grammar.specs.Declarations as d
 use Rattle.rat_grammar.specs.Plain as pl

@@ -8,7 +8,7 @@ use Rattle.f66_tree.specs.Fields as f66
 use Rattle.f66_tree.specs.Syntax.{Text}
 use Rattle.rat_parse_table.specs.Words.{reserved, terminal_in, is_field_word}
 use Rattle.rat_parse_values.specs.Parts.{capped}
-use Rattle.rat_parse_expressions.specs.Phrases.{worded}
+use Rattle.rat_parse_values.specs.Phrases.{worded}
 use Rattle.rat_grammar.specs.Tokens.{Tokens, token, Sign, Number, Quoted, capitals}
 
 -- `Iw`, `Lw`, `A1` or `X`, in whatever case

@@ -1,3 +1,3 @@
 -- The lemmas of rat_parse.
-pub mod WholeLemmas
+pub mod ShapeLemmas
 pub mod OneTreeLemmas

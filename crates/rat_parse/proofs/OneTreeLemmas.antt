@@ -1,6 +1,5 @@
 -- A text has at most one derivation and one program, since the tables are those of the grammar.
-use Rattle.std.proofs.Common.{◌≡◌, List}
-use Rattle.ground.specs.declared.token.Token.{Token}
+use Rattle.std.proofs.Common.{◌≡◌}
 use Rattle.grammar.proofs.OneLemmas.{one_derivation, one_value}
 use Rattle.rat_tree.specs.Syntax.{RatProgram}
 use Rattle.rat_parse_table.specs.Ratfor.{certificate}
@@ -8,7 +7,7 @@ use Rattle.rat_parse_table.specs.RatforSound.{sound}
 use Rattle.rat_parse_values.specs.Values.{tok, program}
 use Rattle.rat_parse.specs.Build.{build}
 use Rattle.rat_parse.specs.Ratfor.{grammar}
-use Rattle.rat_parse.specs.OneTree.{HasOneTree, EachHasOneTree}
+use Rattle.rat_parse.specs.OneTree.{EachHasOneTree}
 
 one_program : (a b : RatProgram) → program a ≡ program b → a ≡ b
 one_program a b e = cc

@@ -1,5 +1,5 @@
 -- What each production makes of its parts.
-use Rattle.std.specs.Prelude.{◌-◌, true, false, None, Some, List, [], ◌∷◌}
+use Rattle.std.specs.Prelude.{true, false, None, Some, List, [], ◌∷◌}
 use Rattle.f66_tree.specs.Fields.{NoField, Single, Group, Chars, Slash}
 use Rattle.f66_tree.specs.Syntax.{Int, Not, Constant, Named, SubUnit, FuncUnit, DataUnit, One, Assign, Goto, Computed, Invoke, Continue, Stop, Format, Dimension, Common, Equivalence, Preset, NoFormula}
 use Rattle.f66_tree.specs.Views.{chained, listed}
@@ -8,9 +8,9 @@ use Rattle.rat_parse_table.specs.declared.table.Production.{Production}
 use Rattle.rat_parse_table.specs.declared.table.Production.TheVariants as productions
 use Rattle.rat_parse_values.specs.Values.{Val, formula, located, formulas, joins, names, numbers, par, pars, range, declared, declareds, area, areas, groups, preset, presets, datum, data_values, entry, entries, field, fields, deed, command, commands, clause, clauses, heading, routine, routines, program, last_of, at}
 use Rattle.rat_parse_values.specs.Parts.{place_in, name_in, text_in, integer_in, number_in, count_in, sign_in, operator_of, as_exprs, as_joins, as_names, as_numbers, as_pars, as_declareds, as_areas, as_groups, as_presets, as_data, as_entries, as_fields, as_statements, as_clauses, as_units, with_declared, with_area, with_preset, with_entry, with_field, with_clause, with_routine, with_datum, as_formula, as_par, as_act, as_command, as_header, as_range, formula_part, act_part, name_if_any, count_or_one, octal_if_any, step_or_one}
-use Rattle.rat_parse_expressions.specs.Phrases.{joined, signed, applied, integer, truth, letter, looped, lengthened, pended, begun, worded, counted_field}
-use Rattle.rat_parse_plain.specs.Plain.{counted, transfer}
-use Rattle.rat_parse_control.specs.Statements.{conditional, repetition, labelled_value, left, declares, typed_unit, main, placed}
+use Rattle.rat_parse_values.specs.Phrases.{joined, signed, applied, integer, truth, letter, looped, lengthened, pended, begun, worded, counted_field}
+use Rattle.rat_parse_values.specs.Plain.{counted, transfer}
+use Rattle.rat_parse_values.specs.Statements.{conditional, repetition, labelled_value, left, declares, typed_unit, main, placed}
 use Rattle.f66_tree.specs.Syntax as f66
 
 -- Parts are counted from the last one, from 0. A production that is not listed gives what its last part does.

@@ -13,6 +13,10 @@ use Rattle.rat_parse.specs.Build.{build}
 abbrev pub grammar : Grammar Token Terminal Nonterminal Production Val
 grammar = grammar_with (λ t. tok t) build
 
+-- its tables alone, which tell whether a text is a program, and make nothing of it
+abbrev pub shape : Grammar Token Terminal Nonterminal Production (Unit {0})
+shape = grammar_with (λ t. tt) (λ p us. tt)
+
 -- a program in memory, as what a whole text gives
 abbrev pub whole : RatProgram → Val
 whole p = program (program_of p)

@@ -1,34 +1,26 @@
 // Ratfor as a language of the parsing machine.
 
-ghost use Rattle.std.specs.Prelude.{◌≡◌, [], IfOk};
+ghost use Rattle.std.specs.Prelude.{◌≡◌, IfOk, Err};
 ghost use Rattle.grammar.specs.Grammar.{EndsWith};
 ghost use Rattle.grammar.specs.Answers.{Answers};
-ghost use Rattle.grammar.specs.Stack.{piled};
-ghost use Rattle.rat_tree.specs.Views.{program_of};
-ghost use Rattle.rat_parse_values.specs.Values.{value};
-ghost use Rattle.rat_parse_values.specs.Parts.{as_program};
-ghost use Rattle.rat_parse.specs.Build.{build as built};
 ghost use Rattle.rat_parse_table.specs.Limits.{meter};
 ghost use Rattle.rat_parse_table.specs.Ratfor.{certificate};
-ghost use Rattle.rat_parse.specs.Ratfor.{grammar as ratfor, whole};
+ghost use Rattle.rat_parse.specs.Ratfor.{grammar as ratfor, shape, whole};
 
-use crate::build;
 use grammar::{Event, Language, Symbol};
-use ground::{List, Refusal, Token};
+use ground::{Refusal, Token};
 use rat_parse_table::{
     Counts, Nonterminal, Production, Terminal, first_counts, next_counts, passed, predict,
     symbol_at, terminal_at,
 };
-use rat_parse_values::{NOWHERE, UnitValue, Value};
-use rat_tree::RatProgram;
 use std::alloc::{AllocError, Global};
 
-/// The grammar of Ratfor (Kernighan, Ratfor: A Preprocessor for a Rational Fortran, 1975).
+/// The tables of Ratfor (Kernighan, Ratfor: A Preprocessor for a Rational Fortran, 1975), which tell whether a text is a program. They
+/// make no tree.
 pub struct Ratfor;
 
 impl Language for Ratfor {
     ghost use Rattle.rat_parse_table.specs.RatforSound.{sound as table_sound};
-    ghost use Rattle.rat_parse_values.specs.Values.{Val, tok};
 
     type Terminal = Terminal;
 
@@ -36,21 +28,21 @@ impl Language for Ratfor {
 
     type Production = Production;
 
-    type Value = Value;
+    type Value = ();
 
     type Meters = Counts;
 
-    ghost Val = { Val };
+    ghost Val = { Unit {0} };
 
-    ghost grammar = { ratfor };
+    ghost grammar = { shape };
 
-    ghost view = { value };
+    ghost view = { λ u. u };
 
     ghost meter = { meter };
 
     ghost certificate = { certificate };
 
-    ghost sound = { table_sound (λ t. tok t) built };
+    ghost sound = { table_sound (λ t. tt) (λ p us. tt) };
 
     fn start() -> Production {
         Production::Whole
@@ -72,18 +64,14 @@ impl Language for Ratfor {
         symbol_at(production, place)
     }
 
-    fn token_value(alloc: Global, token: &Token) -> Result<Value, AllocError> {
-        Ok(Value::Token(token.clone()?))
+    fn token_value(alloc: Global, token: &Token) -> Result<(), AllocError> {
+        Ok(())
     }
 
-    fn build(
-        alloc: Global,
-        production: Production,
-        parts: &mut Vec<Value>,
-    ) -> Result<Value, AllocError>
-        ensures { IfOk result (λ v. value v ≡ ratfor.build production (piled value parts.old.items [])) }
+    fn build(alloc: Global, production: Production, parts: &mut Vec<()>) -> Result<(), AllocError>
+        ensures { IfOk result (λ u. u ≡ tt) }
     {
-        build::build(alloc, production, parts)
+        Ok(())
     }
 
     fn first_meters() -> Counts {
@@ -101,38 +89,16 @@ impl Language for Ratfor {
     }
 }
 
-fn into_program(alloc: Global, part: Value) -> RatProgram
-    ensures { program_of result ≡ as_program (value part) }
-{
-    match part {
-        Value::Unit(UnitValue::Program(program)) => program,
-        other => {
-            drop(other);
-            RatProgram {
-                units: Vec::new(alloc),
-                finish: NOWHERE,
-            }
-        }
-    }
-}
-
-/// The tree of a Ratfor text whose tokens end with the end of the text. A text that is no program is refused at the first
-/// token after which no tokens make one (Syntax); a token that passes a limit before that is refused with the limit's
-/// number: 3 for nesting above 100, 5 for more than 500 units, 6 for more than 20,000 tokens of a unit, 10 for more than
-/// 1,000 nodes of an expression.
-pub fn parse(alloc: Global, tokens: &List<Token>) -> Result<RatProgram, Refusal>
-    requires { EndsWith ratfor certificate.end tokens.now.items }
-    ensures { Answers ratfor meter whole tokens.now.items result }
-{
-    parse_all(alloc, tokens)
-}
-
-fn parse_all(alloc: Global, tokens: &[Token]) -> Result<RatProgram, Refusal>
+/// Why a text whose tokens end with the end of the text is refused: its first fault, or want of memory, which is the answer too where
+/// it has no fault. A text that is no program is refused at the first token after which no tokens make one (Syntax); a token that
+/// passes a limit before that is refused with the limit's number: 3 for nesting above 100, 5 for more than 500 units, 6 for more than
+/// 20,000 tokens of a unit, 10 for more than 1,000 nodes of an expression.
+pub fn refusal_of(alloc: Global, tokens: &[Token]) -> Refusal
     requires { EndsWith ratfor certificate.end tokens.now }
-    ensures { Answers ratfor meter whole tokens.now result }
+    ensures { Answers ratfor meter whole tokens.now (Err result) }
 {
     match grammar::parse::<Ratfor>(alloc, tokens) {
-        Ok(part) => Ok(into_program(alloc, part)),
-        Err(refusal) => Err(refusal),
+        Ok(()) => Refusal::Memory,
+        Err(refusal) => refusal,
     }
 }

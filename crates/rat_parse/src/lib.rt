@@ -1,10 +1,8 @@
-//! The grammar of Ratfor: from the tokens of a text to its tree, or to its first fault.
+//! The grammar of Ratfor: the first fault of a text, and that it has at most one tree.
 #![tactic(auto)]
 
-mod build;
-mod empty;
 mod language;
 mod laws;
 
-pub use language::{Ratfor, parse};
+pub use language::refusal_of;
 pub use laws::one_tree;

@@ -19,9 +19,9 @@ use Rattle.rat_parse_values.specs.Values.{Val, last_of, at}
 use Rattle.rat_parse_values.specs.Values as val
 use Rattle.rat_parse_values.specs.Kinds as part
 use Rattle.rat_parse_values.specs.Parts.{name_in, number_in, integer_in, as_exprs}
-use Rattle.rat_parse_expressions.specs.Phrases.{looped, lengthened, pended, begun}
-use Rattle.rat_parse_plain.specs.Plain.{counted_with}
-use Rattle.rat_parse_control.specs.Statements.{labelled_value}
+use Rattle.rat_parse_values.specs.Phrases.{looped, lengthened, pended, begun}
+use Rattle.rat_parse_values.specs.Plain.{counted_with}
+use Rattle.rat_parse_values.specs.Statements.{labelled_value}
 use Rattle.rat_parse.specs.Build.{build}
 use Rattle.rat_parse.specs.Ratfor.{grammar}
 use Rattle.rat_parse_kinds.specs.Kinds.{Kind, Word, Number, Mark, Nothing, Formula, Placed, AnyFormula, Formulas, Par, Range, Declareds, Datum, Entry, Rest, RestStart, Fields, WordOrFields, Deed, Command, HeadingOrDeclareds, PerhapsWord, PerhapsNumber, PerhapsMark, PerhapsFormula, PerhapsPlaced, PerhapsFormulas, PerhapsPar, PerhapsDeed, PerhapsCommand, is_token, is, of_terminal}

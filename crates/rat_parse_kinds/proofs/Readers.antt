@@ -12,9 +12,9 @@ use Rattle.rat_parse_values.specs.Values.{Val}
 use Rattle.rat_parse_values.specs.Values as val
 use Rattle.rat_parse_values.specs.Kinds as part
 use Rattle.rat_parse_values.specs.Parts.{kind_name, kind_word, name_in, with_declared, with_area, with_preset, with_entry, with_field, with_clause, with_routine, with_datum, as_formula, as_command, formula_part, act_part, name_if_any, count_or_one, octal_if_any, step_or_one}
-use Rattle.rat_parse_expressions.specs.Phrases.{applied, looped, lengthened, pended, begun, worded, counted_field}
-use Rattle.rat_parse_plain.specs.Plain.{counted_with}
-use Rattle.rat_parse_control.specs.Statements.{conditional, repetition, labelled_value, typed_from}
+use Rattle.rat_parse_values.specs.Phrases.{applied, looped, lengthened, pended, begun, worded, counted_field}
+use Rattle.rat_parse_values.specs.Plain.{counted_with}
+use Rattle.rat_parse_values.specs.Statements.{conditional, repetition, labelled_value, typed_from}
 use Rattle.rat_parse_kinds.specs.Kinds.{Declared as kind_declared, Area as kind_area, Preset as kind_preset, Datum, Entry as kind_entry, Field, Clause, Routine, Rest, RestStart, Command as kind_command, PerhapsFormula, PerhapsPlaced, PerhapsFormulas, PerhapsPar, PerhapsDeed, PerhapsCommand}
 use Rattle.rat_parse_kinds.proofs.Seen.{only, word, if_word, if_number, any_formula, heading_or_declareds, word_or_fields}
 

@@ -2,3 +2,7 @@
 pub mod Kinds
 pub mod Values
 pub mod Parts
+pub mod Phrases
+pub mod Plain
+pub mod Choices
+pub mod Statements

@@ -1,8 +1,7 @@
 -- What is read off the parts: of a token its place, name, number or sign; of a part what it gives.
-use Rattle.std.specs.Prelude.{ℕ, zero, suc, ◌+◌, ◌-◌, ◌*◌, ◌/◌, ◌%◌, nat_le, Bool, true, false, ℤ, pos, negsuc, Option, None, Some, List, [], ◌∷◌, map, codes, if◌then◌else◌}
+use Rattle.std.specs.Prelude.{ℕ, ◌+◌, ◌*◌, ◌/◌, ◌%◌, nat_le, Bool, true, false, ℤ, pos, negsuc, Option, None, Some, List, [], ◌∷◌, map, codes, if◌then◌else◌}
 use Rattle.std.specs.Char.{to_ascii_uppercase}
 use Rattle.ground.specs.declared.place.Place.{Place}
-use Rattle.ground.specs.declared.token.Token.{Token}
 use Rattle.ground.specs.declared.token.TokenKind.{TokenKind}
 use Rattle.ground.specs.declared.token.TokenKind.TheVariants as kinds
 use Rattle.ground.specs.declared.token.Sign.{Sign}

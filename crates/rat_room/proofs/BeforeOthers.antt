@@ -14,9 +14,9 @@ use Rattle.rat_parse_values.specs.Kinds as part
 use Rattle.rat_parse_values.specs.Values.{Val, at}
 use Rattle.rat_parse_values.specs.Values as val
 use Rattle.rat_parse_values.specs.Parts.{place_in, name_in, number_in, count_in, text_in, as_exprs, as_fields, as_statements, as_formula}
-use Rattle.rat_parse_expressions.specs.Phrases.{looped, lengthened, pended, begun, width, worded, counted_field}
-use Rattle.rat_parse_plain.specs.Plain.{counted}
-use Rattle.rat_parse_control.specs.Statements.{labelled_value}
+use Rattle.rat_parse_values.specs.Phrases.{looped, lengthened, pended, begun, width, worded, counted_field}
+use Rattle.rat_parse_values.specs.Plain.{counted}
+use Rattle.rat_parse_values.specs.Statements.{labelled_value}
 use Rattle.rat_parse.specs.Build.{build}
 use Rattle.rat_room.proofs.TreeWeights.{Each}
 use Rattle.rat_room.proofs.NineParts.{part_at}

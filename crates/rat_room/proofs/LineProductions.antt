@@ -11,9 +11,9 @@ use Rattle.rat_parse_table.specs.declared.table.Production.TheVariants as produc
 use Rattle.rat_parse_table.specs.Table.{symbols, nonterminal_of}
 use Rattle.rat_parse_values.specs.Values.{Val, at, tok}
 use Rattle.rat_parse_values.specs.Parts.{place_in, name_in, number_in, count_or_one, as_exprs, as_statements, as_clauses, as_formula, as_command, as_units, act_part, formula_part}
-use Rattle.rat_parse_expressions.specs.Phrases.{looped, lengthened, pended, begun}
-use Rattle.rat_parse_plain.specs.Plain.{counted}
-use Rattle.rat_parse_control.specs.Statements.{labelled_value}
+use Rattle.rat_parse_values.specs.Phrases.{looped, lengthened, pended, begun}
+use Rattle.rat_parse_values.specs.Plain.{counted}
+use Rattle.rat_parse_values.specs.Statements.{labelled_value}
 use Rattle.rat_parse.specs.Build.{build}
 use Rattle.rat_parse.specs.Ratfor.{grammar}
 use Rattle.rat_room.proofs.Weights.{total}

@@ -10,7 +10,7 @@ use Rattle.rat_parse_values.specs.Kinds as part
 use Rattle.rat_parse_values.specs.Values.{Val}
 use Rattle.rat_parse_values.specs.Values as val
 use Rattle.rat_parse_values.specs.Parts.{as_exprs, as_statements, as_clauses, as_command, as_units, with_clause, with_routine, is_word}
-use Rattle.rat_parse_control.specs.Statements.{conditional, repetition, with_own_label, labelled_value, left, typed_unit}
+use Rattle.rat_parse_values.specs.Statements.{conditional, repetition, with_own_label, labelled_value, left, typed_unit}
 use Rattle.rat_room.proofs.Lines.{expressions, lines_of, lines_in, lines_among}
 use Rattle.rat_room.proofs.PartWeights.{IsEven}
 use Rattle.rat_room.proofs.BeforeOthers.{IsBare}

@@ -11,9 +11,9 @@ use Rattle.rat_parse_values.specs.Kinds as part
 use Rattle.rat_parse_values.specs.Values.{Val}
 use Rattle.rat_parse_values.specs.Values as val
 use Rattle.rat_parse_values.specs.Parts.{is_word, is_minus, sign_in, type_word, with_entry}
-use Rattle.rat_parse_expressions.specs.Phrases.{joined, signed, applied, applied_if, looped, lengthened, pended, begun}
-use Rattle.rat_parse_plain.specs.Plain.{counted, transfer}
-use Rattle.rat_parse_control.specs.Statements.{conditional, repetition, with_own_label, labelled_value, left, declares, typed, typed_unit}
+use Rattle.rat_parse_values.specs.Phrases.{joined, signed, applied, applied_if, looped, lengthened, pended, begun}
+use Rattle.rat_parse_values.specs.Plain.{counted, transfer}
+use Rattle.rat_parse_values.specs.Statements.{conditional, repetition, with_own_label, labelled_value, left, declares, typed, typed_unit}
 use Rattle.rat_room.proofs.Weights.{total, if_any, of_formula, of_par, of_entries, of_act, of_command, of_commands, of_header, weight}
 use Rattle.rat_room.proofs.PartWeights.{chained_weighs, listed_weighs, with_entry_weighs, declareds_weigh}
 

@@ -13,8 +13,8 @@ use Rattle.rat_parse_values.specs.Values.{Val, at, tok}
 use Rattle.rat_parse_values.specs.Parts.{place_in, name_in, number_in, count_or_one, integer_in, as_exprs, as_joins, as_declareds, as_areas, as_presets, as_entries, as_statements, as_clauses, as_formula, as_par, as_command}
 use Rattle.f66_tree.specs.Syntax.{Int}
 use Rattle.f66_tree.specs.Views.{listed}
-use Rattle.rat_parse_expressions.specs.Phrases as operators
-use Rattle.rat_parse_control.specs.Statements.{labelled_value}
+use Rattle.rat_parse_values.specs.Phrases as operators
+use Rattle.rat_parse_values.specs.Statements.{labelled_value}
 use Rattle.rat_parse.specs.Build.{build}
 use Rattle.rat_parse.specs.Ratfor.{grammar}
 use Rattle.rat_room.proofs.Weights.{total, of_formula, weight}

@@ -11,9 +11,9 @@ use Rattle.rat_parse_values.specs.Kinds as part
 use Rattle.rat_parse_values.specs.Values.{Val}
 use Rattle.rat_parse_values.specs.Values as val
 use Rattle.rat_parse_values.specs.Parts.{is_word, is_minus, sign_in, name_in, with_entry}
-use Rattle.rat_parse_expressions.specs.Phrases.{joined, signed, applied, applied_if, looped, lengthened, pended, begun, worded, counted_field}
-use Rattle.rat_parse_plain.specs.Plain.{counted, transfer}
-use Rattle.rat_parse_control.specs.Statements.{conditional, repetition, with_own_label, labelled_value, left, declares, typed_unit}
+use Rattle.rat_parse_values.specs.Phrases.{joined, signed, applied, applied_if, looped, lengthened, pended, begun, worded, counted_field}
+use Rattle.rat_parse_values.specs.Plain.{counted, transfer}
+use Rattle.rat_parse_values.specs.Statements.{conditional, repetition, with_own_label, labelled_value, left, declares, typed_unit}
 use Rattle.rat_room.proofs.BeforeOthers.{word_holds}
 use Rattle.rat_room.proofs.Weights.{if_any}
 use Rattle.deck_laws.specs.Nesting.{deepest, nesting, entries_nesting, fields_nesting, act_nesting}

@@ -15,8 +15,8 @@ use Rattle.rat_parse_values.specs.Parts.{place_in, name_in, number_in, count_in,
 use Rattle.f66_tree.specs.Fields.{NoField}
 use Rattle.f66_tree.specs.Syntax.{Int}
 use Rattle.f66_tree.specs.Views.{listed}
-use Rattle.rat_parse_expressions.specs.Phrases.{joined}
-use Rattle.rat_parse_control.specs.Statements.{labelled_value}
+use Rattle.rat_parse_values.specs.Phrases.{joined}
+use Rattle.rat_parse_values.specs.Statements.{labelled_value}
 use Rattle.rat_parse.specs.Build.{build}
 use Rattle.rat_room.proofs.TreeWeights.{Each}
 use Rattle.deck_laws.specs.Nesting.{nesting}

@@ -14,9 +14,9 @@ use Rattle.rat_parse_values.specs.Values.{Val, at}
 use Rattle.rat_parse_values.specs.Values as val
 use Rattle.rat_parse_values.specs.Parts.{place_in, name_in, number_in, count_in, count_or_one, is_word, as_exprs, as_fields, as_formula, as_par, as_entries, as_act, as_command, as_statements, as_clauses, as_units, formula_part, act_part, with_field, with_clause, with_routine}
 use Rattle.f66_tree.specs.Views.{chained, listed}
-use Rattle.rat_parse_expressions.specs.Phrases as operators
-use Rattle.rat_parse_plain.specs.Plain.{counted}
-use Rattle.rat_parse_control.specs.Statements.{conditional, repetition, with_own_label, labelled_value, typed_unit}
+use Rattle.rat_parse_values.specs.Phrases as operators
+use Rattle.rat_parse_values.specs.Plain.{counted}
+use Rattle.rat_parse_values.specs.Statements.{conditional, repetition, with_own_label, labelled_value, typed_unit}
 use Rattle.rat_parse.specs.Build.{build}
 use Rattle.rat_room.proofs.TreeWeights.{Each}
 use Rattle.rat_room.proofs.NineParts.{part_at}

@@ -17,11 +17,11 @@ is_none (Some x) e = cc
 
 pub returns : goal.returns
 returns g c =
-    let l = g.L.Language.grammar in
+    let l = g.L.Tables.grammar in
     let r = c.args.reader.now in
     let rest = take (length r.rest.now - 1) (drop 1 r.rest.now) in
-    reads_token l g.L.Language.certificate g.L.Language.meter c.args.terminal r _ c.token-item.result c.next-item.result (take (length rest - 1) (drop 1 rest))
-    (g.met.L.Language.sound.same_terminal.is _ _ (sym c.same_terminal.ensures ∙ c.if-not-same_terminal.false))
+    reads_token l g.L.Tables.certificate g.L.Tables.meter c.args.terminal r _ c.token-item.result c.next-item.result (take (length rest - 1) (drop 1 rest))
+    (g.met.L.Tables.sound.same_terminal.is _ _ (sym c.same_terminal.ensures ∙ c.if-not-same_terminal.false))
     (cut r.rest.now c.token-item.result c.in-len1-up.len_at_least c.token-item.is)
     (cut rest c.next-item.result c.in-len1-up-rest.len_at_least c.next-item.is)
     c.terminal_of-reader.ensures

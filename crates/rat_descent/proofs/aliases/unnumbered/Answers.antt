@@ -5,7 +5,7 @@ use Rattle.rat_parse_table.specs.declared.table.Production.TheVariants as produc
 use Rattle.rat_parse_values.specs.Values.{formula, tok}
 use Rattle.rat_parse_values.specs.Parts.{kind_integer, is_true}
 use Rattle.descent.specs.Reading.{done, next}
-use Rattle.rat_parse_expressions.specs.Phrases.{signed}
+use Rattle.rat_parse_values.specs.Phrases.{signed}
 use Rattle.rat_descent.proofs.Productions.{production, as_value}
 use Rattle.rat_descent.proofs.aliases.unnumbered.Goals as goal
 

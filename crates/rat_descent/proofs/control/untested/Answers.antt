@@ -3,7 +3,7 @@ use Rattle.std.proofs.Common.{true, map, ap, ◌∙◌}
 use Rattle.f66_tree.specs.Views.{formula_of, chained}
 use Rattle.rat_tree.specs.Syntax.{AndClause}
 use Rattle.rat_tree.specs.Views.{commands}
-use Rattle.rat_parse_control.proofs.TreeLemmas.{whole_clause}
+use Rattle.rat_parse_values.proofs.TreeLemmas.{whole_clause}
 use Rattle.rat_descent.proofs.control.untested.Goals as goal
 
 pub returns : goal.returns

@@ -6,7 +6,7 @@ use Rattle.f66_tree.specs.declared.format.Field.{Field}
 use Rattle.f66_tree.specs.declared.format.Field.TheVariants as forms
 use Rattle.rat_parse_table.specs.declared.table.Production.TheVariants as productions
 use Rattle.rat_parse_values.specs.Values.{field, fields}
-use Rattle.rat_parse_expressions.specs.Phrases.{worded, counted_field}
+use Rattle.rat_parse_values.specs.Phrases.{worded, counted_field}
 use Rattle.descent.specs.Reading.{done, next}
 use Rattle.rat_descent.proofs.Productions.{production, as_value}
 use Rattle.rat_descent.proofs.FormatLemmas.{followed, followed_more, followed_all, carried, slash_at, comma_at, edit_at, ends_at}

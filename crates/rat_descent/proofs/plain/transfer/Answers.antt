@@ -1,7 +1,7 @@
 -- Why `transfer` reads its nonterminal.
 use Rattle.std.proofs.Common.{refl, ap, sym, ◌∙◌}
 use Rattle.f66_tree.specs.Views.{par_of, listed}
-use Rattle.rat_parse_plain.specs.Plain.{transfer as transferred}
+use Rattle.rat_parse_values.specs.Plain.{transfer as transferred}
 use Rattle.rat_parse_values.specs.Values.{deed, tok}
 use Rattle.rat_parse_values.specs.Parts.{as_entries}
 use Rattle.rat_parse_table.specs.declared.table.Production.TheVariants as productions

@@ -10,9 +10,9 @@ use Rattle.rat_parse_table.specs.ParseTable.{predict_at}
 use Rattle.rat_parse_table.specs.declared.table.Production.TheVariants as productions
 use Rattle.rat_parse_values.specs.Values.{command, range_of, clause as clause_value}
 use Rattle.rat_parse_values.specs.Parts.{as_exprs, as_statements}
-use Rattle.rat_parse_control.specs.Choices.{chosen}
-use Rattle.rat_parse_control.specs.Statements.{labelled_value}
-use Rattle.rat_parse_control.proofs.TreeLemmas.{choice_is}
+use Rattle.rat_parse_values.specs.Choices.{chosen}
+use Rattle.rat_parse_values.specs.Statements.{labelled_value}
+use Rattle.rat_parse_values.proofs.TreeLemmas.{choice_is}
 use Rattle.descent.specs.Reading.{done, next}
 use Rattle.rat_descent.specs.Statements.{stated, unlabelled, repeated_so}
 use Rattle.rat_descent.proofs.Productions.{production, nothing, otherwise, as_value, lengthens_nothing, lengthens_more, viewed_more}

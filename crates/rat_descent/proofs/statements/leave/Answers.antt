@@ -1,7 +1,7 @@
 -- Why `leave` reads its nonterminal.
 use Rattle.std.proofs.Common.{refl, sym, ap, ◌∙◌}
 use Rattle.rat_parse_values.specs.Values.{tok, command}
-use Rattle.rat_parse_control.specs.Statements.{left}
+use Rattle.rat_parse_values.specs.Statements.{left}
 use Rattle.rat_parse_table.specs.declared.table.Production.TheVariants as productions
 use Rattle.descent.specs.Reading.{done, next}
 use Rattle.rat_descent.proofs.Productions.{production, as_value}

@@ -3,7 +3,7 @@ use Rattle.std.proofs.Common.{refl, sym, ap}
 use Rattle.rat_tree.specs.Views.{commands}
 use Rattle.rat_parse_table.specs.declared.table.Production.TheVariants as productions
 use Rattle.rat_parse_values.specs.Values.{routine}
-use Rattle.rat_parse_control.specs.Statements.{main}
+use Rattle.rat_parse_values.specs.Statements.{main}
 use Rattle.descent.specs.Reading.{done, next}
 use Rattle.rat_descent.proofs.Productions.{production, as_value}
 use Rattle.rat_descent.proofs.units.empty_main.Goals as goal

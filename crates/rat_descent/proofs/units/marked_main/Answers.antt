@@ -5,8 +5,8 @@ use Rattle.rat_tree.specs.Views.{command_of}
 use Rattle.rat_parse_table.specs.declared.table.Production.TheVariants as productions
 use Rattle.rat_parse_values.specs.Values.{routine}
 use Rattle.rat_parse_values.specs.Parts.{as_statements}
-use Rattle.rat_parse_control.specs.Statements.{main, with_own_label}
-use Rattle.rat_parse_control.proofs.TreeLemmas.{marked_first}
+use Rattle.rat_parse_values.specs.Statements.{main, with_own_label}
+use Rattle.rat_parse_values.proofs.TreeLemmas.{marked_first}
 use Rattle.descent.specs.Reading.{done, next}
 use Rattle.rat_descent.proofs.Productions.{production, as_value}
 use Rattle.rat_descent.proofs.Bodies.{behind_first}

@@ -6,7 +6,7 @@ use Rattle.rat_tree.specs.Syntax.{AndCommand, Plain}
 use Rattle.rat_parse_table.specs.declared.table.Production.TheVariants as productions
 use Rattle.rat_parse_values.specs.Values.{routine}
 use Rattle.rat_parse_values.specs.Parts.{kind_name, as_statements}
-use Rattle.rat_parse_control.specs.Statements.{main}
+use Rattle.rat_parse_values.specs.Statements.{main}
 use Rattle.descent.specs.Reading.{done, next}
 use Rattle.rat_descent.proofs.Productions.{production, as_value}
 use Rattle.rat_descent.proofs.Bodies.{behind_none, behind_first}

@@ -1,2 +1,0 @@
--- The lemmas of rat_parse_control.
-pub mod TreeLemmas

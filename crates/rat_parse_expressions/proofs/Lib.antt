@@ -1,2 +1,0 @@
--- The lemmas of rat_parse_expressions.
-pub mod FieldLemmas

@@ -1,2 +1,0 @@
--- The definitions that the contracts of rat_parse_expressions cite.
-pub mod Phrases

@@ -1,2 +1,0 @@
--- The definitions that the contracts of rat_parse_plain cite.
-pub mod Plain
