@@ -11,7 +11,7 @@ ghost use Rattle.rat_descent.specs.Reading.{Reads, Gives, Formed};
 
 use crate::aliases::{groups, presets};
 use crate::declarations::{areas, declared_list, parameter};
-use crate::expressions::{expression, reference};
+use crate::expressions::{expression, read_reference, unread};
 use crate::formats::fields;
 use crate::reader::{Reader, is_at, take_token};
 use crate::tokens::{is_read, letter_at, name_of, name_token, number_of, number_token};
@@ -60,7 +60,8 @@ fn assignment(
 ) -> Result<(Place, StmtKind), GiveUp>
     ensures { IfOk result (λ s. Reads (nonterminal_symbol nonterminals.Simple) reader.old (deed s.0 (act_of s.1)) reader.new) }
 {
-    let (place, left) = reference(alloc, reader, room)?;
+    let mut left = unread();
+    let place = read_reference(alloc, reader, room, &mut left)?;
     take_token(reader, Terminal::Assign)?;
     let right = expression(alloc, reader, room)?;
     Ok((place, StmtKind::Assign(left, right)))

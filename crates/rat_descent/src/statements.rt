@@ -65,19 +65,33 @@ fn condition(alloc: Global, reader: &mut Reader<'_>, room: usize) -> Result<Expr
     Ok(e)
 }
 
+/// An assignment or a CALL without a label.
+fn simple_item(alloc: Global, reader: &mut Reader<'_>, room: usize) -> Result<RatStmt, GiveUp>
+    ensures { IfOk result (λ s. Reads (nonterminal_symbol nonterminals.Item) reader.old (stated s) reader.new) }
+{
+    let (place, act) = simple(alloc, reader, room)?;
+    ending(reader)?;
+    Ok(unmarked(place, RatKind::Plain(act)))
+}
+
 /// A statement with its label. So many statements may still stand inside one another.
 #[cycle(statement)]
 pub fn item(alloc: Global, reader: &mut Reader<'_>, room: usize) -> Result<RatStmt, GiveUp>
     ensures { IfOk result (λ s. Reads (nonterminal_symbol nonterminals.Item) reader.old (stated s) reader.new) }
 {
     match reader.seen {
+        Terminal::Name | Terminal::FieldWord | Terminal::Call => simple_item(alloc, reader, room),
         Terminal::Octal | Terminal::Number => {
             let label = number_of(number_token(reader)?);
             let (place, kind) = bare(alloc, reader, room)?;
             Ok(marked(label, place, kind))
         }
+        Terminal::Type | Terminal::Double => {
+            let (place, kind) = typed(alloc, reader)?;
+            Ok(unmarked(place, kind))
+        }
         _ => {
-            let (place, kind) = bare(alloc, reader, room)?;
+            let (place, kind) = untyped(alloc, reader, room)?;
             Ok(unmarked(place, kind))
         }
     }

@@ -34,8 +34,8 @@ decreases-factor l = 12 * l.room + 4
 abbrev pub decreases-prime : goal.decreases-prime
 decreases-prime l = 12 * l.room + 3
 
-abbrev pub decreases-reference : goal.decreases-reference
-decreases-reference l = 12 * l.room + 2
+abbrev pub decreases-read_reference : goal.decreases-read_reference
+decreases-read_reference l = 12 * l.room + 2
 
 abbrev pub decreases-group : goal.decreases-group
 decreases-group l = 12 * l.room + 1
@@ -46,19 +46,19 @@ decreases-subscripts l = 12 * l.room
 -- What joins the operands so far to an expression joins those at the beginning to it.
 abbrev pub invariant-expression-more : goal.invariant-expression-more
 invariant-expression-more l =
-    (f : Formula) (s : Reader) → Joins nonterminals.OrTail l.reader (formula_of l.first) f s → Joins nonterminals.OrTail l.initial.reader (formula_of l.initial.first) f s
+    (f : Formula) (s : Reader) → Joins nonterminals.OrTail l.reader (formula_of l.e) f s → Joins nonterminals.OrTail l.initial.reader (formula_of l.initial.e) f s
 
 abbrev pub invariant-conjunction-more : goal.invariant-conjunction-more
 invariant-conjunction-more l =
-    (f : Formula) (s : Reader) → Joins nonterminals.AndTail l.reader (formula_of l.first) f s → Joins nonterminals.AndTail l.initial.reader (formula_of l.initial.first) f s
+    (f : Formula) (s : Reader) → Joins nonterminals.AndTail l.reader (formula_of l.e) f s → Joins nonterminals.AndTail l.initial.reader (formula_of l.initial.e) f s
 
 abbrev pub invariant-sum-more : goal.invariant-sum-more
 invariant-sum-more l =
-    (f : Formula) (s : Reader) → Joins nonterminals.SumTail l.reader (formula_of l.first) f s → Joins nonterminals.SumTail l.initial.reader (formula_of l.initial.first) f s
+    (f : Formula) (s : Reader) → Joins nonterminals.SumTail l.reader (formula_of l.e) f s → Joins nonterminals.SumTail l.initial.reader (formula_of l.initial.e) f s
 
 abbrev pub invariant-term-more : goal.invariant-term-more
 invariant-term-more l =
-    (f : Formula) (s : Reader) → Joins nonterminals.TermTail l.reader (formula_of l.first) f s → Joins nonterminals.TermTail l.initial.reader (formula_of l.initial.first) f s
+    (f : Formula) (s : Reader) → Joins nonterminals.TermTail l.reader (formula_of l.e) f s → Joins nonterminals.TermTail l.initial.reader (formula_of l.initial.e) f s
 
 abbrev pub invariant-subscripts-more : goal.invariant-subscripts-more
 invariant-subscripts-more l =

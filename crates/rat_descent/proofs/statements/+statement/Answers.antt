@@ -26,8 +26,13 @@ item-returns-in_ok-place-in-Octal t c =
     as_value (ap (λ n. labelled_value n (unlabelled c.in_ok-place-in-Octal.place c.in_ok-place-in-Octal.kind)) (sym c.number_of-label.ensures) ∙ sym c.marked.ensures)
     (production productions.Marked refl refl refl refl (next c.in_ok-number_token-in-Octal.ensures (next c.in_ok-place-in-Octal.ensures done)))
 
+pub item-returns-in_ok-place-in-Type : goal.item-returns-in_ok-place-in-Type
+item-returns-in_ok-place-in-Type t c = as_value (sym c.unmarked.ensures) (production productions.Unmarked refl refl refl refl (next c.in_ok-place-in-Type.ensures done))
+
 pub item-returns-in_ok-place-in_default : goal.item-returns-in_ok-place-in_default
-item-returns-in_ok-place-in_default t c = as_value (sym c.unmarked.ensures) (production productions.Unmarked refl refl refl refl (next c.in_ok-place-in_default.ensures done))
+item-returns-in_ok-place-in_default t c =
+    as_value (sym c.unmarked-in_default.ensures) (production productions.Unmarked refl refl refl refl
+    (next (production productions.UntypedBare refl refl refl refl (next c.in_ok-place-in_default.ensures done)) done))
 
 pub bare-returns-in_ok-untyped-in_default : goal.bare-returns-in_ok-untyped-in_default
 bare-returns-in_ok-untyped-in_default t c = production productions.UntypedBare refl refl refl refl (next c.in_ok-untyped-in_default.ensures done)
