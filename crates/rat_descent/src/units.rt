@@ -3,10 +3,12 @@
 ghost use Rattle.std.specs.Prelude.{◌≡◌, [], ◌∷◌, IfOk, map};
 ghost use Rattle.grammar.specs.declared.language.Symbol.TheVariants.{Nonterminal as nonterminal_symbol};
 ghost use Rattle.f66_tree.specs.Views.{header_of};
-ghost use Rattle.rat_tree.specs.Views.{commands, rat_routine_of};
+ghost use Rattle.rat_tree.specs.Syntax.{AndCommand};
+ghost use Rattle.rat_tree.specs.Views.{command, commands, rat_routine_of};
 ghost use Rattle.rat_parse_table.specs.declared.table.Nonterminal.TheVariants as nonterminals;
 ghost use Rattle.rat_parse_values.specs.Values.{heading, routine};
 ghost use Rattle.rat_parse_values.specs.Parts.{as_names, as_statements, as_units};
+ghost use Rattle.rat_parse_values.specs.Statements.{main};
 ghost use Rattle.rat_descent.specs.Reading.{Reads, Gives};
 ghost use Rattle.rat_descent.specs.Statements.{before};
 
@@ -96,6 +98,32 @@ fn headed(alloc: Global, reader: &mut Reader<'_>) -> Result<RatUnit, GiveUp>
     })
 }
 
+fn one_statement(alloc: Global, statement: RatStmt) -> Result<Vec<RatStmt>, AllocError>
+    ensures { IfOk result (λ list. list.items ≡ statement ∷ []) }
+{
+    let mut list = Vec::new(alloc);
+    list.push(statement)?;
+    Ok(list)
+}
+
+/// A main at this place that begins with this statement.
+fn main_from(
+    alloc: Global,
+    reader: &mut Reader<'_>,
+    place: Place,
+    first: RatStmt,
+) -> Result<RatUnit, GiveUp>
+    ensures { IfOk result (λ u. Gives nonterminals.Body (λ v. main place (AndCommand (command first) (as_statements v))) reader.old (rat_routine_of u) reader.new) }
+{
+    let list = one_statement(alloc, first)?;
+    let body = body(alloc, reader, list)?;
+    Ok(RatUnit {
+        header: Header::Main,
+        body,
+        place,
+    })
+}
+
 /// A unit that begins with a type: a function, or a main.
 fn typed_unit(alloc: Global, reader: &mut Reader<'_>) -> Result<RatUnit, GiveUp>
     ensures { IfOk result (λ u. Reads (nonterminal_symbol nonterminals.UnitText) reader.old (routine (rat_routine_of u)) reader.new) }
@@ -118,29 +146,9 @@ fn typed_unit(alloc: Global, reader: &mut Reader<'_>) -> Result<RatUnit, GiveUp>
     }
     let list = declared_list(alloc, reader)?;
     ending(reader)?;
+    let label = None;
     let kind = RatKind::Plain(StmtKind::Typed(word, list));
-    let first = one_statement(
-        alloc,
-        RatStmt {
-            label: None,
-            place,
-            kind,
-        },
-    )?;
-    let body = body(alloc, reader, first)?;
-    Ok(RatUnit {
-        header: Header::Main,
-        body,
-        place,
-    })
-}
-
-fn one_statement(alloc: Global, statement: RatStmt) -> Result<Vec<RatStmt>, AllocError>
-    ensures { IfOk result (λ list. list.items ≡ statement ∷ []) }
-{
-    let mut list = Vec::new(alloc);
-    list.push(statement)?;
-    Ok(list)
+    Ok(main_from(alloc, reader, place, RatStmt { label, place, kind })?)
 }
 
 /// A main whose first statement has a label.
@@ -150,34 +158,17 @@ fn marked_main(alloc: Global, reader: &mut Reader<'_>) -> Result<RatUnit, GiveUp
     let token = number_token(reader)?;
     let label = Some(number_of(token));
     let (place, kind) = bare(alloc, reader, ROOM)?;
-    let first = one_statement(alloc, RatStmt { label, place, kind })?;
-    let body = body(alloc, reader, first)?;
-    Ok(RatUnit {
-        header: Header::Main,
-        body,
-        place: token.place,
-    })
+    let first = RatStmt { label, place, kind };
+    Ok(main_from(alloc, reader, token.place, first)?)
 }
 
 /// A main whose first statement has neither a label nor a type.
 fn plain_main(alloc: Global, reader: &mut Reader<'_>) -> Result<RatUnit, GiveUp>
     ensures { IfOk result (λ u. Reads (nonterminal_symbol nonterminals.UnitText) reader.old (routine (rat_routine_of u)) reader.new) }
 {
+    let label = None;
     let (place, kind) = untyped(alloc, reader, ROOM)?;
-    let first = one_statement(
-        alloc,
-        RatStmt {
-            label: None,
-            place,
-            kind,
-        },
-    )?;
-    let body = body(alloc, reader, first)?;
-    Ok(RatUnit {
-        header: Header::Main,
-        body,
-        place,
-    })
+    Ok(main_from(alloc, reader, place, RatStmt { label, place, kind })?)
 }
 
 fn empty_main(alloc: Global, reader: &mut Reader<'_>) -> Result<RatUnit, GiveUp>

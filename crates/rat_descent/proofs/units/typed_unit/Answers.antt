@@ -9,7 +9,7 @@ use Rattle.rat_parse_values.specs.Parts.{kind_name, as_statements}
 use Rattle.rat_parse_values.specs.Statements.{main}
 use Rattle.descent.specs.Reading.{done, next}
 use Rattle.rat_descent.proofs.Productions.{production, as_value}
-use Rattle.rat_descent.proofs.Bodies.{behind_none, behind_first}
+use Rattle.rat_descent.proofs.Bodies.{behind_none}
 use Rattle.rat_descent.proofs.units.typed_unit.Goals as goal
 
 pub returns-then-is_at : goal.returns-then-is_at
@@ -29,9 +29,8 @@ returns-then-is_at c =
 pub returns : goal.returns
 returns c =
     let q = c.in_ok-token.token.now.place in
-    let body = c.in_ok-body-2.ensures in
+    let rest = c.in_ok-main_from.ensures in
     as_value
-    (ap (λ t. routine (main q (AndCommand (Plain None q (Typed t (map declared_of c.in_ok-list-2.list.items))) (as_statements body.value)))) (sym c.type_at-word.ensures)
-    ∙ ap (λ b. routine (main q b)) (behind_first body.value c.in_ok-first.ensures body.is))
+    (ap (λ t. routine (main q (AndCommand (Plain None q (Typed t (map declared_of c.in_ok-list-2.list.items))) (as_statements rest.value)))) (sym c.type_at-word.ensures) ∙ ap routine rest.is)
     (production productions.TypedUnit refl refl refl refl (next c.in_ok-token.ensures
-    (next (production productions.TypedMain refl refl refl refl (next c.in_ok-list-2.ensures done)) (next c.in_ok-ending-2.ensures.reads (next body.reads done)))))
+    (next (production productions.TypedMain refl refl refl refl (next c.in_ok-list-2.ensures done)) (next c.in_ok-ending-2.ensures.reads (next rest.reads done)))))
