@@ -22,17 +22,6 @@ lines() { # UNITS
     }'
 }
 
-# A main and so many subroutines, each the body of one of three examples in turn.
-programs() { # UNITS
-    awk -v n="$1" '
-        FNR == 1 { files++ }
-        { body[files] = body[files] $0 "\n" }
-        END {
-            print "k = 0\nend"
-            for (i = 1; i <= n; i++) printf "subroutine s%d\n%s", i, body[(i - 1) % files + 1]
-        }' "$here/examples/queens.r" "$here/examples/life.r" "$here/examples/calend.r"
-}
-
 # A main and so many subroutines of 107 FORMATs, each of which takes twenty cards.
 formats() { # UNITS
     awk -v n="$1" 'BEGIN {

@@ -1,4 +1,4 @@
-# What the scripts of this folder share: the programs, a folder for texts, the least time of a layer, and how figures are told.
+# What the scripts of this folder share: the programs, a folder for texts, the least time of a layer, how figures are told, and a text.
 # Each script reads it by `. "$(dirname "$0")/common.sh"`, and ends with `exit $status`.
 here=$(CDPATH= cd -- "$(dirname -- "$0")/.." && pwd) || exit 1
 eft=$here/crates/eft/out/eft
@@ -44,4 +44,15 @@ compare() { # WHAT TOOK BESIDE WANTED
 compare_turns() { # WHAT WANTED
     pair=$(awk '{ print $1 / $2, $1, $2 }' | sort -n | sed -n "$(((turns + 1) / 2))p" | cut -d " " -f 2-)
     compare "$1" "${pair% *}" "${pair#* }" "$2"
+}
+
+# A main and so many subroutines, each the body of one of three examples in turn.
+programs() { # UNITS
+    awk -v n="$1" '
+        FNR == 1 { files++ }
+        { body[files] = body[files] $0 "\n" }
+        END {
+            print "k = 0\nend"
+            for (i = 1; i <= n; i++) printf "subroutine s%d\n%s", i, body[(i - 1) % files + 1]
+        }' "$here/examples/queens.r" "$here/examples/life.r" "$here/examples/calend.r"
 }
