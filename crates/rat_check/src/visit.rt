@@ -7,7 +7,7 @@ ghost use Rattle.rat_check.specs.PartViews.{survey_of};
 ghost use Rattle.rat_check.specs.Survey.{is_among, noting_all};
 
 use crate::{Around, Form, Survey};
-use f66_tree::Expr;
+use f66_tree::{Counting, Expr};
 use ground::Place;
 use rat_tree::{RatCase, RatKind, RatStmt};
 use std::alloc::AllocError;
@@ -50,12 +50,18 @@ fn visit<'a>(
             visit(body, &inside, survey)?;
             note_until(until, &*around, survey)
         }
-        RatKind::Do(name, first, last, step, body) => {
+        RatKind::Do(counting, body) => {
+            let Counting {
+                variable,
+                first,
+                last,
+                step,
+            } = &**counting;
             survey.note(
                 &*around,
                 label,
                 place,
-                Form::DoHead(name, first, last, step),
+                Form::DoHead(variable, first, last, step),
             )?;
             visit(body, &inside, survey)
         }

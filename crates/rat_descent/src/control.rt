@@ -1,6 +1,6 @@
 // Statements of Ratfor in memory, from their parts.
 
-ghost use Rattle.std.specs.Prelude.{◌≡◌, false, true, map};
+ghost use Rattle.std.specs.Prelude.{◌≡◌, false, true, map, IfOk};
 ghost use Rattle.f66_tree.specs.Syntax.{NoFormula};
 ghost use Rattle.f66_tree.specs.Views.{formula_of, formulas_of, declared_of};
 ghost use Rattle.rat_tree.specs.Syntax.{Block, Repeat, RepeatUntil, Do, Switch, AndClause};
@@ -11,11 +11,11 @@ ghost use Rattle.rat_parse_values.specs.Statements.{declares, labelled_value, le
 ghost use Rattle.rat_descent.specs.Statements.{stated, unlabelled, until_of, repeated_so};
 
 use crate::tokens::{is_next, type_at};
-use f66_tree::{Declared, Expr, Name, StmtKind};
+use f66_tree::{Counting, Declared, Expr, Name, StmtKind};
 use ground::{List, Place, Token};
 use rat_parse_values::Range;
 use rat_tree::{RatCase, RatKind, RatStmt};
-use std::alloc::Global;
+use std::alloc::{AllocError, Global};
 
 /// The statement with this label.
 pub fn marked(label: u32, place: Place, kind: RatKind) -> RatStmt
@@ -70,11 +70,23 @@ pub fn repeat(place: Place, body: Box<RatStmt>, until: Option<(Expr, Place)>) ->
     }
 }
 
-pub fn count(place: Place, variable: Name, range: Range, body: Box<RatStmt>) -> (Place, RatKind)
-    ensures { unlabelled result.0 result.1 ≡ command place (Do place variable (range_of range).first (range_of range).last (range_of range).step (command_seen body.value)) }
+pub fn count(
+    alloc: Global,
+    place: Place,
+    variable: Name,
+    range: Range,
+    body: Box<RatStmt>,
+) -> Result<(Place, RatKind), AllocError>
+    ensures { IfOk result (λ s. unlabelled s.0 s.1 ≡ command place (Do place variable (range_of range).first (range_of range).last (range_of range).step (command_seen body.value))) }
 {
     let Range { first, last, step } = range;
-    (place, RatKind::Do(variable, first, last, step, body))
+    let counting = Counting {
+        variable,
+        first,
+        last,
+        step,
+    };
+    Ok((place, RatKind::Do(Box::new(alloc, counting)?, body)))
 }
 
 pub fn switch_by(place: Place, test: Expr, list: List<RatCase>) -> (Place, RatKind)

@@ -358,7 +358,7 @@ fn do_loop(alloc: Global, reader: &mut Reader<'_>, room: usize) -> Result<(Place
     let range = do_range(reader)?;
     let body = statement(alloc, reader, room)?;
     close_production(reader, Production::DoStatement);
-    Ok(count(place, variable, range, body))
+    Ok(count(alloc, place, variable, range, body)?)
 }
 
 #[cycle(statement)]

@@ -1,11 +1,11 @@
 // The statements of FORTRAN that a statement of Ratfor becomes. Each statement is taken, and its parts are handed on.
-ghost use Rattle.std.specs.Prelude.{◌≡◌, ◌+◌, ◌≤◌, List, length, None, IfOk, OnOk, Bool, true, false};
+ghost use Rattle.std.specs.Prelude.{◌≡◌, ◌+◌, ◌≤◌, ◌∷◌, List, length, None, IfOk, OnOk, Bool, true, false};
 ghost use Rattle.f66_tree.specs.Views.{formula_of, lines_of, par_of};
 ghost use Rattle.rat_tree.specs.Syntax.{Do, Switch, For, RepeatUntil, If, IfElse};
 ghost use Rattle.rat_tree.specs.Views.{act_if_any, command, commands, clauses, formula_if_any};
 ghost use Rattle.rat_lower.specs.Around.{rings_of};
-ghost use Rattle.rat_lower.specs.Code.{all_labels, clause_labels, default_label, labels};
-ghost use Rattle.rat_lower.specs.Emitted.{AllEmitted, ClausesEmitted, Emitted, first_default, labels_past};
+ghost use Rattle.rat_lower.specs.Code.{all_labels, clause_labels, default_label, here, labels, with_test};
+ghost use Rattle.rat_lower.specs.Emitted.{Adds, AllEmitted, ClausesEmitted, Emitted, first_default, labels_past};
 
 use crate::{
     Around, Maker, append, put, put_act, put_back, put_break, put_cases, put_do, put_head,
@@ -71,13 +71,8 @@ fn emit(
                 Some((e, at)) => emit_until(maker, code, place, body, e, at, around),
             }
         }
-        RatKind::Do(variable, first, last, step, body) => {
-            let counting = Counting {
-                variable,
-                first,
-                last,
-                step,
-            };
+        RatKind::Do(counting, body) => {
+            let counting = Box::into_inner(counting);
             emit_do(maker, code, place, counting, Box::into_inner(body), around)
         }
         RatKind::Switch(e, list) => emit_switch(maker, code, place, e, list, around),
@@ -160,12 +155,33 @@ fn emit_loop(
     requires { maker.old.made + length maker.old.taken + (labels (command body) + 3) ≤ 77000 }
     ensures { OnOk result (Emitted (For place None (formula_if_any test) (act_if_any step) (command body)) (rings_of around.now) maker.old maker.new (lines_of code.old.items) (lines_of code.new.items)) }
 {
-    let (head, again, behind) = maker.three_labels()?;
-    put_head(maker.alloc(), code, place, head, test, behind)?;
+    let (head, again, behind) = begin_loop(maker, code, place, test)?;
     emit(maker, code, body, &Around::Loop(behind, again, &*around))?;
     put_turn(code, place, again, step)?;
     put_back(code, place, head, behind)?;
     Ok(())
+}
+
+/// The labels of a loop, of which the first is put with what is tested before each turn.
+fn begin_loop(
+    maker: &mut Maker,
+    code: &mut List<Stmt>,
+    place: Place,
+    test: Option<Expr>,
+) -> Result<(u32, u32, u32), Memory>
+    requires { maker.old.made + length maker.old.taken + 3 ≤ 77000 }
+    ensures first { IfOk result (λ labels. labels.0 ≡ labels_past maker.old.taken maker.old.made) }
+    ensures second { IfOk result (λ labels. labels.1 ≡ labels_past maker.old.taken (maker.old.made + 1)) }
+    ensures third { IfOk result (λ labels. labels.2 ≡ labels_past maker.old.taken (maker.old.made + 2)) }
+    ensures made { OnOk result (maker.new.made ≡ maker.old.made + 3) }
+    ensures taken { OnOk result (maker.new.taken ≡ maker.old.taken) }
+    ensures spare { OnOk result (maker.new.spare ≡ maker.old.spare) }
+    ensures own { OnOk result (maker.new.own ≡ maker.old.own) }
+    ensures head { IfOk result (λ labels. Adds (lines_of code.old.items) (lines_of code.new.items) (λ rest. here labels.0 place ∷ with_test place (formula_if_any test) labels.2 rest)) }
+{
+    let (head, again, behind) = maker.three_labels()?;
+    put_head(maker.alloc(), code, place, head, test, behind)?;
+    Ok((head, again, behind))
 }
 
 #[cycle(emit)]

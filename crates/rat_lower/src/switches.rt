@@ -29,7 +29,7 @@ fn has_switch(statement: &RatStmt) -> bool
         | RatKind::While(_, body)
         | RatKind::For(_, body)
         | RatKind::Repeat(body, _)
-        | RatKind::Do(_, _, _, _, body) => has_switch(body),
+        | RatKind::Do(_, body) => has_switch(body),
         RatKind::Switch(_, _) => true,
         RatKind::Empty
         | RatKind::Break(_)

@@ -38,7 +38,7 @@ abbrev mutual
   command_of l p (k.While' e q l1 p1 s) = labelled l p (While p (formula_of e) (command_of l1 p1 s))
   command_of l p (k.For' h q l1 p1 s) = labelled l p (For p (act_if_any h.value.first) (formula_if_any h.value.test) (act_if_any h.value.step) (command_of l1 p1 s))
   command_of l p (k.Repeat' q l1 p1 s o) = labelled l p (repeated p (command_of l1 p1 s) o)
-  command_of l p (k.Do' x a b c q l1 p1 s) = labelled l p (Do p x (par_of a) (par_of b) (par_of c) (command_of l1 p1 s))
+  command_of l p (k.Do' c q l1 p1 s) = labelled l p (Do p c.value.variable (par_of c.value.first) (par_of c.value.last) (par_of c.value.step) (command_of l1 p1 s))
   command_of l p (k.Switch' e shape all) = labelled l p (Switch p (formula_of e) (row_clauses all))
   command_of l p (k.Break n) = labelled l p (Break p n)
   command_of l p (k.Next n) = labelled l p (Next p n)

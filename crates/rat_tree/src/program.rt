@@ -1,6 +1,6 @@
 // Programs of Ratfor.
 
-use f66_tree::{Expr, Header, Name, Par, StmtKind};
+use f66_tree::{Counting, Expr, Header, StmtKind};
 use ground::{List, Place};
 
 /// A program (Kernighan, Ratfor: A Preprocessor for a Rational Fortran, 1975).
@@ -39,8 +39,8 @@ pub enum RatKind {
     For(Box<ForHead>, Box<RatStmt>),
     /// The body, and the condition of `until` with the place of that word.
     Repeat(Box<RatStmt>, Option<(Expr, Place)>),
-    /// The variable, the three parameters, and the body.
-    Do(Name, Par, Par, Par, Box<RatStmt>),
+    /// What it counts, which lies apart, so that other statements are small, and the body.
+    Do(Box<Counting>, Box<RatStmt>),
     Switch(Expr, List<RatCase>),
     /// How many loops are left.
     Break(u32),

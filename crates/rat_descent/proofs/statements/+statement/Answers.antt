@@ -132,7 +132,7 @@ pub do_loop-returns : goal.do_loop-returns
 do_loop-returns t c =
     let p = c.in_ok-place.field-0.now.place in
     let r = range_of c.in_ok-range.range in
-    as_value (ap (λ x. command p (Do p x r.first r.last r.step (command_seen c.in_ok-body.body.value))) (sym c.in_ok-variable.ensures) ∙ sym c.count.ensures)
+    as_value (ap (λ x. command p (Do p x r.first r.last r.step (command_seen c.in_ok-body.body.value))) (sym c.in_ok-variable.ensures) ∙ sym c.in_ok-count.ensures)
     (production productions.DoStatement refl refl c.open_production.ensures c.close_production.ensures (next c.in_ok-place.ensures (next c.in_ok-name_token.ensures
     (next c.in_ok-take_token.ensures (next c.in_ok-range.ensures (next c.in_ok-body.ensures done))))))
 
