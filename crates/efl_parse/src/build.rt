@@ -124,9 +124,9 @@ fn build_records(
     match production {
         Production::MoreWrite => more_by::<WriteItem>(alloc, parts),
         Production::NoMoreWrite => Ok(no_items::<WriteItem>(alloc)),
-        Production::ValueItem => records::value_item_by(parts),
-        Production::SkipWrite => records::skip_write_by(parts),
-        Production::CharsItem => records::chars_by(parts),
+        Production::ValueItem => records::value_item_by(alloc, parts),
+        Production::SkipWrite => records::skip_write_by(alloc, parts),
+        Production::CharsItem => records::chars_by(alloc, parts),
         Production::MoreRead => more_by::<ReadItem>(alloc, parts),
         Production::NoMoreRead => Ok(no_items::<ReadItem>(alloc)),
         Production::TakeItem => records::take_item_by(alloc, parts),

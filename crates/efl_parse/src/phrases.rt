@@ -140,11 +140,11 @@ fn build_declarations(
     ensures { IfOk result (λ v. value v ≡ declarations_built production (values parts.old.items)) }
 {
     match production {
-        Production::BaseDeclaration => Ok(declarations::base_by(alloc, parts)),
-        Production::StructDeclaration => Ok(declarations::struct_by(alloc, parts)),
+        Production::BaseDeclaration => declarations::base_by(alloc, parts),
+        Production::StructDeclaration => declarations::struct_by(alloc, parts),
         Production::InitialDeclaration => declarations::initial_by(alloc, parts),
-        Production::ShapeVariables => Ok(declarations::shape_variables_by(alloc, parts)),
-        Production::StructNamed => Ok(declarations::struct_named_by(alloc, parts)),
+        Production::ShapeVariables => declarations::shape_variables_by(alloc, parts),
+        Production::StructNamed => declarations::struct_named_by(alloc, parts),
         Production::StructVariables => Ok(declarations::struct_variables_by(alloc, parts)),
         Production::StructShape => Ok(declarations::struct_shape_by(alloc, parts)),
         Production::ShapeAndVariables => Ok(second_by(parts)),
@@ -154,7 +154,7 @@ fn build_declarations(
         Production::NoEnd | Production::Once => Ok(Value::Nothing),
         Production::MoreRange => more_by::<(u8, u8)>(alloc, parts),
         Production::NoMoreRange => Ok(no_items::<(u8, u8)>(alloc)),
-        Production::Preset => Ok(declarations::preset_by(alloc, parts)),
+        Production::Preset => declarations::preset_by(alloc, parts),
         Production::OneValue => declarations::one_value_by(alloc, parts),
         Production::ListedValues => declarations::listed_values_by(alloc, parts),
         Production::MorePreset => more_by::<EflPreset>(alloc, parts),

@@ -18,16 +18,18 @@ use efl_tree::{EflConst, EflDecl, EflDeclKind, EflGroup, EflName, EflPreset, Efl
 use ground::{List, Place};
 use std::alloc::{AllocError, Global};
 
-fn declaration_value(kind: EflDeclKind, place: Place) -> Value
-    ensures { value result ≡ declaration place (decl_kind_of kind) }
+fn declaration_value(alloc: Global, kind: EflDeclKind, place: Place) -> Result<Value, AllocError>
+    ensures { IfOk result (λ v. value v ≡ declaration place (decl_kind_of kind)) }
 {
-    Value::Declaration(DeclarationValue::Declaration(EflDecl { kind, place }))
+    let declaration = Box::new(alloc, EflDecl { kind, place })?;
+    Ok(Value::Declaration(DeclarationValue::Declaration(declaration)))
 }
 
-fn declared_value(kind: EflDeclKind) -> Value
-    ensures { value result ≡ declared (decl_kind_of kind) }
+fn declared_value(alloc: Global, kind: EflDeclKind) -> Result<Value, AllocError>
+    ensures { IfOk result (λ v. value v ≡ declared (decl_kind_of kind)) }
 {
-    Value::Declaration(DeclarationValue::Declared(kind))
+    let kind = Box::new(alloc, kind)?;
+    Ok(Value::Declaration(DeclarationValue::Declared(kind)))
 }
 
 /// Variables of a type, in no common area.
@@ -37,22 +39,22 @@ fn variables(kind: EflType, list: List<EflVar>) -> EflDeclKind
     EflDeclKind::Variables(None, kind, list)
 }
 
-pub fn base_by(alloc: Global, parts: &mut Vec<Value>) -> Value
-    ensures { value result ≡ declaration (place_in (at 2 (values parts.old.items))) (Variables None (type_in (at 2 (values parts.old.items))) (as_vars (at 1 (values parts.old.items)))) }
+pub fn base_by(alloc: Global, parts: &mut Vec<Value>) -> Result<Value, AllocError>
+    ensures { IfOk result (λ v. value v ≡ declaration (place_in (at 2 (values parts.old.items))) (Variables None (type_in (at 2 (values parts.old.items))) (as_vars (at 1 (values parts.old.items))))) }
 {
     skip(parts);
     let list = ordered::<EflVar>(alloc, pop_value(parts));
     let part = pop_value(parts);
     let place = place_of(&part);
-    declaration_value(variables(into_type(part), list), place)
+    declaration_value(alloc, variables(into_type(part), list), place)
 }
 
 /// What is declared behind `struct`.
-pub fn struct_by(alloc: Global, parts: &mut Vec<Value>) -> Value
-    ensures { value result ≡ declaration (place_in (at 1 (values parts.old.items))) (decl_in (at 0 (values parts.old.items))) }
+pub fn struct_by(alloc: Global, parts: &mut Vec<Value>) -> Result<Value, AllocError>
+    ensures { IfOk result (λ v. value v ≡ declaration (place_in (at 1 (values parts.old.items))) (decl_in (at 0 (values parts.old.items)))) }
 {
     let kind = into_decl(alloc, pop_value(parts));
-    declaration_value(kind, take_place(pop_value(parts)))
+    declaration_value(alloc, kind, take_place(pop_value(parts)))
 }
 
 pub fn initial_by(alloc: Global, parts: &mut Vec<Value>) -> Result<Value, AllocError>
@@ -61,17 +63,17 @@ pub fn initial_by(alloc: Global, parts: &mut Vec<Value>) -> Result<Value, AllocE
     skip(parts);
     let list = ordered::<EflPreset>(alloc, more_by::<EflPreset>(alloc, parts)?);
     let place = take_place(pop_value(parts));
-    Ok(declaration_value(EflDeclKind::Initial(list), place))
+    declaration_value(alloc, EflDeclKind::Initial(list), place)
 }
 
 /// Variables of a shape with no name.
-pub fn shape_variables_by(alloc: Global, parts: &mut Vec<Value>) -> Value
-    ensures { value result ≡ declared (Variables None (Shape None (as_groups (at 2 (values parts.old.items)))) (as_vars (at 1 (values parts.old.items)))) }
+pub fn shape_variables_by(alloc: Global, parts: &mut Vec<Value>) -> Result<Value, AllocError>
+    ensures { IfOk result (λ v. value v ≡ declared (Variables None (Shape None (as_groups (at 2 (values parts.old.items)))) (as_vars (at 1 (values parts.old.items))))) }
 {
     skip(parts);
     let list = ordered::<EflVar>(alloc, pop_value(parts));
     let groups = ordered::<EflGroup>(alloc, pop_value(parts));
-    declared_value(variables(shape(None, groups), list))
+    declared_value(alloc, variables(shape(None, groups), list))
 }
 
 fn outlined(name: EflName, groups: Option<List<EflGroup>>, list: List<EflVar>) -> EflDeclKind
@@ -94,13 +96,13 @@ fn with_groups(name: EflName, groups: List<EflGroup>, list: List<EflVar>) -> Efl
 }
 
 /// A structure's name, and what stands behind it.
-pub fn struct_named_by(alloc: Global, parts: &mut Vec<Value>) -> Value
-    ensures { value result ≡ declared (outlined_so (name_in (at 1 (values parts.old.items))) (outline_groups (at 0 (values parts.old.items))) (as_vars (at 0 (values parts.old.items)))) }
+pub fn struct_named_by(alloc: Global, parts: &mut Vec<Value>) -> Result<Value, AllocError>
+    ensures { IfOk result (λ v. value v ≡ declared (outlined_so (name_in (at 1 (values parts.old.items))) (outline_groups (at 0 (values parts.old.items))) (as_vars (at 0 (values parts.old.items))))) }
 {
     let (groups, mut list) = into_outline(alloc, pop_value(parts));
     list.reverse();
     let name = into_name(pop_value(parts));
-    declared_value(outlined(name, groups, list))
+    declared_value(alloc, outlined(name, groups, list))
 }
 
 pub fn struct_variables_by(alloc: Global, parts: &mut Vec<Value>) -> Value
@@ -136,18 +138,19 @@ pub fn range_by(parts: &mut Vec<Value>) -> Value
     Value::Count(CountValue::Range(letters(first, last)))
 }
 
-pub fn preset_by(alloc: Global, parts: &mut Vec<Value>) -> Value
-    ensures { value result ≡ preset (record { place = as_path (at 2 (values parts.old.items)); values = as_data (at 0 (values parts.old.items)); listed = is_listed (at 0 (values parts.old.items)) }) }
+pub fn preset_by(alloc: Global, parts: &mut Vec<Value>) -> Result<Value, AllocError>
+    ensures { IfOk result (λ v. value v ≡ preset (record { place = as_path (at 2 (values parts.old.items)); values = as_data (at 0 (values parts.old.items)); listed = is_listed (at 0 (values parts.old.items)) })) }
 {
     let (listed, mut values) = into_values(alloc, pop_value(parts));
     values.reverse();
     skip(parts);
     let place = into_path(alloc, pop_value(parts));
-    Value::Declaration(DeclarationValue::Preset(EflPreset {
+    let preset = EflPreset {
         place,
         values,
         listed,
-    }))
+    };
+    Ok(Value::Declaration(DeclarationValue::Preset(Box::new(alloc, preset)?)))
 }
 
 pub fn one_value_by(alloc: Global, parts: &mut Vec<Value>) -> Result<Value, AllocError>

@@ -6,10 +6,10 @@ ghost use Rattle.efl_parse_values.specs.Parts.{place_in, name_in, type_in, as_na
 ghost use Rattle.efl_parse_statements.specs.Statements.{made};
 
 use efl_parse_values::{
-    Item, Lists, ProcedureValue, Value, into_lists, into_name, into_type, ordered, place_of,
-    pop_value, skip, take_place,
+    Header, Item, Lists, ProcedureValue, Value, into_lists, into_name, into_type, ordered,
+    place_of, pop_value, skip, take_place,
 };
-use efl_tree::{EflDecl, EflName, EflProcedure, EflProgram, EflStmt, EflType};
+use efl_tree::{EflDecl, EflName, EflProcedure, EflProgram, EflStmt};
 use ground::{List, Place};
 use std::alloc::{AllocError, Global};
 
@@ -32,7 +32,13 @@ fn make(
     ensures { IfOk result (λ v. value v ≡ procedure_val (made (value header) (decls_of declarations.items) (stmts_of body.items) finish)) }
 {
     match header {
-        Value::Procedure(ProcedureValue::Header(place, result, name, mut formals)) => {
+        Value::Procedure(ProcedureValue::Header(header)) => {
+            let Header {
+                place,
+                result,
+                name,
+                mut formals,
+            } = Box::into_inner(header);
             formals.reverse();
             procedure_value(
                 alloc,
@@ -88,15 +94,10 @@ pub fn procedure_by(alloc: Global, parts: &mut Vec<Value>) -> Result<Value, Allo
     make(alloc, header, declarations, body, finish)
 }
 
-fn header(
-    place: Place,
-    kind: Option<EflType>,
-    name: Option<EflName>,
-    formals: Vec<EflName>,
-) -> Value
-    ensures { value result ≡ header_val place (type_if_any kind) name (reverse formals.items) }
+fn header_value(alloc: Global, header: Header) -> Result<Value, AllocError>
+    ensures { IfOk result (λ v. value v ≡ header_val header.place (type_if_any header.result) header.name (reverse header.formals.items)) }
 {
-    Value::Procedure(ProcedureValue::Header(place, kind, name, formals))
+    Ok(Value::Procedure(ProcedureValue::Header(Box::new(alloc, header)?)))
 }
 
 pub fn typed_header_by(alloc: Global, parts: &mut Vec<Value>) -> Result<Value, AllocError>
@@ -107,7 +108,17 @@ pub fn typed_header_by(alloc: Global, parts: &mut Vec<Value>) -> Result<Value, A
     skip(parts);
     let kind = pop_value(parts);
     let place = place_of(&kind);
-    Ok(header(place, Some(into_type(kind)), Some(name), formals))
+    let result = Some(into_type(kind));
+    let name = Some(name);
+    header_value(
+        alloc,
+        Header {
+            place,
+            result,
+            name,
+            formals,
+        },
+    )
 }
 
 fn into_heading(alloc: Global, part: Value) -> (Option<EflName>, Vec<EflName>)
@@ -125,7 +136,16 @@ pub fn plain_header_by(alloc: Global, parts: &mut Vec<Value>) -> Result<Value, A
 {
     let (name, formals) = into_heading(alloc, pop_value(parts));
     let place = take_place(pop_value(parts));
-    Ok(header(place, None, name, formals))
+    let result = None;
+    header_value(
+        alloc,
+        Header {
+            place,
+            result,
+            name,
+            formals,
+        },
+    )
 }
 
 pub fn named_heading_by(alloc: Global, parts: &mut Vec<Value>) -> Result<Value, AllocError>

@@ -41,10 +41,10 @@ pub fn read_by(alloc: Global, parts: &mut Vec<Value>) -> Result<Value, AllocErro
     stated(alloc, place, EflKind::Read(unit, items))
 }
 
-fn write_item(item: WriteItem) -> Value
-    ensures { value result ≡ write_item_val (write_item_of item) }
+fn write_item(alloc: Global, item: WriteItem) -> Result<Value, AllocError>
+    ensures { IfOk result (λ v. value v ≡ write_item_val (write_item_of item)) }
 {
-    Value::Record(RecordValue::WriteItem(item))
+    Ok(Value::Record(RecordValue::WriteItem(Box::new(alloc, item)?)))
 }
 
 fn read_item(item: ReadItem) -> Value
@@ -53,28 +53,28 @@ fn read_item(item: ReadItem) -> Value
     Value::Record(RecordValue::ReadItem(item))
 }
 
-pub fn value_item_by(parts: &mut Vec<Value>) -> Result<Value, AllocError>
+pub fn value_item_by(alloc: Global, parts: &mut Vec<Value>) -> Result<Value, AllocError>
     ensures { IfOk result (λ v. value v ≡ write_item_val (Edited (as_expr (at 2 (values parts.old.items))) (edit_in (at 0 (values parts.old.items))))) }
 {
     let edit = take_edit(pop_value(parts));
     skip(parts);
     let item = into_expr(pop_value(parts));
-    Ok(write_item(WriteItem::Value(item, edit)))
+    write_item(alloc, WriteItem::Value(item, edit))
 }
 
-pub fn skip_write_by(parts: &mut Vec<Value>) -> Result<Value, AllocError>
+pub fn skip_write_by(alloc: Global, parts: &mut Vec<Value>) -> Result<Value, AllocError>
     ensures { IfOk result (λ v. value v ≡ write_item_val (efl.WriteItem.Skip (integer_in (at 1 (values parts.old.items))))) }
 {
     skip(parts);
     let count = take_integer(pop_value(parts));
-    Ok(write_item(WriteItem::Skip(count)))
+    write_item(alloc, WriteItem::Skip(count))
 }
 
-pub fn chars_by(parts: &mut Vec<Value>) -> Result<Value, AllocError>
+pub fn chars_by(alloc: Global, parts: &mut Vec<Value>) -> Result<Value, AllocError>
     ensures { IfOk result (λ v. value v ≡ write_item_val (Chars (text_in (at 0 (values parts.old.items))))) }
 {
     let text = into_text(pop_value(parts));
-    Ok(write_item(WriteItem::Chars(text)))
+    write_item(alloc, WriteItem::Chars(text))
 }
 
 pub fn take_item_by(alloc: Global, parts: &mut Vec<Value>) -> Result<Value, AllocError>

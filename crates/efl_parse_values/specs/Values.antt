@@ -258,14 +258,14 @@ declaration_value (in_declaration.Constant c) = part.constant c
 declaration_value (in_declaration.Datum n c) = part.datum n c
 declaration_value (in_declaration.Data all) = part.data_list (reverse all.items)
 declaration_value (in_declaration.Values b all) = part.preset_values b (reverse all.items)
-declaration_value (in_declaration.Preset p) = part.preset (preset_of p)
+declaration_value (in_declaration.Preset p) = part.preset (preset_of p.value)
 declaration_value (in_declaration.Presets all) = part.presets (map preset_of (reverse all.items))
-declaration_value (in_declaration.Declared d) = part.declared (decl_kind_of d)
-declaration_value (in_declaration.Declaration d) = part.declaration d.place (decl_kind_of d.kind)
+declaration_value (in_declaration.Declared d) = part.declared (decl_kind_of d.value)
+declaration_value (in_declaration.Declaration d) = part.declaration d.value.place (decl_kind_of d.value.kind)
 
 abbrev pub record_value : RecordValue → RecordVal
 record_value (in_record.Edit f) = part.edit f
-record_value (in_record.WriteItem a) = part.write_item (write_item_of a)
+record_value (in_record.WriteItem a) = part.write_item (write_item_of a.value)
 record_value (in_record.WriteItems all) = part.write_items (map write_item_of (reverse all.items))
 record_value (in_record.ReadItem a) = part.read_item (read_item_of a)
 record_value (in_record.ReadItems all) = part.read_items (map read_item_of (reverse all.items))
@@ -280,7 +280,7 @@ statement_value (in_statement.Opening o) = part.opening (opening_of o.value)
 
 abbrev pub procedure_value : ProcedureValue → ProcedureVal
 procedure_value (in_procedure.Heading x all) = part.heading x (reverse all.items)
-procedure_value (in_procedure.Header p a x all) = part.header p (type_if_any a) x (reverse all.items)
+procedure_value (in_procedure.Header h) = part.header h.value.place (type_if_any h.value.result) h.value.name (reverse h.value.formals.items)
 procedure_value (in_procedure.Procedure a) = part.procedure (procedure_of a.value)
 procedure_value (in_procedure.Procedures all) = part.procedures (map procedure_of (reverse all.items))
 procedure_value (in_procedure.Program a) = part.program (program_of a)

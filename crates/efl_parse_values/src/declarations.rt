@@ -353,7 +353,7 @@ fn into_preset(alloc: Global, part: Value) -> EflPreset
     ensures { preset_of result ≡ preset_in (value part) }
 {
     match part {
-        Value::Declaration(DeclarationValue::Preset(preset)) => preset,
+        Value::Declaration(DeclarationValue::Preset(preset)) => Box::into_inner(preset),
         other => {
             drop(other);
             EflPreset {
@@ -369,8 +369,10 @@ pub fn into_decl(alloc: Global, part: Value) -> EflDeclKind
     ensures { decl_kind_of result ≡ decl_in (value part) }
 {
     match part {
-        Value::Declaration(DeclarationValue::Declared(kind)) => kind,
-        Value::Declaration(DeclarationValue::Declaration(declaration)) => declaration.kind,
+        Value::Declaration(DeclarationValue::Declared(kind)) => Box::into_inner(kind),
+        Value::Declaration(DeclarationValue::Declaration(declaration)) => {
+            Box::into_inner(declaration).kind
+        }
         other => {
             drop(other);
             EflDeclKind::Variables(None, EflType::Integer, Vec::new(alloc))

@@ -23,8 +23,8 @@ pub use lists::{Item, longer, more_by, no_items, ordered, pop_value, skip};
 pub use records::take_edit;
 pub use statements::{clause, into_lists, into_statement};
 pub use value::{
-    CountValue, DeclarationValue, ExpressionValue, Lists, Opening, ProcedureValue, RecordValue,
-    Rest, StatementValue, Tail, TypeValue, Value,
+    CountValue, DeclarationValue, ExpressionValue, Header, Lists, Opening, ProcedureValue,
+    RecordValue, Rest, StatementValue, Tail, TypeValue, Value,
 };
 pub use words::{
     NOWHERE, into_name, into_text, into_word, is_decrement, is_minus, is_word, operator_of,

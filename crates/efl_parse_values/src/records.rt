@@ -29,7 +29,7 @@ impl Item for WriteItem {
         ensures { (rest : List Written) → write_item_of result ∷ rest ≡ write_item_in (value part) ∷ rest }
     {
         match part {
-            Value::Record(RecordValue::WriteItem(item)) => item,
+            Value::Record(RecordValue::WriteItem(item)) => Box::into_inner(item),
             other => {
                 drop(other);
                 WriteItem::Skip(0)

@@ -72,17 +72,17 @@ pub enum DeclarationValue {
     Data(Vec<(u32, EflConst)>),
     /// The values of a preset, and whether they stand in parentheses.
     Values(bool, Vec<(u32, EflConst)>),
-    Preset(EflPreset),
+    Preset(Box<EflPreset>),
     Presets(Vec<EflPreset>),
-    Declared(EflDeclKind),
-    Declaration(EflDecl),
+    Declared(Box<EflDeclKind>),
+    Declaration(Box<EflDecl>),
 }
 
 /// What `read` and `write` list.
 #[derive(Drop)]
 pub enum RecordValue {
     Edit(EflEdit),
-    WriteItem(WriteItem),
+    WriteItem(Box<WriteItem>),
     WriteItems(Vec<WriteItem>),
     ReadItem(ReadItem),
     ReadItems(Vec<ReadItem>),
@@ -103,10 +103,19 @@ pub enum StatementValue {
 #[derive(Drop)]
 pub enum ProcedureValue {
     Heading(Option<EflName>, Vec<EflName>),
-    Header(Place, Option<EflType>, Option<EflName>, Vec<EflName>),
+    Header(Box<Header>),
     Procedure(Box<EflProcedure>),
     Procedures(Vec<EflProcedure>),
     Program(EflProgram),
+}
+
+/// What a procedure begins with: its place, the type of its result, its name, and its formals, the last first.
+#[derive(Drop)]
+pub struct Header {
+    pub place: Place,
+    pub result: Option<EflType>,
+    pub name: Option<EflName>,
+    pub formals: Vec<EflName>,
 }
 
 /// What stands behind a first name: arguments and steps in order, and what comes of them.

@@ -24,7 +24,7 @@ pub fn place_of(part: &Value) -> Place
         Value::Expression(ExpressionValue::Located(place, _)) => *place,
         Value::Type(TypeValue::Typed(place, _)) => *place,
         Value::Declaration(DeclarationValue::Declaration(declaration)) => declaration.place,
-        Value::Procedure(ProcedureValue::Header(place, _, _, _)) => *place,
+        Value::Procedure(ProcedureValue::Header(header)) => header.place,
         Value::Statement(StatementValue::Statement(statement)) => statement.place,
         _ => NOWHERE,
     }
